@@ -1,0 +1,92 @@
+-- A block: four runs of sixteen rounds are the hash computation of its schedule. Assumes nothing.
+use mathlib.Core.Path.{_≡_, refl, sym, ap, _∙_}
+use mathlib.Core.List.{List, [], _∷_, _++_, append-nil}
+use Prim.Native.Nat.{ℕ, zero, suc, _+_, _≤_, _<_}
+use native.Mathlib.Numerals.{add-one}
+use native.Mathlib.Omega.{arith}
+use lib.ListN.{length, getD, take, drop}
+use Rattle.hash.specs.Word.{words}
+use Rattle.hash.specs.Block.{K, rounds, schedule, sums, mixed, compressed}
+use Rattle.hash.specs.Message.{block, after}
+use Rattle.hash.specs.Rows.{Advanced, constants, nextSixteen, summedRounds, summedRuns, mixedSums}
+use Rattle.hash.proofs.BytesLaws.{words-pair}
+use Rattle.hash.proofs.RoundLaws.{runs, four-runs, summed, summed-rounds}
+use Rattle.hash.proofs.ScheduleLaws.{rowOf, row-length, schedule-rows}
+
+-- The four runs of a schedule whose rows follow each from the one before.
+pub scheduled : (v w : List ℕ) → length w ≡ 16 → sums v (runs 4 v (rowOf w)) ≡ mixed v (schedule w)
+unfolding mixed
+scheduled v w l = ap (sums v) (sym (rw (schedule-rows w l) (four-runs v (rowOf w) (row-length w 0 l) (row-length w 1 l) (row-length w 2 l))))
+
+pub compress-words-law : (v w : List ℕ) {v1 w1 v2 w2 v3 w3 v4 r : List ℕ} → length w ≡ 16
+    → Advanced 0 v w v1 w1
+    → Advanced 1 v1 w1 v2 w2
+    → Advanced 2 v2 w2 v3 w3
+    → v4 ≡ rounds 16 v3 (constants 3) w3
+    → r ≡ sums v v4
+    → r ≡ mixed v (schedule w)
+compress-words-law v w l a0 a1 a2 e f =
+    f ∙ rw (e, a2 .variables, a2 .schedule, a1 .variables, a1 .schedule, a0 .variables, a0 .schedule) (scheduled v w l)
+
+-- ---- a block whose sums are known
+
+-- A turn of the loop over the rows, and its end.
+pub mix-turn : (v : List ℕ) (s : List (List ℕ)) (i : ℕ) {u r : List ℕ}
+    → u ≡ summedRuns i v (λ (n : ℕ). getD s n [])
+    → r ≡ summedRounds u (getD s i [])
+    → r ≡ summedRuns (i + 1) v (λ (n : ℕ). getD s n [])
+mix-turn v s i e f = rw (add-one i) (f ∙ rw e)
+
+pub mix-end : (v : List ℕ) (s : List (List ℕ)) (i : ℕ) {u r : List ℕ} → i ≤ 4 → 4 ≤ i
+    → u ≡ summedRuns i v (λ (n : ℕ). getD s n [])
+    → r ≡ sums v u
+    → r ≡ mixedSums v s
+unfolding mixedSums
+mix-end v s i {u} h k e f = let four : i ≡ 4 = omega arith in f ∙ ap (sums v) (rw four at e)
+
+-- The sums of the constants and the words of a schedule, in four rows.
+pub record Sums (w : List ℕ) (s : List (List ℕ)) : Type 0 where
+  pub first : getD s 0 [] ≡ summed (constants 0) (rowOf w 0)
+  pub second : getD s 1 [] ≡ summed (constants 1) (rowOf w 1)
+  pub third : getD s 2 [] ≡ summed (constants 2) (rowOf w 2)
+  pub fourth : getD s 3 [] ≡ summed (constants 3) (rowOf w 3)
+
+run : (u w : List ℕ) (i : ℕ) → length (constants i) ≡ 16 → length w ≡ 16
+    → summedRounds u (summed (constants i) (rowOf w i)) ≡ rounds 16 u (constants i) (rowOf w i)
+run u w i lk l = summed-rounds u (constants i) (rowOf w i) lk (row-length w i l)
+
+pub known-sums : (v w : List ℕ) (s : List (List ℕ)) → length w ≡ 16 → Sums w s → mixedSums v s ≡ mixed v (schedule w)
+unfolding mixedSums
+known-sums v w s l k =
+    rw (k .first, k .second, k .third, k .fourth, run v w 0 refl l, run (runs 1 v (rowOf w)) w 1 refl l, run (runs 2 v (rowOf w)) w 2 refl l, run (runs 3 v (rowOf w)) w 3 refl l)
+    (scheduled v w l)
+
+-- ---- blocks one after another
+
+pub block-words-law : (b : List ℕ) (at : ℕ) {x y w : List ℕ} → x ≡ words 8 (drop at b) → y ≡ words 8 (drop (at + 32) b) → w ≡ x ++ y
+    → w ≡ words 16 (take 64 (drop at b))
+block-words-law b at e f g = g ∙ rw (e, f) (words-pair b at)
+
+-- Of the block w and the blocks of b after it: the words of number i, and the hash value before it.
+abbrev pub wordsOf : (w b : List ℕ) → ℕ → List ℕ
+wordsOf w b zero = w
+wordsOf w b (suc i) = words 16 (block i b)
+
+abbrev pub before : (v w b : List ℕ) → ℕ → List ℕ
+before v w b zero = v
+before v w b (suc i) = after (mixed v (schedule w)) i b
+
+pub blocks-turn : (v w b : List ℕ) (i : ℕ) {u x r : List ℕ} → u ≡ before v w b i → x ≡ wordsOf w b i → r ≡ mixed u (schedule x) → r ≡ before v w b (i + 1)
+unfolding after compressed
+blocks-turn v w b zero e f g = g ∙ rw (e, f)
+blocks-turn v w b (suc i) e f g = rw (add-one (suc i)) (g ∙ rw (e, f))
+
+pub blocks-words : (w b : List ℕ) (i : ℕ) {y : List ℕ} → y ≡ words 16 (block i b) → y ≡ wordsOf w b (i + 1)
+blocks-words w b i e = rw (add-one i) e
+
+pub blocks-end : (v w b : List ℕ) (i n : ℕ) {u : List ℕ} → i ≤ n + 1 → n < i → u ≡ before v w b i → u ≡ after (mixed v (schedule w)) n b
+blocks-end v w b i n {u} h k e = let one : i ≡ suc n = omega arith in rw one at e
+
+pub one-law : (v b c : List ℕ) {w r : List ℕ} → w ≡ words 16 b → r ≡ after (mixed v (schedule w)) 0 c → r ≡ compressed v b
+unfolding after compressed
+one-law v b c e f = f ∙ rw e

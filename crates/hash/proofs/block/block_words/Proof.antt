@@ -1,0 +1,24 @@
+use denote.Ref.{now}
+use Rattle.hash.proofs.BlockLaws.{block-words-law}
+use borrow.Author.Needs.{needs}
+use Rattle.hash.proofs.block.block_words.Statement.{statement}
+use Rattle.hash.proofs.block.block_words.Tie as tie
+
+load-requires : tie.Need-load-requires
+load-requires c κs = search needs
+
+add-load : tie.Need-add-load
+add-load c = search needs
+
+load-requires-2 : tie.Need-load-requires-2
+load-requires-2 c κs = search needs
+
+pair-requires : tie.Need-pair-requires
+pair-requires c κs = search needs
+
+returns : tie.Need-returns
+returns c = block-words-law (now (c .before .before .before .before .args .b)) (c .before .before .before .before .args .at) (c .before .before .load .ensures) (c .before .load2 .ensures) (c .pair .ensures)
+
+pub block-words-spec : {M : Type 1} → statement M
+block-words-spec =
+    tie.close (tie.spec load-requires add-load load-requires-2 pair-requires returns)

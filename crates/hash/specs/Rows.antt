@@ -1,0 +1,33 @@
+-- The schedule sixteen words at a time, as the code keeps it. Only private functions and `mix` cite this: no section of
+-- the standard is rendered here. Assumes nothing.
+use mathlib.Core.Path.{_≡_}
+use Prim.Native.Nat.{ℕ, zero, suc, _*_}
+use mathlib.Core.List.{List, []}
+use lib.ListN.{getD, take, drop, replicate}
+use Rattle.hash.specs.Block.{K, extended, rounds, sums}
+
+-- The sixteen words of a schedule that follow sixteen.
+unfoldable pub nextSixteen : List ℕ → List ℕ
+nextSixteen w = drop 16 (extended 16 w)
+
+-- The sixteen constants of the rounds from number 16 * i on.
+abbrev pub constants : ℕ → List ℕ
+constants i = take 16 (drop (16 * i) K)
+
+-- Sixteen rounds from number 16 * i on bring the variables v and the row w of the schedule to v′ and w′.
+pub record Advanced (i : ℕ) (v w v′ w′ : List ℕ) : Type 0 where
+  pub variables : v′ ≡ rounds 16 v (constants i) w
+  pub schedule : w′ ≡ nextSixteen w
+
+-- Sixteen rounds, given the sum of each one's constant and word.
+unfoldable pub summedRounds : List ℕ → List ℕ → List ℕ
+summedRounds v s = rounds 16 v s (replicate 16 0)
+
+-- i runs of sixteen rounds, with a row of sums for each.
+abbrev pub summedRuns : ℕ → List ℕ → (ℕ → List ℕ) → List ℕ
+summedRuns zero v s = v
+summedRuns (suc i) v s = summedRounds (summedRuns i v s) (s i)
+
+-- The hash value after the hash value v and a block whose sums are given in four rows.
+unfoldable pub mixedSums : List ℕ → List (List ℕ) → List ℕ
+mixedSums v s = sums v (summedRuns 4 v (λ (i : ℕ). getD s i []))

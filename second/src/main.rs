@@ -1,0 +1,60 @@
+//! The command line of the second program.
+
+#![forbid(unsafe_code)]
+
+use second::{hex, sha256::Sha256, vectors};
+use std::io::{self, ErrorKind, Read, Write};
+use std::process::ExitCode;
+
+const USAGE: &str = "\
+usage: second COMMAND
+  sha256-vectors   print the label and the digest of each test vector
+  sha256           print the digest of standard input";
+
+fn main() -> ExitCode {
+    let arguments: Vec<_> = std::env::args_os().skip(1).collect();
+    let command = match arguments.as_slice() {
+        [command] => command.to_str(),
+        _ => None,
+    };
+    let outcome = match command {
+        Some("sha256-vectors") => sha256_vectors(),
+        Some("sha256") => sha256_of_input(),
+        _ => {
+            eprintln!("{USAGE}");
+            return ExitCode::from(2);
+        }
+    };
+    match outcome {
+        Ok(()) => ExitCode::SUCCESS,
+        Err(error) => {
+            eprintln!("second: {error}");
+            ExitCode::FAILURE
+        }
+    }
+}
+
+fn sha256_vectors() -> io::Result<()> {
+    let mut output = io::stdout().lock();
+    for (label, digest) in vectors::sha256_vectors() {
+        writeln!(output, "{label} {}", hex::encode(&digest))?;
+    }
+    output.flush()
+}
+
+fn sha256_of_input() -> io::Result<()> {
+    let mut input = io::stdin().lock();
+    let mut buffer = [0; 1 << 16];
+    let mut hash = Sha256::new();
+    loop {
+        match input.read(&mut buffer) {
+            Ok(0) => break,
+            Ok(count) => hash.update(&buffer[..count]),
+            Err(error) if error.kind() == ErrorKind::Interrupted => {}
+            Err(error) => return Err(error),
+        }
+    }
+    let mut output = io::stdout().lock();
+    writeln!(output, "{}", hex::encode(&hash.finish()))?;
+    output.flush()
+}
