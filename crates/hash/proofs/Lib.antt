@@ -9,3 +9,5 @@ mod RoundLaws
 mod BlockLaws
 mod MessageLaws
 mod EndLaws
+pub mod Promise
+mod Examples

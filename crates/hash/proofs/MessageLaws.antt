@@ -6,7 +6,7 @@ use native.Mathlib.Nat.{zero-add, add-zero, add-suc, mul-comm, sub-zero, zero-su
 use native.Mathlib.Numerals.{add-one, add-two, add-three, add-four, add-five, add-six, add-seven}
 use native.Mathlib.Omega.{arith}
 use lib.ListN.{length, getD, take, drop, set, replicate, length-append, length-replicate, length-drop, take-append-drop, replicate-append-replicate}
-use lib.Seq.{sets, sets-eq, paste-suc, set-at, take-at, take-length, take-all, take-append-le, drop-append-le, drop-append-add, length-take-le}
+use lib.Seq.{sets, sets-eq, paste-suc, set-at, take-at, drop-at, take-length, take-all, take-append-le, drop-append-le, drop-append-add, length-take-le}
 use Rattle.hash.specs.Word.{be, words}
 use Rattle.hash.specs.Block.{schedule, mixed, compressed}
 use Rattle.hash.specs.Message.{gap, padded, after, finished}
@@ -36,7 +36,7 @@ after-take v n m h =
     let l : 64 * n ≤ length (take (64 * n) m) = rw (length-take-le (64 * n) m h) (omega arith) in
     ap (after v n) (sym e) ∙ after-front v n (take (64 * n) m) (drop (64 * n) m) l
 
-after-append : (v : List ℕ) (n k : ℕ) (m x : List ℕ) → length m ≡ 64 * n → after v (n + k) (m ++ x) ≡ after (after v n m) k x
+pub after-append : (v : List ℕ) (n k : ℕ) (m x : List ℕ) → length m ≡ 64 * n → after v (n + k) (m ++ x) ≡ after (after v n m) k x
 unfolding after
 after-append v n zero m x e = rw add-zero (after-front v n m x (omega arith))
 after-append v n (suc k) m x e =
@@ -78,25 +78,25 @@ padded-split tail n k e =
     let z : List ℕ = 0x80 ∷ (replicate (gap (length tail)) 0 ++ be 8 (8 * n % 2 ^ 64)) in
     rw e (ap (λ (l : List ℕ). l ++ z) (sym (take-append-drop k tail)) ∙ append-assoc (take k tail) (drop k tail) z)
 
-count-blocks : (l c g : ℕ) → 64 * c ≤ l → (l + g) / 64 ≡ c + (l - 64 * c + g) / 64
-count-blocks l c g h = omega arith
+-- Whole blocks in front of a message's last bytes may be taken in before the padding is looked at.
+pub finished-append : (v a b : List ℕ) (n count : ℕ) → length a ≡ 64 * count → finished (after v count a) b n ≡ finished v (a ++ b) n
+unfolding finished
+finished-append v a b n count e =
+    let same : gap (length (drop (64 * count) (a ++ b))) ≡ gap (length (a ++ b)) = simp (length-drop, length-append) (omega arith) in
+    let whole : padded (a ++ b) n ≡ a ++ padded b n =
+    padded-split (a ++ b) n (64 * count) same ∙ rw (take-at a b (64 * count) e, drop-at a b (64 * count) e) in
+    let all : length (padded (a ++ b) n) / 64 ≡ count + length (padded b n) / 64 = rw (whole, length-append a (padded b n), e) (omega arith) in
+    rw (all, whole) (sym (after-append v count (length (padded b n) / 64) a (padded b n) e))
 
--- Whole blocks of the last bytes may be taken in before the padding is looked at.
 pub finish-law : (v tail : List ℕ) (n count : ℕ) {u r : List ℕ} → count ≡ length tail / 64
     → u ≡ after v count tail
     → r ≡ finished u (drop (64 * count) tail) n
     → r ≡ finished v tail n
-unfolding finished
 finish-law v tail n count {u} {r} e f g =
     let h : 64 * count ≤ length tail = omega arith in
     let m : List ℕ = take (64 * count) tail in
-    let rest : List ℕ = drop (64 * count) tail in
-    let lm : length m ≡ 64 * count = length-take-le (64 * count) tail h in
-    let lr : length rest ≡ length tail - 64 * count = length-drop (64 * count) tail in
-    let same : gap (length rest) ≡ gap (length tail) = rw lr (omega arith) in
-    let count-all : length (padded tail n) / 64 ≡ count + length (padded rest n) / 64 = rw (padded-length tail n, padded-length rest n, same, lr) (count-blocks (length tail) count (1 + (gap (length tail) + 8)) h) in
     let start : u ≡ after v count m = f ∙ after-take v count tail h in
-    g ∙ rw (start, count-all, padded-split tail n (64 * count) same) (sym (after-append v count (length (padded rest n) / 64) m (padded rest n) lm))
+    g ∙ rw start (finished-append v m (drop (64 * count) tail) n count (length-take-le (64 * count) tail h) ∙ ap (λ (l : List ℕ). finished v l n) (take-append-drop (64 * count) tail))
 
 -- ---- the blocks that end a message
 

@@ -19,6 +19,9 @@ unfolding same
 same-refl [] = refl
 same-refl (x ∷ s) = rw (eq-eqb x x refl) (same-refl s)
 
+differ : false ≡ true → ⊥
+differ e = let z : _≡_ {A = ℕ} 0 1 = cc in omega arith
+
 never : (q : Bool) → both q false ≡ false
 never true = refl
 never false = refl
@@ -33,6 +36,17 @@ same-not (x ∷ s) (y ∷ t) d = go (ℕ-discrete x y) (λ n. same-not s t n)
     go : Dec (x ≡ y) → (s ≢ t → same s t ≡ false) → both (eqb x y) (same s t) ≡ false
     go (yes e) ih = rw (ih (λ f. d (rw (e, f)))) (never (eqb x y))
     go (no n) ih = rw (ne-eqb x y n)
+
+pub same-is : (s t : List ℕ) → same s t ≡ true → s ≡ t
+unfolding same
+same-is [] [] e = refl
+same-is [] (y ∷ t) e = absurd (differ e)
+same-is (x ∷ s) [] e = absurd (differ e)
+same-is (x ∷ s) (y ∷ t) e = go (ℕ-discrete x y) (λ f. same-is s t f)
+  where
+    go : Dec (x ≡ y) → (same s t ≡ true → s ≡ t) → x ∷ s ≡ y ∷ t
+    go (yes f) ih = rw (f, ih (rw (eq-eqb x y f) at e))
+    go (no n) ih = absurd (differ (rw (ne-eqb x y n) at e))
 
 -- Equal bytes, equal words.
 pub bytes-injective : (u v : List ℕ) → Words u → Words v → length u ≡ length v → bytesOf u ≡ bytesOf v → u ≡ v

@@ -299,8 +299,8 @@ fn sums(v: HashValue, u: HashValue) -> HashValue
 }
 
 // The hash value after a block whose sums of constants and words are known, sixteen a row.
-pub fn mix(v: HashValue, s: [[u32; 16]; 4]) -> HashValue
-    ensures { λ r. ⌜ r .words ≡ mixedSums (v .words) s ⌝ }
+pub fn mix(v: HashValue, s: &[[u32; 16]; 4]) -> HashValue
+    ensures { λ r. ⌜ r .words ≡ mixedSums (v .words) (now (s .entry)) ⌝ }
 {
     let mut u = v;
     let mut i: usize = 0;
@@ -366,7 +366,7 @@ pub fn compress(v: HashValue, b: &[u8], at: usize) -> HashValue
     requires { ⌜ at + 64 ≤ length (now b) ⌝ }
     ensures { λ r. ⌜ r .words ≡ compressed (v .words) (take 64 (drop at (now (b .entry)))) ⌝ }
 {
-    blocks(v, block_words(b, at), b, 0)
+    blocks(v, pair(load(b, at), load(b, at + 32)), b, 0)
 }
 
 // The hash value after the first n blocks of b.
@@ -377,5 +377,5 @@ pub fn compress_all(v: HashValue, b: &[u8], n: usize) -> HashValue
     if n == 0 {
         return v;
     }
-    blocks(v, block_words(b, 0), &b[64..], n - 1)
+    blocks(v, pair(load(b, 0), load(b, 32)), &b[64..], n - 1)
 }

@@ -79,7 +79,7 @@ pub fn finish(v: HashValue, tail: &[u8], n: u64) -> HashValue
     let u = compress_all(v, tail, count);
     if tail.len() == from {
         if n == 1024 {
-            return mix(u, END_OF_1024);
+            return mix(u, &END_OF_1024);
         }
     }
     pad(u, &tail[from..], n)

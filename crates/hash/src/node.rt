@@ -16,5 +16,5 @@ pub fn parent(left: HashValue, right: HashValue) -> HashValue
 {
     let none = [0u8; 1];
     let v = blocks(initial(), pair(left, right), &none, 0);
-    mix(v, END_OF_64)
+    mix(v, &END_OF_64)
 }

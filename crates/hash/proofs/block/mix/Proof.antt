@@ -3,6 +3,7 @@ use mathlib.Core.Path.{_≡_, refl}
 use mathlib.Core.List.{[]}
 use lib.ListN.{getD}
 use native.Mathlib.Omega.{arith}
+use denote.Ref.{now}
 use Rattle.hash.specs.Rows.{summedRuns}
 use Rattle.hash.proofs.BlockLaws.{mix-turn, mix-end}
 use borrow.Author.Needs.{needs}
@@ -21,8 +22,8 @@ loop-holds c = (omega arith, refl)
 mul-row : tie.Need-mul-row Inv-loop μ-loop
 mul-row c = search needs
 
-array-copy-out-row : tie.Need-array-copy-out-row Inv-loop μ-loop
-array-copy-out-row c = search needs
+element-copy-out-row : tie.Need-element-copy-out-row Inv-loop μ-loop
+element-copy-out-row c = search needs
 
 rounds-requires : tie.Need-rounds-requires Inv-loop μ-loop
 rounds-requires c κs = search needs
@@ -34,7 +35,7 @@ loop-less : tie.Need-loop-less Inv-loop μ-loop
 loop-less c = search needs
 
 loop-again : tie.Need-loop-again Inv-loop μ-loop
-loop-again c = (omega arith, mix-turn _ (c .before .before .before .before .args .t2) (c .before .before .before .loop .i) (c .before .before .before .loop .inv .1) (c .rounds .ensures))
+loop-again c = (omega arith, mix-turn _ (now (c .before .before .before .before .args .s)) (c .before .before .before .loop .i) (c .before .before .before .loop .inv .1) (c .rounds .ensures))
 
 sums-requires : tie.Need-sums-requires Inv-loop μ-loop
 sums-requires c κs = search needs
@@ -50,7 +51,7 @@ mix-spec =
     μ-loop
     loop-holds
     mul-row
-    array-copy-out-row
+    element-copy-out-row
     rounds-requires
     add-i
     loop-less

@@ -1,15 +1,15 @@
-use mathlib.Core.Path.{_≡_, refl, ap, _∙_}
-use Rattle.hash.proofs.MessageLaws.{finish-law, rest-is}
-use Prim.Native.Nat.{_/_, _*_}
+use Rattle.hash.proofs.EndLaws.{end-law}
+use borrow.Author.Needs.{needs}
 use native.Mathlib.Omega.{arith}
+use lib.ListN.{length, drop, length-drop}
 use Rattle.hash.specs.Rows.{nextSixteen}
 use Rattle.hash.specs.Message.{padded}
-use Rattle.hash.specs.Word.{_⊞_, σ0, σ1, word32, words}
-use borrow.Author.Needs.{needs}
-use lib.ListN.{length, drop, length-drop}
-use denote.Ref.{now}
-use Rattle.hash.proofs.EndLaws.{end-law}
 use Rattle.hash.specs.Block.{next, extended}
+use denote.Ref.{now}
+use Prim.Native.Nat.{_/_, _*_}
+use Rattle.hash.proofs.MessageLaws.{finish-law, rest-is}
+use Rattle.hash.specs.Word.{_⊞_, σ0, σ1, word32, words}
+use mathlib.Core.Path.{_≡_, refl, ap, _∙_}
 use Rattle.hash.proofs.message.finish.Statement.{statement}
 use Rattle.hash.proofs.message.finish.Tie as tie
 
@@ -24,7 +24,7 @@ mix-requires c κs = search needs
 
 returns : tie.Need-returns
 unfolding _⊞_ σ0 σ1 word32 words next extended nextSixteen padded
-returns c = finish-law _ (now (c .before .before .before .before .before .args .tail)) _ (length (now (c .before .before .before .before .before .args .tail)) / 64) refl (c .before .before .before .compress-all .ensures) (rw (c .before .if2 .taken) (end-law _ _ 1024 _ (simp length-drop (omega arith)) (record { first = refl; second = refl; third = refl; fourth = refl }) (c .mix .ensures)))
+returns c = finish-law _ (now (c .before .before .before .before .before .before .args .tail)) _ (length (now (c .before .before .before .before .before .before .args .tail)) / 64) refl (c .before .before .before .before .compress-all .ensures) (rw (c .before .before .if2 .taken) (end-law _ _ 1024 _ (simp length-drop (omega arith)) (record { first = refl; second = refl; third = refl; fourth = refl }) (c .mix .ensures)))
 
 sub-pad : tie.Need-sub-pad
 sub-pad c = search needs

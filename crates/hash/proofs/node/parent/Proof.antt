@@ -1,15 +1,15 @@
-use Prim.Native.Nat.{ℕ}
-use mathlib.Core.Path.{_≡_, refl}
-use mathlib.Core.List.{[], _∷_}
-use lib.ListN.{length, getD}
 use mir.Val.{Fits}
 use mir.Syntax.{w32}
-use Rattle.hash.specs.Word.{_⊞_, σ0, σ1, word32, words}
-use Rattle.hash.specs.Block.{next, extended}
+use mathlib.Core.List.{[], _∷_}
+use borrow.Author.Needs.{needs}
+use Prim.Native.Nat.{ℕ}
 use Rattle.hash.specs.Rows.{nextSixteen}
 use Rattle.hash.specs.Message.{padded}
+use Rattle.hash.specs.Block.{next, extended}
 use Rattle.hash.proofs.EndLaws.{parent-law}
-use borrow.Author.Needs.{needs}
+use lib.ListN.{length, getD}
+use mathlib.Core.Path.{_≡_, refl}
+use Rattle.hash.specs.Word.{_⊞_, σ0, σ1, word32, words}
 use Rattle.hash.proofs.node.parent.Statement.{statement}
 use Rattle.hash.proofs.node.parent.Tie as tie
 
@@ -36,7 +36,7 @@ fits c i = search needs
 
 returns : tie.Need-returns
 unfolding _⊞_ σ0 σ1 word32 words next extended nextSixteen padded
-returns c = parent-law (c .before .before .before .before .before .args .left .words) (c .before .before .before .before .before .args .right .words) _ (0 ∷ []) (λ i. fits (c .before .before .before .before .before) i .0 .fits) (λ i. fits (c .before .before .before .before .before) i .1 .fits) (long (c .before .before .before .before .before) .0) (long (c .before .before .before .before .before) .1) (record { first = refl; second = refl; third = refl; fourth = refl }) (c .before .before .before .before .initial .ensures) (c .before .before .before .pair .ensures) (c .before .blocks2 .ensures) (c .mix .ensures)
+returns c = parent-law (c .before .before .before .before .before .before .args .left .words) (c .before .before .before .before .before .before .args .right .words) _ (0 ∷ []) (λ i. fits (c .before .before .before .before .before .before) i .0 .fits) (λ i. fits (c .before .before .before .before .before .before) i .1 .fits) (long (c .before .before .before .before .before .before) .0) (long (c .before .before .before .before .before .before) .1) (record { first = refl; second = refl; third = refl; fourth = refl }) (c .before .before .before .before .before .initial .ensures) (c .before .before .before .before .pair .ensures) (c .before .before .blocks2 .ensures) (c .mix .ensures)
 
 pub parent-spec : {M : Type 1} → statement M
 parent-spec =
