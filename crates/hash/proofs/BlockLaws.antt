@@ -7,7 +7,6 @@ use native.Mathlib.Omega.{arith}
 use lib.ListN.{length, getD, take, drop}
 use Rattle.hash.specs.Word.{words}
 use Rattle.hash.specs.Block.{K, rounds, schedule, sums, mixed, compressed}
-use Rattle.hash.specs.Message.{block, after}
 use Rattle.hash.specs.Rows.{Advanced, constants, nextSixteen, summedRounds, summedRuns, mixedSums}
 use Rattle.hash.proofs.BytesLaws.{words-pair}
 use Rattle.hash.proofs.RoundLaws.{runs, four-runs, summed, summed-rounds}
@@ -61,32 +60,10 @@ known-sums v w s l k =
     rw (k .first, k .second, k .third, k .fourth, run v w 0 refl l, run (runs 1 v (rowOf w)) w 1 refl l, run (runs 2 v (rowOf w)) w 2 refl l, run (runs 3 v (rowOf w)) w 3 refl l)
     (scheduled v w l)
 
--- ---- blocks one after another
+-- ---- a block at a place
 
-pub block-words-law : (b : List ℕ) (at : ℕ) {x y w : List ℕ} → x ≡ words 8 (drop at b) → y ≡ words 8 (drop (at + 32) b) → w ≡ x ++ y
-    → w ≡ words 16 (take 64 (drop at b))
-block-words-law b at e f g = g ∙ rw (e, f) (words-pair b at)
-
--- Of the block w and the blocks of b after it: the words of number i, and the hash value before it.
-abbrev pub wordsOf : (w b : List ℕ) → ℕ → List ℕ
-wordsOf w b zero = w
-wordsOf w b (suc i) = words 16 (block i b)
-
-abbrev pub before : (v w b : List ℕ) → ℕ → List ℕ
-before v w b zero = v
-before v w b (suc i) = after (mixed v (schedule w)) i b
-
-pub blocks-turn : (v w b : List ℕ) (i : ℕ) {u x r : List ℕ} → u ≡ before v w b i → x ≡ wordsOf w b i → r ≡ mixed u (schedule x) → r ≡ before v w b (i + 1)
-unfolding after compressed
-blocks-turn v w b zero e f g = g ∙ rw (e, f)
-blocks-turn v w b (suc i) e f g = rw (add-one (suc i)) (g ∙ rw (e, f))
-
-pub blocks-words : (w b : List ℕ) (i : ℕ) {y : List ℕ} → y ≡ words 16 (block i b) → y ≡ wordsOf w b (i + 1)
-blocks-words w b i e = rw (add-one i) e
-
-pub blocks-end : (v w b : List ℕ) (i n : ℕ) {u : List ℕ} → i ≤ n + 1 → n < i → u ≡ before v w b i → u ≡ after (mixed v (schedule w)) n b
-blocks-end v w b i n {u} h k e = let one : i ≡ suc n = omega arith in rw one at e
-
-pub one-law : (v b c : List ℕ) {w r : List ℕ} → w ≡ words 16 b → r ≡ after (mixed v (schedule w)) 0 c → r ≡ compressed v b
-unfolding after compressed
-one-law v b c e f = f ∙ rw e
+pub block-law : (v b : List ℕ) (at : ℕ) {x y w r : List ℕ} → x ≡ words 8 (drop at b) → y ≡ words 8 (drop (at + 32) b) → w ≡ x ++ y
+    → r ≡ mixed v (schedule w)
+    → r ≡ compressed v (take 64 (drop at b))
+unfolding compressed
+block-law v b at e f g h = h ∙ ap (λ (u : List ℕ). mixed v (schedule u)) (rw (g, e, f) (words-pair b at))

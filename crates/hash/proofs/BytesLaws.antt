@@ -104,31 +104,35 @@ set-past (x ∷ p) z (suc n) i b l = rw suc-add (ap (λ (q : List ℕ). x ∷ q)
 set-here : (p z : List ℕ) (n b : ℕ) → length p ≡ n → set (p ++ z) n b ≡ p ++ set z 0 b
 set-here p z n b l = rw (add-zero n) at (set-past p z n 0 b l)
 
--- The bytes of i words, and zeros for the rest of 32 bytes.
-abbrev pub written : ℕ → List ℕ → List ℕ
-written i w = bytesOf (take i w) ++ replicate (32 - 4 * i) 0
+-- The bytes of the first i words of n, and zeros for the rest.
+abbrev pub written : ℕ → ℕ → List ℕ → List ℕ
+written n i w = bytesOf (take i w) ++ replicate (4 * n - 4 * i) 0
 
 written-more : (w : List ℕ) (i : ℕ) → i < length w → bytesOf (take (suc i) w) ≡ bytesOf (take i w) ++ be 4 (getD w i 0)
 written-more w i h = rw (take-suc w i 0 h, bytes-append (take i w) (getD w i 0 ∷ []))
 
-pub write-law : (w r : List ℕ) (i : ℕ) {b0 b1 b2 b3 : ℕ} → i < 8 → length w ≡ 8
-    → r ≡ written i w
+pub write-law : (n : ℕ) (w r : List ℕ) (i : ℕ) {b0 b1 b2 b3 : ℕ} → i < n → length w ≡ n
+    → r ≡ written n i w
     → b0 ≡ getD w i 0 / 2 ^ 24 % 2 ^ 8
     → b1 ≡ getD w i 0 / 2 ^ 16 % 2 ^ 8
     → b2 ≡ getD w i 0 / 2 ^ 8 % 2 ^ 8
     → b3 ≡ getD w i 0 / 2 ^ 0 % 2 ^ 8
-    → set (set (set (set r (4 * i) b0) (4 * i + 1) b1) (4 * i + 2) b2) (4 * i + 3) b3 ≡ written (i + 1) w
-write-law w r i h l e f0 f1 f2 f3 =
+    → set (set (set (set r (4 * i) b0) (4 * i + 1) b1) (4 * i + 2) b2) (4 * i + 3) b3 ≡ written n (i + 1) w
+write-law n w r i h l e f0 f1 f2 f3 =
     let p : List ℕ = bytesOf (take i w) in
     let k : length p ≡ 4 * i = length-bytes (take i w) ∙ ap (λ (n : ℕ). 4 * n) (length-take-le i w (omega arith)) in
-    let z : 32 - 4 * i ≡ suc (suc (suc (suc (32 - 4 * (i + 1))))) = omega arith in
+    let z : 4 * n - 4 * i ≡ suc (suc (suc (suc (4 * n - 4 * (i + 1))))) = omega arith in
     rw (e, z, f0, f1, f2, f3, set-here p _ (4 * i) _ k, set-past p _ (4 * i) 1 _ k, set-past p _ (4 * i) 2 _ k, set-past p _ (4 * i) 3 _ k, add-one i, written-more w i (omega arith))
     (sym (append-assoc p _ _))
 
-pub write-end : (w r : List ℕ) (i : ℕ) → i ≤ 8 → 8 ≤ i → length w ≡ 8 → r ≡ written i w → r ≡ bytesOf w
-write-end w r i h k l e =
-    let eight : i ≡ 8 = omega arith in
-    (rw eight at e) ∙ rw (← l, take-length w) (append-nil (bytesOf w))
+pub write-end : (n : ℕ) (w r : List ℕ) (i : ℕ) → i ≤ n → n ≤ i → length w ≡ n → r ≡ written n i w → r ≡ bytesOf w
+write-end n w r i h k l e =
+    let all : i ≡ length w = omega arith in
+    let none : 4 * n - 4 * length w ≡ 0 = omega arith in
+    (rw (all, take-length w, none) at e) ∙ append-nil (bytesOf w)
+
+pub write-pair : (u v w r : List ℕ) → w ≡ u ++ v → r ≡ bytesOf w → r ≡ bytesOf u ++ bytesOf v
+write-pair u v w r e f = f ∙ rw e (bytes-append u v)
 
 -- ---- each gives back the other
 

@@ -7,9 +7,9 @@ use native.Mathlib.Numerals.{add-one, add-two, add-three, add-four, add-five, ad
 use native.Mathlib.Omega.{arith}
 use lib.ListN.{length, getD, take, drop, set, replicate, length-append, length-replicate, length-drop, take-append-drop, replicate-append-replicate}
 use lib.Seq.{sets, sets-eq, paste-suc, set-at, take-at, drop-at, take-length, take-all, take-append-le, drop-append-le, drop-append-add, length-take-le}
-use Rattle.hash.specs.Word.{be, words}
-use Rattle.hash.specs.Block.{schedule, mixed, compressed}
-use Rattle.hash.specs.Message.{gap, padded, after, finished}
+use Rattle.hash.specs.Word.{be}
+use Rattle.hash.specs.Block.{compressed}
+use Rattle.hash.specs.Message.{gap, padded, block, after, finished}
 
 -- ---- blocks
 
@@ -17,9 +17,20 @@ use Rattle.hash.specs.Message.{gap, padded, after, finished}
 pub rest-is : (k : ℕ) (s : List ℕ) → take (length s - k) (drop k s) ≡ drop k s
 rest-is k s = take-all (length s - k) (drop k s) (rw (length-drop k s) (le-refl (length s - k)))
 
-pub after-nothing : (v m : List ℕ) (n : ℕ) → n ≡ 0 → v ≡ after v n m
+pub after-none : (v m : List ℕ) → v ≡ after v 0 m
 unfolding after
-after-nothing v m n e = rw e
+after-none v m = refl
+
+pub after-turn : (v : List ℕ) (i : ℕ) (m : List ℕ) {u r : List ℕ} → u ≡ after v i m → r ≡ compressed u (block i m) → r ≡ after v (i + 1) m
+unfolding after
+after-turn v i m e f = rw (add-one i, ← e) f
+
+pub after-end : (v : List ℕ) (i n : ℕ) (m : List ℕ) {u : List ℕ} → i ≤ n → n ≤ i → u ≡ after v i m → u ≡ after v n m
+after-end v i n m {u} h k e = let same : i ≡ n = omega arith in subst (λ (j : ℕ). u ≡ after v j m) same e
+
+pub after-one : (v b : List ℕ) (at : ℕ) {r : List ℕ} → r ≡ after v 1 (take (length b - at) (drop at b)) → r ≡ compressed v (take 64 (drop at b))
+unfolding after
+after-one v b at e = e ∙ rw (rest-is at b)
 
 -- n whole blocks are the message's, whatever follows it
 after-front : (v : List ℕ) (n : ℕ) (m x : List ℕ) → 64 * n ≤ length m → after v n (m ++ x) ≡ after v n m
@@ -42,21 +53,6 @@ after-append v n zero m x e = rw add-zero (after-front v n m x (omega arith))
 after-append v n (suc k) m x e =
     let p : 64 * (n + k) ≡ length m + 64 * k = omega arith in
     rw (add-suc, after-append v n k m x e, p, drop-append-add m x (64 * k))
-
-pub first-block : (v m : List ℕ) → length m ≡ 64 → mixed v (schedule (words 16 m)) ≡ after v 1 m
-unfolding after compressed
-first-block v m l = rw (take-all 64 m (omega arith))
-
--- The first block, and then the others.
-pub blocks-law : (v b : List ℕ) (n k : ℕ) {w r : List ℕ} → n ≡ suc k → 64 * n ≤ length b
-    → w ≡ words 16 (take 64 (drop 0 b))
-    → r ≡ after (mixed v (schedule w)) k (take (length b - 64) (drop 64 b))
-    → r ≡ after v n b
-blocks-law v b n k {w} {r} e h f g =
-    let m : List ℕ = take 64 b in
-    let l : length m ≡ 64 = length-take-le 64 b (omega arith) in
-    let n-is : n ≡ 1 + k = omega arith in
-    g ∙ rw (rest-is 64 b, f, first-block v m l, n-is) (sym (after-append v 1 k m (drop 64 b) l) ∙ ap (after v (1 + k)) (take-append-drop 64 b))
 
 -- ---- padding
 

@@ -1,15 +1,10 @@
 // The hash value after a block: FIPS 180-4, section 6.2.2.
 ghost use mathlib.Core.Path.{_≡_};
-ghost use Prim.Native.Nat.{_+_, _*_, _/_, _<_, _≤_};
+ghost use Prim.Native.Nat.{_+_, _*_, _≤_};
 ghost use lib.ListN.{length, take, drop};
-ghost use Rattle.hash.specs.Word.{words};
 ghost use Rattle.hash.specs.Block.{next, round, rounds, schedule, sums, mixed, compressed};
-ghost use Rattle.hash.specs.Message.{block, after};
+ghost use Rattle.hash.specs.Message.{after};
 ghost use Rattle.hash.specs.Rows.{constants, Advanced, summedRounds, mixedSums};
-use crate::constants::K0;
-use crate::constants::K1;
-use crate::constants::K2;
-use crate::constants::K3;
 use crate::value::HashValue;
 use crate::value::load;
 use crate::value::pair;
@@ -82,37 +77,37 @@ fn rounds_0_to_15(s: Working) -> Working
 {
     let v = s.variables;
     let w = s.schedule;
-    let v1 = round(v, K0[0], w[0]);
+    let v1 = round(v, 0x428a_2f98, w[0]);
     let w16 = next(w[14], w[9], w[1], w[0]);
-    let v2 = round(v1, K0[1], w[1]);
+    let v2 = round(v1, 0x7137_4491, w[1]);
     let w17 = next(w[15], w[10], w[2], w[1]);
-    let v3 = round(v2, K0[2], w[2]);
+    let v3 = round(v2, 0xb5c0_fbcf, w[2]);
     let w18 = next(w16, w[11], w[3], w[2]);
-    let v4 = round(v3, K0[3], w[3]);
+    let v4 = round(v3, 0xe9b5_dba5, w[3]);
     let w19 = next(w17, w[12], w[4], w[3]);
-    let v5 = round(v4, K0[4], w[4]);
+    let v5 = round(v4, 0x3956_c25b, w[4]);
     let w20 = next(w18, w[13], w[5], w[4]);
-    let v6 = round(v5, K0[5], w[5]);
+    let v6 = round(v5, 0x59f1_11f1, w[5]);
     let w21 = next(w19, w[14], w[6], w[5]);
-    let v7 = round(v6, K0[6], w[6]);
+    let v7 = round(v6, 0x923f_82a4, w[6]);
     let w22 = next(w20, w[15], w[7], w[6]);
-    let v8 = round(v7, K0[7], w[7]);
+    let v8 = round(v7, 0xab1c_5ed5, w[7]);
     let w23 = next(w21, w16, w[8], w[7]);
-    let v9 = round(v8, K0[8], w[8]);
+    let v9 = round(v8, 0xd807_aa98, w[8]);
     let w24 = next(w22, w17, w[9], w[8]);
-    let v10 = round(v9, K0[9], w[9]);
+    let v10 = round(v9, 0x1283_5b01, w[9]);
     let w25 = next(w23, w18, w[10], w[9]);
-    let v11 = round(v10, K0[10], w[10]);
+    let v11 = round(v10, 0x2431_85be, w[10]);
     let w26 = next(w24, w19, w[11], w[10]);
-    let v12 = round(v11, K0[11], w[11]);
+    let v12 = round(v11, 0x550c_7dc3, w[11]);
     let w27 = next(w25, w20, w[12], w[11]);
-    let v13 = round(v12, K0[12], w[12]);
+    let v13 = round(v12, 0x72be_5d74, w[12]);
     let w28 = next(w26, w21, w[13], w[12]);
-    let v14 = round(v13, K0[13], w[13]);
+    let v14 = round(v13, 0x80de_b1fe, w[13]);
     let w29 = next(w27, w22, w[14], w[13]);
-    let v15 = round(v14, K0[14], w[14]);
+    let v15 = round(v14, 0x9bdc_06a7, w[14]);
     let w30 = next(w28, w23, w[15], w[14]);
-    let v16 = round(v15, K0[15], w[15]);
+    let v16 = round(v15, 0xc19b_f174, w[15]);
     let w31 = next(w29, w24, w16, w[15]);
     Working {
         variables: v16,
@@ -142,37 +137,37 @@ fn rounds_16_to_31(s: Working) -> Working
 {
     let v = s.variables;
     let w = s.schedule;
-    let v1 = round(v, K1[0], w[0]);
+    let v1 = round(v, 0xe49b_69c1, w[0]);
     let w16 = next(w[14], w[9], w[1], w[0]);
-    let v2 = round(v1, K1[1], w[1]);
+    let v2 = round(v1, 0xefbe_4786, w[1]);
     let w17 = next(w[15], w[10], w[2], w[1]);
-    let v3 = round(v2, K1[2], w[2]);
+    let v3 = round(v2, 0x0fc1_9dc6, w[2]);
     let w18 = next(w16, w[11], w[3], w[2]);
-    let v4 = round(v3, K1[3], w[3]);
+    let v4 = round(v3, 0x240c_a1cc, w[3]);
     let w19 = next(w17, w[12], w[4], w[3]);
-    let v5 = round(v4, K1[4], w[4]);
+    let v5 = round(v4, 0x2de9_2c6f, w[4]);
     let w20 = next(w18, w[13], w[5], w[4]);
-    let v6 = round(v5, K1[5], w[5]);
+    let v6 = round(v5, 0x4a74_84aa, w[5]);
     let w21 = next(w19, w[14], w[6], w[5]);
-    let v7 = round(v6, K1[6], w[6]);
+    let v7 = round(v6, 0x5cb0_a9dc, w[6]);
     let w22 = next(w20, w[15], w[7], w[6]);
-    let v8 = round(v7, K1[7], w[7]);
+    let v8 = round(v7, 0x76f9_88da, w[7]);
     let w23 = next(w21, w16, w[8], w[7]);
-    let v9 = round(v8, K1[8], w[8]);
+    let v9 = round(v8, 0x983e_5152, w[8]);
     let w24 = next(w22, w17, w[9], w[8]);
-    let v10 = round(v9, K1[9], w[9]);
+    let v10 = round(v9, 0xa831_c66d, w[9]);
     let w25 = next(w23, w18, w[10], w[9]);
-    let v11 = round(v10, K1[10], w[10]);
+    let v11 = round(v10, 0xb003_27c8, w[10]);
     let w26 = next(w24, w19, w[11], w[10]);
-    let v12 = round(v11, K1[11], w[11]);
+    let v12 = round(v11, 0xbf59_7fc7, w[11]);
     let w27 = next(w25, w20, w[12], w[11]);
-    let v13 = round(v12, K1[12], w[12]);
+    let v13 = round(v12, 0xc6e0_0bf3, w[12]);
     let w28 = next(w26, w21, w[13], w[12]);
-    let v14 = round(v13, K1[13], w[13]);
+    let v14 = round(v13, 0xd5a7_9147, w[13]);
     let w29 = next(w27, w22, w[14], w[13]);
-    let v15 = round(v14, K1[14], w[14]);
+    let v15 = round(v14, 0x06ca_6351, w[14]);
     let w30 = next(w28, w23, w[15], w[14]);
-    let v16 = round(v15, K1[15], w[15]);
+    let v16 = round(v15, 0x1429_2967, w[15]);
     let w31 = next(w29, w24, w16, w[15]);
     Working {
         variables: v16,
@@ -202,37 +197,37 @@ fn rounds_32_to_47(s: Working) -> Working
 {
     let v = s.variables;
     let w = s.schedule;
-    let v1 = round(v, K2[0], w[0]);
+    let v1 = round(v, 0x27b7_0a85, w[0]);
     let w16 = next(w[14], w[9], w[1], w[0]);
-    let v2 = round(v1, K2[1], w[1]);
+    let v2 = round(v1, 0x2e1b_2138, w[1]);
     let w17 = next(w[15], w[10], w[2], w[1]);
-    let v3 = round(v2, K2[2], w[2]);
+    let v3 = round(v2, 0x4d2c_6dfc, w[2]);
     let w18 = next(w16, w[11], w[3], w[2]);
-    let v4 = round(v3, K2[3], w[3]);
+    let v4 = round(v3, 0x5338_0d13, w[3]);
     let w19 = next(w17, w[12], w[4], w[3]);
-    let v5 = round(v4, K2[4], w[4]);
+    let v5 = round(v4, 0x650a_7354, w[4]);
     let w20 = next(w18, w[13], w[5], w[4]);
-    let v6 = round(v5, K2[5], w[5]);
+    let v6 = round(v5, 0x766a_0abb, w[5]);
     let w21 = next(w19, w[14], w[6], w[5]);
-    let v7 = round(v6, K2[6], w[6]);
+    let v7 = round(v6, 0x81c2_c92e, w[6]);
     let w22 = next(w20, w[15], w[7], w[6]);
-    let v8 = round(v7, K2[7], w[7]);
+    let v8 = round(v7, 0x9272_2c85, w[7]);
     let w23 = next(w21, w16, w[8], w[7]);
-    let v9 = round(v8, K2[8], w[8]);
+    let v9 = round(v8, 0xa2bf_e8a1, w[8]);
     let w24 = next(w22, w17, w[9], w[8]);
-    let v10 = round(v9, K2[9], w[9]);
+    let v10 = round(v9, 0xa81a_664b, w[9]);
     let w25 = next(w23, w18, w[10], w[9]);
-    let v11 = round(v10, K2[10], w[10]);
+    let v11 = round(v10, 0xc24b_8b70, w[10]);
     let w26 = next(w24, w19, w[11], w[10]);
-    let v12 = round(v11, K2[11], w[11]);
+    let v12 = round(v11, 0xc76c_51a3, w[11]);
     let w27 = next(w25, w20, w[12], w[11]);
-    let v13 = round(v12, K2[12], w[12]);
+    let v13 = round(v12, 0xd192_e819, w[12]);
     let w28 = next(w26, w21, w[13], w[12]);
-    let v14 = round(v13, K2[13], w[13]);
+    let v14 = round(v13, 0xd699_0624, w[13]);
     let w29 = next(w27, w22, w[14], w[13]);
-    let v15 = round(v14, K2[14], w[14]);
+    let v15 = round(v14, 0xf40e_3585, w[14]);
     let w30 = next(w28, w23, w[15], w[14]);
-    let v16 = round(v15, K2[15], w[15]);
+    let v16 = round(v15, 0x106a_a070, w[15]);
     let w31 = next(w29, w24, w16, w[15]);
     Working {
         variables: v16,
@@ -262,22 +257,22 @@ fn rounds_48_to_63(s: Working) -> HashValue
 {
     let v = s.variables;
     let w = s.schedule;
-    let v1 = round(v, K3[0], w[0]);
-    let v2 = round(v1, K3[1], w[1]);
-    let v3 = round(v2, K3[2], w[2]);
-    let v4 = round(v3, K3[3], w[3]);
-    let v5 = round(v4, K3[4], w[4]);
-    let v6 = round(v5, K3[5], w[5]);
-    let v7 = round(v6, K3[6], w[6]);
-    let v8 = round(v7, K3[7], w[7]);
-    let v9 = round(v8, K3[8], w[8]);
-    let v10 = round(v9, K3[9], w[9]);
-    let v11 = round(v10, K3[10], w[10]);
-    let v12 = round(v11, K3[11], w[11]);
-    let v13 = round(v12, K3[12], w[12]);
-    let v14 = round(v13, K3[13], w[13]);
-    let v15 = round(v14, K3[14], w[14]);
-    round(v15, K3[15], w[15])
+    let v1 = round(v, 0x19a4_c116, w[0]);
+    let v2 = round(v1, 0x1e37_6c08, w[1]);
+    let v3 = round(v2, 0x2748_774c, w[2]);
+    let v4 = round(v3, 0x34b0_bcb5, w[3]);
+    let v5 = round(v4, 0x391c_0cb3, w[4]);
+    let v6 = round(v5, 0x4ed8_aa4a, w[5]);
+    let v7 = round(v6, 0x5b9c_ca4f, w[6]);
+    let v8 = round(v7, 0x682e_6ff3, w[7]);
+    let v9 = round(v8, 0x748f_82ee, w[8]);
+    let v10 = round(v9, 0x78a5_636f, w[9]);
+    let v11 = round(v10, 0x84c8_7814, w[10]);
+    let v12 = round(v11, 0x8cc7_0208, w[11]);
+    let v13 = round(v12, 0x90be_fffa, w[12]);
+    let v14 = round(v13, 0xa450_6ceb, w[13]);
+    let v15 = round(v14, 0xbef9_a3f7, w[14]);
+    round(v15, 0xc671_78f2, w[15])
 }
 
 // The sums of the words of two hash values.
@@ -325,37 +320,24 @@ fn compress_words(v: HashValue, w: [u32; 16]) -> HashValue
     sums(v, rounds_48_to_63(u))
 }
 
-// The sixteen words of the block at a place.
-fn block_words(b: &[u8], at: usize) -> [u32; 16]
+// The hash value after the block of 64 bytes at a place.
+fn block_at(v: HashValue, b: &[u8], at: usize) -> HashValue
     requires { ⌜ at + 64 ≤ length (now b) ⌝ }
-    ensures { λ r. ⌜ r ≡ words 16 (take 64 (drop at (now (b .entry)))) ⌝ }
+    ensures { λ r. ⌜ r .words ≡ compressed (v .words) (take 64 (drop at (now (b .entry)))) ⌝ }
 {
-    pair(load(b, at), load(b, at + 32))
+    compress_words(v, pair(load(b, at), load(b, at + 32)))
 }
 
-// The words of block number i of b, or w where b has no such block.
-fn words_or(b: &[u8], i: usize, w: [u32; 16]) -> [u32; 16]
-    ensures { λ r. ⌜ (i < length (now (b .entry)) / 64 → r ≡ words 16 (block i (now (b .entry)))) × (length (now (b .entry)) / 64 ≤ i → r ≡ w) ⌝ }
-{
-    if i < b.len() / 64 {
-        return block_words(b, 64 * i);
-    }
-    w
-}
-
-// The hash value after a block's sixteen words and then the first n blocks of b. All blocks go through the one call of
-// compress_words, which the compiler then places in this loop.
-pub fn blocks(v: HashValue, w: [u32; 16], b: &[u8], n: usize) -> HashValue
+// The hash value after the first n blocks of b. Every block goes through this one loop, in which the compiler places the
+// rounds.
+pub fn compress_all(v: HashValue, b: &[u8], n: usize) -> HashValue
     requires { ⌜ 64 * n ≤ length (now b) ⌝ }
-    ensures { λ r. ⌜ r .words ≡ after (mixed (v .words) (schedule w)) n (now (b .entry)) ⌝ }
+    ensures { λ r. ⌜ r .words ≡ after (v .words) n (now (b .entry)) ⌝ }
 {
     let mut u = v;
-    let mut x = w;
     let mut i: usize = 0;
-    while i <= n {
-        u = compress_words(u, x);
-        let y = words_or(b, i, x);
-        x = y;
+    while i < n {
+        u = block_at(u, b, 64 * i);
         i += 1;
     }
     u
@@ -366,16 +348,5 @@ pub fn compress(v: HashValue, b: &[u8], at: usize) -> HashValue
     requires { ⌜ at + 64 ≤ length (now b) ⌝ }
     ensures { λ r. ⌜ r .words ≡ compressed (v .words) (take 64 (drop at (now (b .entry)))) ⌝ }
 {
-    blocks(v, pair(load(b, at), load(b, at + 32)), b, 0)
-}
-
-// The hash value after the first n blocks of b.
-pub fn compress_all(v: HashValue, b: &[u8], n: usize) -> HashValue
-    requires { ⌜ 64 * n ≤ length (now b) ⌝ }
-    ensures { λ r. ⌜ r .words ≡ after (v .words) n (now (b .entry)) ⌝ }
-{
-    if n == 0 {
-        return v;
-    }
-    blocks(v, pair(load(b, 0), load(b, 32)), &b[64..], n - 1)
+    compress_all(v, &b[at..], 1)
 }

@@ -3,18 +3,18 @@ ghost use mathlib.Core.Path.{_≡_};
 ghost use mathlib.Core.List.{_++_};
 ghost use Rattle.hash.specs.Word.{bytesOf};
 ghost use Rattle.hash.specs.Sha256.{sha256};
-use crate::block::blocks;
+use crate::block::compress_all;
 use crate::block::mix;
 use crate::constants::END_OF_64;
 use crate::message::initial;
 use crate::value::HashValue;
-use crate::value::pair;
+use crate::value::pair_bytes;
 
 // SHA-256 of the 64 bytes left, right: one block, and one whose sums are known.
 pub fn parent(left: HashValue, right: HashValue) -> HashValue
     ensures { λ r. ⌜ bytesOf (r .words) ≡ sha256 (bytesOf (left .words) ++ bytesOf (right .words)) ⌝ }
 {
-    let none = [0u8; 1];
-    let v = blocks(initial(), pair(left, right), &none, 0);
+    let m = pair_bytes(left, right);
+    let v = compress_all(initial(), &m, 1);
     mix(v, &END_OF_64)
 }

@@ -72,7 +72,7 @@ pub fn bytes(v: HashValue) -> [u8; 32]
     b
 }
 
-// The sixteen words of two hash values: a block.
+// The sixteen words of two hash values.
 pub fn pair(left: HashValue, right: HashValue) -> [u32; 16]
     ensures { λ r. ⌜ r ≡ left .words ++ right .words ⌝ }
 {
@@ -94,6 +94,24 @@ pub fn pair(left: HashValue, right: HashValue) -> [u32; 16]
         right.words[6],
         right.words[7],
     ]
+}
+
+// The 64 bytes of two hash values, one after the other.
+pub fn pair_bytes(left: HashValue, right: HashValue) -> [u8; 64]
+    ensures { λ r. ⌜ r ≡ bytesOf (left .words) ++ bytesOf (right .words) ⌝ }
+{
+    let w = pair(left, right);
+    let mut b = [0u8; 64];
+    let mut i: usize = 0;
+    while i < 16 {
+        let x = w[i];
+        b[4 * i] = part(x, 24);
+        b[4 * i + 1] = part(x, 16);
+        b[4 * i + 2] = part(x, 8);
+        b[4 * i + 3] = part(x, 0);
+        i += 1;
+    }
+    b
 }
 
 // Whether two hash values are the same.

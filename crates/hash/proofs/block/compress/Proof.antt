@@ -1,28 +1,30 @@
 use denote.Ref.{now}
-use Rattle.hash.proofs.BlockLaws.{block-words-law, one-law}
+use Rattle.hash.proofs.MessageLaws.{after-one}
 use borrow.Author.Needs.{needs}
 use Rattle.hash.proofs.block.compress.Statement.{statement}
 use Rattle.hash.proofs.block.compress.Tie as tie
 
-load-requires : tie.Need-load-requires
-load-requires c κs = search needs
+sub-compress-all : tie.Need-sub-compress-all
+sub-compress-all c = search needs
 
-add-load : tie.Need-add-load
-add-load c = search needs
+part-compress-all-start : tie.Need-part-compress-all-start
+part-compress-all-start c = search needs
 
-load-requires-2 : tie.Need-load-requires-2
-load-requires-2 c κs = search needs
+part-compress-all-end : tie.Need-part-compress-all-end
+part-compress-all-end c = search needs
 
-pair-requires : tie.Need-pair-requires
-pair-requires c κs = search needs
-
-blocks-requires : tie.Need-blocks-requires
-blocks-requires c κs = search needs
+compress-all-requires : tie.Need-compress-all-requires
+compress-all-requires c κs = search needs
 
 returns : tie.Need-returns
-returns c = one-law _ _ (now (c .before .before .before .before .before .args .b)) (block-words-law (now (c .before .before .before .before .before .args .b)) (c .before .before .before .before .before .args .at) (c .before .before .before .load .ensures) (c .before .before .load2 .ensures) (c .before .pair .ensures)) (c .blocks2 .ensures)
+returns c = after-one _ (now (c .before .before .before .args .b)) (c .before .before .before .args .at) (c .compress-all .ensures)
 
 pub compress-spec : {M : Type 1} → statement M
 compress-spec =
     tie.close
-    (tie.spec load-requires add-load load-requires-2 pair-requires blocks-requires returns)
+    (tie.spec
+    sub-compress-all
+    part-compress-all-start
+    part-compress-all-end
+    compress-all-requires
+    returns)

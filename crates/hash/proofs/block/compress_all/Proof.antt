@@ -1,54 +1,49 @@
-use mathlib.Core.Path.{_≡_, refl}
-use Prim.Native.Nat.{_-_}
+use Prim.Native.Nat.{_≤_, _-_}
+use mathlib.Core.Path.{_≡_}
 use native.Mathlib.Omega.{arith}
-use denote.Ref.{now}
-use Rattle.hash.proofs.BlockLaws.{block-words-law}
-use Rattle.hash.proofs.MessageLaws.{after-nothing, blocks-law}
+use Rattle.hash.specs.Message.{after}
+use Rattle.hash.proofs.MessageLaws.{after-none, after-turn, after-end}
 use borrow.Author.Needs.{needs}
 use Rattle.hash.proofs.block.compress_all.Statement.{statement}
 use Rattle.hash.proofs.block.compress_all.Tie as tie
 
-returns : tie.Need-returns
-returns c = after-nothing _ (now (c .before .before .args .b)) (c .before .before .args .n) (c .if1 .taken)
+abbrev Inv-loop : tie.InvT-loop
+Inv-loop b n u₀ i₀ u i = (i ≤ n) × (u .words ≡ after (u₀ .words) i b)
 
-load-requires : tie.Need-load-requires
-load-requires c κs = search needs
+abbrev μ-loop : tie.MeasureT-loop
+μ-loop b n u₀ i₀ u i = n - i
 
-load-requires-2 : tie.Need-load-requires-2
-load-requires-2 c κs = search needs
+loop-holds : tie.Need-loop-holds Inv-loop μ-loop
+loop-holds c = (omega arith, after-none _ _)
 
-pair-requires : tie.Need-pair-requires
-pair-requires c κs = search needs
+mul-block-at : tie.Need-mul-block-at Inv-loop μ-loop
+mul-block-at c = search needs
 
-sub-blocks : tie.Need-sub-blocks
-sub-blocks c = search needs
+block-at-requires : tie.Need-block-at-requires Inv-loop μ-loop
+block-at-requires c κs = search needs
 
-part-blocks-start : tie.Need-part-blocks-start
-part-blocks-start c = search needs
+add-i : tie.Need-add-i Inv-loop μ-loop
+add-i c = search needs
 
-part-blocks-end : tie.Need-part-blocks-end
-part-blocks-end c = search needs
+loop-less : tie.Need-loop-less Inv-loop μ-loop
+loop-less c = search needs
 
-sub-blocks-2 : tie.Need-sub-blocks-2
-sub-blocks-2 c = search needs
+loop-again : tie.Need-loop-again Inv-loop μ-loop
+loop-again c = (omega arith, after-turn _ _ _ (c .before .before .loop .inv .1) (c .block-at .ensures))
 
-blocks-requires : tie.Need-blocks-requires
-blocks-requires c κs = search needs
-
-returns-2 : tie.Need-returns-2
-returns-2 c = blocks-law _ (now (c .before .before .before .before .before .before .before .args .b)) (c .before .before .before .before .before .before .before .args .n) (c .before .before .before .before .before .before .before .args .n - 1) (omega arith) (search needs) (block-words-law (now (c .before .before .before .before .before .before .before .args .b)) 0 (c .before .before .before .before .load .ensures) (c .before .before .before .load2 .ensures) (c .before .before .pair .ensures)) (c .blocks2 .ensures)
+returns : tie.Need-returns Inv-loop μ-loop
+returns c = after-end _ _ _ _ (c .before .loop .inv .0) (search needs) (c .before .loop .inv .1)
 
 pub compress-all-spec : {M : Type 1} → statement M
 compress-all-spec =
     tie.close
     (tie.spec
-    returns
-    load-requires
-    load-requires-2
-    pair-requires
-    sub-blocks
-    part-blocks-start
-    part-blocks-end
-    sub-blocks-2
-    blocks-requires
-    returns-2)
+    Inv-loop
+    μ-loop
+    loop-holds
+    mul-block-at
+    block-at-requires
+    add-i
+    loop-less
+    loop-again
+    returns)

@@ -8,7 +8,7 @@ use Rattle.hash.proofs.value.bytes.Statement.{statement}
 use Rattle.hash.proofs.value.bytes.Tie as tie
 
 abbrev Inv-loop : tie.InvT-loop
-Inv-loop v b₀ i₀ b i = (i ≤ 8) × (b ≡ written i (v .words))
+Inv-loop v b₀ i₀ b i = (i ≤ 8) × (b ≡ written 8 i (v .words))
 
 abbrev μ-loop : tie.MeasureT-loop
 μ-loop v b₀ i₀ b i = 8 - i
@@ -77,10 +77,10 @@ loop-less : tie.Need-loop-less Inv-loop μ-loop
 loop-less c = search needs
 
 loop-again : tie.Need-loop-again Inv-loop μ-loop
-loop-again c = (omega arith, write-law (c .before .before .before .before .before .before .before .args .t1 .words) _ (c .before .before .before .before .before .before .loop .i) (search needs) (long (c .before .before .before .before .before .before .before)) (c .before .before .before .before .before .before .loop .inv .1) (c .before .before .before .part .ensures) (c .before .before .part2 .ensures) (c .before .part3 .ensures) (c .part4 .ensures))
+loop-again c = (omega arith, write-law 8 (c .before .before .before .before .before .before .before .args .t1 .words) _ (c .before .before .before .before .before .before .loop .i) (search needs) (long (c .before .before .before .before .before .before .before)) (c .before .before .before .before .before .before .loop .inv .1) (c .before .before .before .part .ensures) (c .before .before .part2 .ensures) (c .before .part3 .ensures) (c .part4 .ensures))
 
 returns : tie.Need-returns Inv-loop μ-loop
-returns c = write-end (c .before .before .args .t1 .words) _ (c .before .loop .i) (c .before .loop .inv .0) (search needs) (long (c .before .before)) (c .before .loop .inv .1)
+returns c = write-end 8 (c .before .before .args .t1 .words) _ (c .before .loop .i) (c .before .loop .inv .0) (search needs) (long (c .before .before)) (c .before .loop .inv .1)
 
 pub bytes-spec : {M : Type 1} → statement M
 bytes-spec =
