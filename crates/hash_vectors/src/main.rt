@@ -1,5 +1,6 @@
 // Writes a line, a label and a digest, for each of FIPS 180-4's published messages and for the lengths around the
 // padding's borders.
+ghost use Prim.Native.Nat.{_≤_};
 use hash::value::HashValue;
 use libc::STDOUT_FILENO;
 
@@ -62,18 +63,25 @@ fn published() {
     write_line(b"million-a", million());
 }
 
+// The line of the bytes 0, 1, 2 and so on, n of them.
+fn write_length(label: &[u8], n: usize)
+    requires { ⌜ n ≤ 1024 ⌝ }
+{
+    let m = counting();
+    write_line(label, hash::message::sha256(&m[..n]));
+}
+
 fn main() {
     published();
-    let m = counting();
-    write_line(b"length-55", hash::message::sha256(&m[..55]));
-    write_line(b"length-56", hash::message::sha256(&m[..56]));
-    write_line(b"length-63", hash::message::sha256(&m[..63]));
-    write_line(b"length-64", hash::message::sha256(&m[..64]));
-    write_line(b"length-65", hash::message::sha256(&m[..65]));
-    write_line(b"length-119", hash::message::sha256(&m[..119]));
-    write_line(b"length-120", hash::message::sha256(&m[..120]));
-    write_line(b"length-127", hash::message::sha256(&m[..127]));
-    write_line(b"length-128", hash::message::sha256(&m[..128]));
-    write_line(b"length-1023", hash::message::sha256(&m[..1023]));
-    write_line(b"length-1024", hash::message::sha256(&m));
+    write_length(b"length-55", 55);
+    write_length(b"length-56", 56);
+    write_length(b"length-63", 63);
+    write_length(b"length-64", 64);
+    write_length(b"length-65", 65);
+    write_length(b"length-119", 119);
+    write_length(b"length-120", 120);
+    write_length(b"length-127", 127);
+    write_length(b"length-128", 128);
+    write_length(b"length-1023", 1023);
+    write_length(b"length-1024", 1024);
 }
