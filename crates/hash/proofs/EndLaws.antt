@@ -2,7 +2,7 @@
 -- beforehand. Assumes nothing.
 use mathlib.Core.Path.{_≡_, refl, sym, ap, _∙_}
 use mathlib.Core.List.{List, [], _∷_, _++_}
-use Prim.Native.Nat.{ℕ}
+use Prim.Native.Nat.{ℕ, _/_}
 use native.Mathlib.Omega.{arith}
 use lib.ListN.{length, getD, take, drop, length-append, drop-of-length-le}
 use Rattle.hash.specs.Word.{words, bytesOf}
@@ -32,13 +32,13 @@ pub parent-law : (left right m : List ℕ) (s : List (List ℕ)) {h v r : List �
     → Sums (endWords 64) s
     → m ≡ bytesOf left ++ bytesOf right
     → h ≡ H0
-    → v ≡ after h 1 m
+    → v ≡ after h (length m / 64) m
     → r ≡ mixedSums v s
     → bytesOf r ≡ sha256 (bytesOf left ++ bytesOf right)
 unfolding hashed
 parent-law left right m s {h} {v} {r} ll lr k e f g i =
     let lm : length m ≡ 64 = rw (e, length-append (bytesOf left) (bytesOf right), length-bytes left, length-bytes right, ll, lr) in
-    let first : v ≡ after H0 1 m = g ∙ rw f in
+    let first : v ≡ after H0 1 m = g ∙ rw (f, lm) in
     let rest : length (drop 64 m) ≡ 0 = rw (drop-of-length-le m {i = 64} (omega arith)) in
     let last : r ≡ finished v (drop 64 m) 64 = end-law v (drop 64 m) 64 s rest k i in
     let whole : r ≡ hashed m = finish-law H0 m 64 1 (rw lm) first last ∙ rw lm in

@@ -6,7 +6,7 @@ use native.Mathlib.Nat.{zero-add, add-zero, add-suc, mul-comm, sub-zero, zero-su
 use native.Mathlib.Numerals.{add-one, add-two, add-three, add-four, add-five, add-six, add-seven}
 use native.Mathlib.Omega.{arith}
 use lib.ListN.{length, getD, take, drop, set, replicate, length-append, length-replicate, length-drop, take-append-drop, replicate-append-replicate}
-use lib.Seq.{sets, sets-eq, paste-suc, set-at, take-at, drop-at, take-length, take-all, take-append-le, drop-append-le, drop-append-add, length-take-le}
+use lib.Seq.{sets, sets-eq, paste-suc, set-at, take-at, drop-at, take-length, take-all, take-append-le, drop-append-le, drop-append-add, length-take-le, take-take}
 use Rattle.hash.specs.Word.{be}
 use Rattle.hash.specs.Block.{compressed}
 use Rattle.hash.specs.Message.{gap, padded, block, after, finished}
@@ -28,9 +28,15 @@ after-turn v i m e f = rw (add-one i, ← e) f
 pub after-end : (v : List ℕ) (i n : ℕ) (m : List ℕ) {u : List ℕ} → i ≤ n → n ≤ i → u ≡ after v i m → u ≡ after v n m
 after-end v i n m {u} h k e = let same : i ≡ n = omega arith in subst (λ (j : ℕ). u ≡ after v j m) same e
 
-pub after-one : (v b : List ℕ) (at : ℕ) {r : List ℕ} → r ≡ after v 1 (take (length b - at) (drop at b)) → r ≡ compressed v (take 64 (drop at b))
+-- The whole blocks of a part of 64 bytes.
+pub part-law : (v b : List ℕ) (at : ℕ) {r : List ℕ} → at + 64 ≤ length b
+    → r ≡ after v (length (take (at + 64 - at) (drop at b)) / 64) (take (at + 64 - at) (drop at b))
+    → r ≡ compressed v (take 64 (drop at b))
 unfolding after
-after-one v b at e = e ∙ rw (rest-is at b)
+part-law v b at h e =
+    let k : at + 64 - at ≡ 64 = omega arith in
+    let l : length (take 64 (drop at b)) ≡ 64 = length-take-le 64 (drop at b) (rw (length-drop at b) (omega arith)) in
+    e ∙ rw (k, l) (ap (compressed v) (take-take 64 64 (drop at b) (le-refl 64)))
 
 -- n whole blocks are the message's, whatever follows it
 after-front : (v : List ℕ) (n : ℕ) (m x : List ℕ) → 64 * n ≤ length m → after v n (m ++ x) ≡ after v n m
@@ -115,7 +121,7 @@ stored tail vs b e z y w lv le ly f =
 pub pad-law : (v tail : List ℕ) (n : ℕ) {a b r : List ℕ} → length tail < 64 → length b ≡ 128
     → a ≡ tail ++ (0x80 ∷ replicate (127 - length tail) 0)
     → b ≡ sets a (64 * ((length tail + 72) / 64) - 8) (be 8 (n * 2 ^ 3 % 2 ^ 64))
-    → r ≡ after v ((length tail + 72) / 64) b
+    → r ≡ after v (length (take (64 * ((length tail + 72) / 64)) b) / 64) (take (64 * ((length tail + 72) / 64)) b)
     → r ≡ finished v tail n
 unfolding finished padded
 pad-law v tail n {a} {b} {r} h lb ea eb er =
@@ -124,8 +130,7 @@ pad-law v tail n {a} {b} {r} h lb ea eb er =
     let end : e + 8 ≡ 64 * count = omega arith in
     let front : take (64 * count) b ≡ padded tail n =
     rw (← end) (stored tail (be 8 (n * 2 ^ 3 % 2 ^ 64)) b e (gap (length tail)) (127 - length tail) (128 - 64 * count) refl (omega arith) (omega arith) (rw ea at eb) ∙ rw (mul-comm n 8)) in
-    let all : length (padded tail n) / 64 ≡ count = rw (padded-length tail n) (omega arith) in
-    er ∙ after-take v count b (omega arith) ∙ rw (front, all)
+    er ∙ rw front
 
 -- ---- the buffer
 

@@ -1,6 +1,6 @@
 // The hash value after a block: FIPS 180-4, section 6.2.2.
 ghost use mathlib.Core.Path.{_≡_};
-ghost use Prim.Native.Nat.{_+_, _*_, _≤_};
+ghost use Prim.Native.Nat.{_+_, _/_, _≤_};
 ghost use lib.ListN.{length, take, drop};
 ghost use Rattle.hash.specs.Block.{next, round, rounds, schedule, sums, mixed, compressed};
 ghost use Rattle.hash.specs.Message.{after};
@@ -328,13 +328,13 @@ fn block_at(v: HashValue, b: &[u8], at: usize) -> HashValue
     compress_words(v, pair(load(b, at), load(b, at + 32)))
 }
 
-// The hash value after the first n blocks of b. Every block goes through this one loop, in which the compiler places the
+// The hash value after all whole blocks of b. Every block goes through this one loop, in which the compiler places the
 // rounds.
-pub fn compress_all(v: HashValue, b: &[u8], n: usize) -> HashValue
-    requires { ⌜ 64 * n ≤ length (now b) ⌝ }
-    ensures { λ r. ⌜ r .words ≡ after (v .words) n (now (b .entry)) ⌝ }
+pub fn blocks(v: HashValue, b: &[u8]) -> HashValue
+    ensures { λ r. ⌜ r .words ≡ after (v .words) (length (now (b .entry)) / 64) (now (b .entry)) ⌝ }
 {
     let mut u = v;
+    let n = b.len() / 64;
     let mut i: usize = 0;
     while i < n {
         u = block_at(u, b, 64 * i);
@@ -348,5 +348,6 @@ pub fn compress(v: HashValue, b: &[u8], at: usize) -> HashValue
     requires { ⌜ at + 64 ≤ length (now b) ⌝ }
     ensures { λ r. ⌜ r .words ≡ compressed (v .words) (take 64 (drop at (now (b .entry)))) ⌝ }
 {
-    compress_all(v, &b[at..], 1)
+    let end = at + 64;
+    blocks(v, &b[at..end])
 }

@@ -7,7 +7,7 @@ ghost use lib.Seq.{sets};
 ghost use Rattle.hash.specs.Word.{be, bytesOf};
 ghost use Rattle.hash.specs.Message.{H0, finished};
 ghost use Rattle.hash.specs.Sha256.{sha256 as SHA256};
-use crate::block::compress_all;
+use crate::block::blocks;
 use crate::block::mix;
 use crate::constants::END_OF_1024;
 use crate::constants::INITIAL;
@@ -66,7 +66,8 @@ fn pad(v: HashValue, tail: &[u8], n: u64) -> HashValue
 {
     let count = (tail.len() + 72) / 64;
     let b = with_length(marked(tail), 64 * count - 8, n << 3);
-    compress_all(v, &b, count)
+    let end = 64 * count;
+    blocks(v, &b[..end])
 }
 
 // The last hash value of a message of n bytes, whose bytes after the blocks that led to v are tail. The block that ends
@@ -74,9 +75,8 @@ fn pad(v: HashValue, tail: &[u8], n: u64) -> HashValue
 pub fn finish(v: HashValue, tail: &[u8], n: u64) -> HashValue
     ensures { λ r. ⌜ r .words ≡ finished (v .words) (now (tail .entry)) n ⌝ }
 {
-    let count = tail.len() / 64;
-    let from = 64 * count;
-    let u = compress_all(v, tail, count);
+    let from = 64 * (tail.len() / 64);
+    let u = blocks(v, tail);
     if tail.len() == from {
         if n == 1024 {
             return mix(u, &END_OF_1024);

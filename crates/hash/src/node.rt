@@ -3,7 +3,7 @@ ghost use mathlib.Core.Path.{_≡_};
 ghost use mathlib.Core.List.{_++_};
 ghost use Rattle.hash.specs.Word.{bytesOf};
 ghost use Rattle.hash.specs.Sha256.{sha256};
-use crate::block::compress_all;
+use crate::block::blocks;
 use crate::block::mix;
 use crate::constants::END_OF_64;
 use crate::message::initial;
@@ -15,6 +15,6 @@ pub fn parent(left: HashValue, right: HashValue) -> HashValue
     ensures { λ r. ⌜ bytesOf (r .words) ≡ sha256 (bytesOf (left .words) ++ bytesOf (right .words)) ⌝ }
 {
     let m = pair_bytes(left, right);
-    let v = compress_all(initial(), &m, 1);
+    let v = blocks(initial(), &m);
     mix(v, &END_OF_64)
 }

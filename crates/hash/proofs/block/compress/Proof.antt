@@ -1,30 +1,32 @@
+use mathlib.Core.Path.{_≡_, _∙_}
+use native.Mathlib.Omega.{arith}
 use denote.Ref.{now}
-use Rattle.hash.proofs.MessageLaws.{after-one}
+use lib.ListN.{length, length-take, length-drop, take, drop}
+use lib.Seq.{take-take}
+use Rattle.hash.proofs.MessageLaws.{part-law}
 use borrow.Author.Needs.{needs}
 use Rattle.hash.proofs.block.compress.Statement.{statement}
 use Rattle.hash.proofs.block.compress.Tie as tie
 
-sub-compress-all : tie.Need-sub-compress-all
-sub-compress-all c = search needs
+add-end : tie.Need-add-end
+add-end c = search needs
 
-part-compress-all-start : tie.Need-part-compress-all-start
-part-compress-all-start c = search needs
+sub-blocks : tie.Need-sub-blocks
+sub-blocks c = search needs
 
-part-compress-all-end : tie.Need-part-compress-all-end
-part-compress-all-end c = search needs
+part-blocks-start : tie.Need-part-blocks-start
+part-blocks-start c = search needs
 
-compress-all-requires : tie.Need-compress-all-requires
-compress-all-requires c κs = search needs
+part-blocks-end : tie.Need-part-blocks-end
+part-blocks-end c = search needs
+
+blocks-requires : tie.Need-blocks-requires
+blocks-requires c κs = search needs
 
 returns : tie.Need-returns
-returns c = after-one _ (now (c .before .before .before .args .b)) (c .before .before .before .args .at) (c .compress-all .ensures)
+returns c = part-law _ (now (c .before .before .before .args .b)) (c .before .before .before .args .at) (c .before .before .before .pre) (c .blocks2 .ensures)
 
 pub compress-spec : {M : Type 1} → statement M
 compress-spec =
     tie.close
-    (tie.spec
-    sub-compress-all
-    part-compress-all-start
-    part-compress-all-end
-    compress-all-requires
-    returns)
+    (tie.spec add-end sub-blocks part-blocks-start part-blocks-end blocks-requires returns)

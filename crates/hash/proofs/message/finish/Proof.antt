@@ -1,30 +1,30 @@
-use Rattle.hash.proofs.EndLaws.{end-law}
-use borrow.Author.Needs.{needs}
+use mathlib.Core.Path.{_≡_, refl, ap, _∙_}
+use Prim.Native.Nat.{_/_, _*_}
 use native.Mathlib.Omega.{arith}
+use denote.Ref.{now}
 use lib.ListN.{length, drop, length-drop}
+use Rattle.hash.specs.Word.{_⊞_, σ0, σ1, word32, words}
+use Rattle.hash.specs.Block.{next, extended}
 use Rattle.hash.specs.Rows.{nextSixteen}
 use Rattle.hash.specs.Message.{padded}
-use Rattle.hash.specs.Block.{next, extended}
-use denote.Ref.{now}
-use Prim.Native.Nat.{_/_, _*_}
 use Rattle.hash.proofs.MessageLaws.{finish-law, rest-is}
-use Rattle.hash.specs.Word.{_⊞_, σ0, σ1, word32, words}
-use mathlib.Core.Path.{_≡_, refl, ap, _∙_}
+use Rattle.hash.proofs.EndLaws.{end-law}
+use borrow.Author.Needs.{needs}
 use Rattle.hash.proofs.message.finish.Statement.{statement}
 use Rattle.hash.proofs.message.finish.Tie as tie
 
 mul-from : tie.Need-mul-from
 mul-from c = search needs
 
-compress-all-requires : tie.Need-compress-all-requires
-compress-all-requires c κs = search needs
+blocks-requires : tie.Need-blocks-requires
+blocks-requires c κs = search needs
 
 mix-requires : tie.Need-mix-requires
 mix-requires c κs = search needs
 
 returns : tie.Need-returns
 unfolding _⊞_ σ0 σ1 word32 words next extended nextSixteen padded
-returns c = finish-law _ (now (c .before .before .before .before .before .before .args .tail)) _ (length (now (c .before .before .before .before .before .before .args .tail)) / 64) refl (c .before .before .before .before .compress-all .ensures) (rw (c .before .before .if2 .taken) (end-law _ _ 1024 _ (simp length-drop (omega arith)) (record { first = refl; second = refl; third = refl; fourth = refl }) (c .mix .ensures)))
+returns c = finish-law _ (now (c .before .before .before .before .before .before .args .tail)) _ (length (now (c .before .before .before .before .before .before .args .tail)) / 64) refl (c .before .before .before .before .blocks2 .ensures) (rw (c .before .before .if2 .taken) (end-law _ _ 1024 _ (simp length-drop (omega arith)) (record { first = refl; second = refl; third = refl; fourth = refl }) (c .mix .ensures)))
 
 sub-pad : tie.Need-sub-pad
 sub-pad c = search needs
@@ -39,14 +39,14 @@ pad-requires : tie.Need-pad-requires
 pad-requires c κs = search needs
 
 returns-2 : tie.Need-returns-2
-returns-2 c = finish-law _ (now (c .before .before .before .before .before .args .tail)) _ (length (now (c .before .before .before .before .before .args .tail)) / 64) refl (c .before .before .before .compress-all .ensures) (c .pad .ensures ∙ rw (rest-is (64 * (length (now (c .before .before .before .before .before .args .tail)) / 64)) (now (c .before .before .before .before .before .args .tail))))
+returns-2 c = finish-law _ (now (c .before .before .before .before .before .args .tail)) _ (length (now (c .before .before .before .before .before .args .tail)) / 64) refl (c .before .before .before .blocks2 .ensures) (c .pad .ensures ∙ rw (rest-is (64 * (length (now (c .before .before .before .before .before .args .tail)) / 64)) (now (c .before .before .before .before .before .args .tail))))
 
 pub finish-spec : {M : Type 1} → statement M
 finish-spec =
     tie.close
     (tie.spec
     mul-from
-    compress-all-requires
+    blocks-requires
     mix-requires
     returns
     sub-pad

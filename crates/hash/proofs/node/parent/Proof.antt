@@ -15,11 +15,11 @@ pair-bytes-requires c κs = search needs
 initial-requires : tie.Need-initial-requires
 initial-requires c κs = search needs
 
-slice-aggregate-compress-all : tie.Need-slice-aggregate-compress-all
-slice-aggregate-compress-all c = search needs
+slice-aggregate-blocks : tie.Need-slice-aggregate-blocks
+slice-aggregate-blocks c = search needs
 
-compress-all-requires : tie.Need-compress-all-requires
-compress-all-requires c κs = search needs
+blocks-requires : tie.Need-blocks-requires
+blocks-requires c κs = search needs
 
 mix-requires : tie.Need-mix-requires
 mix-requires c κs = search needs
@@ -29,7 +29,7 @@ long c = search needs
 
 returns : tie.Need-returns
 unfolding _⊞_ σ0 σ1 word32 words next extended nextSixteen padded
-returns c = parent-law (c .before .before .before .before .before .before .args .left .words) (c .before .before .before .before .before .before .args .right .words) _ _ (long (c .before .before .before .before .before .before) .0) (long (c .before .before .before .before .before .before) .1) (record { first = refl; second = refl; third = refl; fourth = refl }) (c .before .before .before .before .before .pair-bytes .ensures) (c .before .before .before .before .initial .ensures) (c .before .before .compress-all .ensures) (c .mix .ensures)
+returns c = parent-law (c .before .before .before .before .before .before .args .left .words) (c .before .before .before .before .before .before .args .right .words) _ _ (long (c .before .before .before .before .before .before) .0) (long (c .before .before .before .before .before .before) .1) (record { first = refl; second = refl; third = refl; fourth = refl }) (c .before .before .before .before .before .pair-bytes .ensures) (c .before .before .before .before .initial .ensures) (c .before .before .blocks2 .ensures) (c .mix .ensures)
 
 pub parent-spec : {M : Type 1} → statement M
 parent-spec =
@@ -37,7 +37,7 @@ parent-spec =
     (tie.spec
     pair-bytes-requires
     initial-requires
-    slice-aggregate-compress-all
-    compress-all-requires
+    slice-aggregate-blocks
+    blocks-requires
     mix-requires
     returns)

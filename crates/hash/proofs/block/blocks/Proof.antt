@@ -4,14 +4,14 @@ use native.Mathlib.Omega.{arith}
 use Rattle.hash.specs.Message.{after}
 use Rattle.hash.proofs.MessageLaws.{after-none, after-turn, after-end}
 use borrow.Author.Needs.{needs}
-use Rattle.hash.proofs.block.compress_all.Statement.{statement}
-use Rattle.hash.proofs.block.compress_all.Tie as tie
+use Rattle.hash.proofs.block.blocks.Statement.{statement}
+use Rattle.hash.proofs.block.blocks.Tie as tie
 
 abbrev Inv-loop : tie.InvT-loop
-Inv-loop b n u₀ i₀ u i = (i ≤ n) × (u .words ≡ after (u₀ .words) i b)
+Inv-loop b u₀ n i₀ u i = (i ≤ n) × (u .words ≡ after (u₀ .words) i b)
 
 abbrev μ-loop : tie.MeasureT-loop
-μ-loop b n u₀ i₀ u i = n - i
+μ-loop b u₀ n i₀ u i = n - i
 
 loop-holds : tie.Need-loop-holds Inv-loop μ-loop
 loop-holds c = (omega arith, after-none _ _)
@@ -34,8 +34,8 @@ loop-again c = (omega arith, after-turn _ _ _ (c .before .before .loop .inv .1) 
 returns : tie.Need-returns Inv-loop μ-loop
 returns c = after-end _ _ _ _ (c .before .loop .inv .0) (search needs) (c .before .loop .inv .1)
 
-pub compress-all-spec : {M : Type 1} → statement M
-compress-all-spec =
+pub blocks-spec : {M : Type 1} → statement M
+blocks-spec =
     tie.close
     (tie.spec
     Inv-loop
