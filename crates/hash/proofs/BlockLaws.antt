@@ -7,7 +7,7 @@ use native.Mathlib.Omega.{arith}
 use lib.ListN.{length, getD, take, drop}
 use Rattle.hash.specs.Word.{words}
 use Rattle.hash.specs.Block.{K, rounds, schedule, sums, mixed, compressed}
-use Rattle.hash.specs.Rows.{Advanced, constants, nextSixteen, summedRounds, summedRuns, mixedSums}
+use Rattle.hash.specs.Rows.{Advanced, constants, rowsOfK, summedRounds, summedRuns, mixedSums}
 use Rattle.hash.proofs.BytesLaws.{words-pair}
 use Rattle.hash.proofs.RoundLaws.{runs, four-runs, summed, summed-rounds}
 use Rattle.hash.proofs.ScheduleLaws.{rowOf, row-length, schedule-rows}
@@ -17,15 +17,33 @@ pub scheduled : (v w : List ℕ) → length w ≡ 16 → sums v (runs 4 v (rowOf
 unfolding mixed
 scheduled v w l = ap (sums v) (sym (rw (schedule-rows w l) (four-runs v (rowOf w) (row-length w 0 l) (row-length w 1 l) (row-length w 2 l))))
 
-pub compress-words-law : (v w : List ℕ) {v1 w1 v2 w2 v3 w3 v4 r : List ℕ} → length w ≡ 16
-    → Advanced 0 v w v1 w1
-    → Advanced 1 v1 w1 v2 w2
-    → Advanced 2 v2 w2 v3 w3
-    → v4 ≡ rounds 16 v3 (constants 3) w3
-    → r ≡ sums v v4
+rows-of-K : (i : ℕ) → i < 4 → getD rowsOfK i [] ≡ constants i
+rows-of-K zero h = refl
+rows-of-K (suc zero) h = refl
+rows-of-K (suc (suc zero)) h = refl
+rows-of-K (suc (suc (suc zero))) h = refl
+rows-of-K (suc (suc (suc (suc i)))) h = absurd (omega arith)
+
+-- A turn of the loop over the rows of the constants, and its end.
+pub advance-turn : (v w : List ℕ) (i : ℕ) (k : List (List ℕ)) {u x u′ x′ : List ℕ} → i < 3 → k ≡ rowsOfK
+    → u ≡ runs i v (rowOf w)
+    → x ≡ rowOf w i
+    → Advanced (getD k i []) u x u′ x′
+    → (u′ ≡ runs (i + 1) v (rowOf w)) × (x′ ≡ rowOf w (i + 1))
+advance-turn v w i k h e f g a =
+    (rw (add-one i) (a .variables ∙ rw (e, f, g, rows-of-K i (omega arith))), rw (add-one i) (a .schedule ∙ rw g))
+
+pub advance-end : (v w : List ℕ) (i : ℕ) (k : List (List ℕ)) {u x u′ r : List ℕ} → length w ≡ 16 → i ≤ 3 → 3 ≤ i → k ≡ rowsOfK
+    → u ≡ runs i v (rowOf w)
+    → x ≡ rowOf w i
+    → u′ ≡ rounds 16 u (getD k 3 []) x
+    → r ≡ sums v u′
     → r ≡ mixed v (schedule w)
-compress-words-law v w l a0 a1 a2 e f =
-    f ∙ rw (e, a2 .variables, a2 .schedule, a1 .variables, a1 .schedule, a0 .variables, a0 .schedule) (scheduled v w l)
+advance-end v w i k {u} {x} l h m e f g a s =
+    let three : i ≡ 3 = omega arith in
+    let fu : u ≡ runs 3 v (rowOf w) = rw three at f in
+    let fx : x ≡ rowOf w 3 = rw three at g in
+    s ∙ ap (sums v) (a ∙ rw (e, fu, fx)) ∙ scheduled v w l
 
 -- ---- a block whose sums are known
 

@@ -2,7 +2,7 @@
 -- the standard is rendered here. Assumes nothing.
 use mathlib.Core.Path.{_≡_}
 use Prim.Native.Nat.{ℕ, zero, suc, _*_}
-use mathlib.Core.List.{List, []}
+use mathlib.Core.List.{List, [], _∷_}
 use lib.ListN.{getD, take, drop, replicate}
 use Rattle.hash.specs.Block.{K, extended, rounds, sums}
 
@@ -14,9 +14,13 @@ nextSixteen w = drop 16 (extended 16 w)
 abbrev pub constants : ℕ → List ℕ
 constants i = take 16 (drop (16 * i) K)
 
--- Sixteen rounds from number 16 * i on bring the variables v and the row w of the schedule to v′ and w′.
-pub record Advanced (i : ℕ) (v w v′ w′ : List ℕ) : Type 0 where
-  pub variables : v′ ≡ rounds 16 v (constants i) w
+-- All the constants, sixteen a row.
+abbrev pub rowsOfK : List (List ℕ)
+rowsOfK = constants 0 ∷ constants 1 ∷ constants 2 ∷ constants 3 ∷ []
+
+-- Sixteen rounds with the constants k bring the variables v and the row w of the schedule to v′ and w′.
+pub record Advanced (k v w v′ w′ : List ℕ) : Type 0 where
+  pub variables : v′ ≡ rounds 16 v k w
   pub schedule : w′ ≡ nextSixteen w
 
 -- Sixteen rounds, given the sum of each one's constant and word.
