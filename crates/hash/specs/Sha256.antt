@@ -1,4 +1,4 @@
--- The one definition of this crate that the crates above cite. It is shut: they know of it what proofs/Promise.antt says.
+-- The digest of a message. It is shut: the crates above know of it what proofs/Promise.antt says.
 -- Assumes nothing.
 use mathlib.Core.Path.{_≡_, refl}
 use Prim.Native.Nat.{ℕ}
