@@ -1,0 +1,6 @@
+-- What the proofs of several functions cite.
+mod WordLaws
+mod RowLaws
+mod RunLaws
+mod CountLaws
+pub mod Promise

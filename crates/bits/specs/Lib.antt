@@ -1,0 +1,2 @@
+-- Rows of bits in lent words.
+pub mod Bits
