@@ -1,9 +1,10 @@
 -- How many bits are set, and how many words a row takes. Assumes nothing.
-use Prim.Native.Nat.{ℕ, zero, suc, _+_, _*_, _≤_, _<_}
+use Prim.Native.Nat.{ℕ, zero, suc, _+_, _*_, _≤_, _<_, _/_, _%_}
 use native.Mathlib.Omega.{arith}
 use native.Mathlib.Numerals.{add-one}
 use native.Mathlib.Decide.{ℕ-discrete}
 use mathlib.Core.Path.{_≡_, refl, ap, ap₂}
+use mathlib.Core.Logic.{_≢_}
 use mathlib.Core.List.{List}
 use mathlib.Core.Bool.{Bool, true, false}
 use lib.ListN.{length}
@@ -61,3 +62,16 @@ row-room ws n h = omega arith
 pub row-least : (n k : ℕ) → n ≤ k * 32 → rowWords n ≤ k
 unfolding rowWords
 row-least n k h = omega arith
+
+pub row-words : (n : ℕ) → (n ≤ 32 * rowWords n) × (32 * rowWords n ≤ n + 31)
+unfolding rowWords
+row-words n = omega arith
+
+-- as the code has it
+pub words-even : (n : ℕ) → n % 32 ≡ 0 → n / 32 ≡ rowWords n
+unfolding rowWords
+words-even n e = omega arith
+
+pub words-odd : (n : ℕ) → n % 32 ≢ 0 → n / 32 + 1 ≡ rowWords n
+unfolding rowWords
+words-odd n e = omega arith

@@ -4,3 +4,4 @@ mod RowLaws
 mod RunLaws
 mod CountLaws
 pub mod Promise
+pub mod ClearLaws

@@ -8,9 +8,10 @@ use mathlib.Core.List.{List}
 use mathlib.Core.Bool.{true, false}
 use lib.ListN.{length}
 use Rattle.bits.proofs.RowLaws as row
+use Rattle.bits.proofs.ClearLaws.{length-words-run, words-run-in, words-run-out}
 use Rattle.bits.proofs.RunLaws.{setting, clearing, length-run, run-in, run-out}
 use Rattle.bits.proofs.CountLaws as counting
-pub use Rattle.bits.specs.Bits.{bitAt, setBit, clearBit, setRange, clearRange, one, countBits, rowWords}
+pub use Rattle.bits.specs.Bits.{bitAt, setBit, clearBit, setRange, clearRange, clearWords, one, countBits, rowWords}
 
 -- ---- one bit
 
@@ -82,6 +83,21 @@ pub bitAt-clearRange-out : (ws : List ℕ) (a b j : ℕ) → (a ≤ j → j < b 
 unfolding clearRange
 bitAt-clearRange-out ws a b j n = run-out _ _ clearing (b - a) a ws j (λ h l. n h (omega arith))
 
+-- Clearing words keeps the row's length.
+pub length-clearWords : (ws : List ℕ) (a b : ℕ) → length (clearWords ws a b) ≡ length ws
+unfolding clearWords
+length-clearWords ws a b = length-words-run (b - a) a ws
+
+-- Clearing words clears each bit of them.
+pub bitAt-clearWords-in : (ws : List ℕ) (a b j : ℕ) → 32 * a ≤ j → j < 32 * b → bitAt (clearWords ws a b) j ≡ false
+unfolding clearWords
+bitAt-clearWords-in ws a b j h l = words-run-in (b - a) a ws j h (omega arith)
+
+-- Clearing words leaves the bits outside them.
+pub bitAt-clearWords-out : (ws : List ℕ) (a b j : ℕ) → (32 * a ≤ j → j < 32 * b → ⊥) → bitAt (clearWords ws a b) j ≡ bitAt ws j
+unfolding clearWords
+bitAt-clearWords-out ws a b j n = words-run-out (b - a) a ws j (λ h l. n h (omega arith))
+
 -- ---- how many
 
 -- A count goes up by one at each bit that is set.
@@ -111,3 +127,7 @@ row-room = counting.row-room
 -- No fewer words have room for n bits.
 pub row-least : (n k : ℕ) → n ≤ k * 32 → rowWords n ≤ k
 row-least = counting.row-least
+
+-- A row's words hold its bits, and less than a word besides.
+pub row-words : (n : ℕ) → (n ≤ 32 * rowWords n) × (32 * rowWords n ≤ n + 31)
+row-words = counting.row-words

@@ -37,7 +37,7 @@ clearBit ws i = set ws (i / 32) (withoutBit (getD ws (i / 32) 0) (i % 32))
 
 -- ---- a run of bits
 
--- The row after the change f of each of n bits from bit i on.
+-- The row after the change f at each of n places from i on.
 unfoldable pub run : (List ℕ → ℕ → List ℕ) → ℕ → ℕ → List ℕ → List ℕ
 run f zero i ws = ws
 run f (suc n) i ws = f (run f n i ws) (i + n)
@@ -49,6 +49,10 @@ setRange ws a b = run setBit (b - a) a ws
 -- The row with the bits from a up to but not including b clear.
 unfoldable pub clearRange : List ℕ → ℕ → ℕ → List ℕ
 clearRange ws a b = run clearBit (b - a) a ws
+
+-- The row with the words from a up to but not including b zero; words past its end are left out.
+unfoldable pub clearWords : List ℕ → ℕ → ℕ → List ℕ
+clearWords ws a b = run (λ l w. set l w 0) (b - a) a ws
 
 -- ---- how many
 

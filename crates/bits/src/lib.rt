@@ -1,7 +1,8 @@
 // Bit rows in lent words: bit i stands in word i / 32, at place i % 32, the low bit first.
 // A bit past the room is never set, and setting or clearing it has no effect.
 ghost use mathlib.Core.Path.{_≡_};
-ghost use Rattle.bits.specs.Bits.{bitAt, setBit, clearBit, setRange, clearRange, countBits, rowWords};
+ghost use Rattle.bits.specs.Bits.{bitAt, setBit, clearBit, setRange, clearRange, clearWords, countBits, rowWords};
+ghost use lib.ListN.{set};
 
 // Whether a bit is set.
 pub fn test(ws: &[u32], i: usize) -> bool
@@ -60,6 +61,26 @@ pub fn clear_range(ws: &mut [u32], from: usize, upto: usize)
     }
 }
 
+// Clears one word.
+fn clear_word(ws: &mut [u32], w: usize)
+    ensures { λ _. ⌜ now (ws .exit) ≡ set (now (ws .entry)) w 0 ⌝ }
+{
+    if w < ws.len() {
+        ws[w] = 0;
+    }
+}
+
+// Clears the words from one up to but not including another.
+pub fn clear_words(ws: &mut [u32], from: usize, upto: usize)
+    ensures { λ _. ⌜ now (ws .exit) ≡ clearWords (now (ws .entry)) from upto ⌝ }
+{
+    let mut w = from;
+    while w < upto {
+        clear_word(ws, w);
+        w += 1;
+    }
+}
+
 // How many of the first `upto` bits are set, whatever stands past them.
 pub fn count(ws: &[u32], upto: u32) -> u32
     ensures { λ r. ⌜ r ≡ countBits (now (ws .entry)) upto ⌝ }
@@ -76,8 +97,11 @@ pub fn count(ws: &[u32], upto: u32) -> u32
 }
 
 // How many words a row of n bits takes.
-pub fn row_words(n: u32) -> usize
+pub fn row_words(n: u64) -> u64
     ensures { λ r. ⌜ r ≡ rowWords n ⌝ }
 {
-    (n as usize + 31) / 32
+    if n % 32 == 0 {
+        return n / 32;
+    }
+    n / 32 + 1
 }

@@ -1,0 +1,24 @@
+use mathlib.Core.Path.{sym}
+use native.Mathlib.Omega.{arith}
+use lib.Seq.{set-out}
+use borrow.Author.Needs.{needs}
+use Rattle.bits.proofs.clear_word.Statement.{statement}
+use Rattle.bits.proofs.clear_word.Tie as tie
+
+mul-ws : tie.Need-mul-ws
+mul-ws c = search needs
+
+slice-write-ws : tie.Need-slice-write-ws
+slice-write-ws c = search needs
+
+same-length : tie.Need-same-length
+same-length c = search needs
+
+returns : tie.Need-returns
+returns c = search needs
+
+returns-2 : tie.Need-returns-2
+returns-2 c = sym (set-out _ _ 0 (omega arith))
+
+pub clear-word-spec : {M : Type 1} → statement M
+clear-word-spec = tie.close (tie.spec mul-ws slice-write-ws same-length returns returns-2)
