@@ -1,10 +1,14 @@
-//! An independent implementation, written from FIPS 180-4, against which the
-//! proved crates are compared. It uses the standard library only, shares no
-//! code with any other package, and is meant to be read beside the standard:
-//! each part names the section it renders.
+//! An independent implementation, written from FIPS 180-4, RFC 7574 and the
+//! yard profile (01), against which the proved crates are compared. It uses the
+//! standard library only, shares no code with any other package, and is meant
+//! to be read beside those papers.
 
 #![forbid(unsafe_code)]
 
+pub mod answer;
 pub mod hex;
 pub mod sha256;
+pub mod store;
+pub mod tree;
+pub mod tree_vectors;
 pub mod vectors;

@@ -2,14 +2,15 @@
 
 #![forbid(unsafe_code)]
 
-use second::{hex, sha256::Sha256, vectors};
-use std::io::{self, ErrorKind, Read, Write};
+use second::{hex, sha256::Sha256, tree_vectors, vectors};
+use std::io::{self, BufWriter, ErrorKind, Read, Write};
 use std::process::ExitCode;
 
 const USAGE: &str = "\
 usage: second COMMAND
   sha256-vectors   print the label and the digest of each test vector
-  sha256           print the digest of standard input";
+  sha256           print the digest of standard input
+  tree-vectors     print the nodes, orders, packs and answers of the tests";
 
 fn main() -> ExitCode {
     let arguments: Vec<_> = std::env::args_os().skip(1).collect();
@@ -20,6 +21,7 @@ fn main() -> ExitCode {
     let outcome = match command {
         Some("sha256-vectors") => sha256_vectors(),
         Some("sha256") => sha256_of_input(),
+        Some("tree-vectors") => tree_vectors(),
         _ => {
             eprintln!("{USAGE}");
             return ExitCode::from(2);
@@ -56,5 +58,11 @@ fn sha256_of_input() -> io::Result<()> {
     }
     let mut output = io::stdout().lock();
     writeln!(output, "{}", hex::encode(&hash.finish()))?;
+    output.flush()
+}
+
+fn tree_vectors() -> io::Result<()> {
+    let mut output = BufWriter::new(io::stdout().lock());
+    tree_vectors::write(&mut output)?;
     output.flush()
 }

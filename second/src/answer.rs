@@ -1,0 +1,16 @@
+//! The numbers a store gives back.
+
+/// Done.
+pub const DONE: u8 = 0;
+/// A chunk past the last one.
+pub const PAST_THE_END: u8 = 7;
+/// A chunk of another length than its number has.
+pub const WRONG_LENGTH: u8 = 8;
+/// A needed hash is not there.
+pub const HASH_MISSING: u8 = 9;
+/// The peaks do not give the root, or the climb misses the trusted node.
+pub const HASH_WRONG: u8 = 10;
+/// A room is too small.
+pub const ROOM_TOO_SMALL: u8 = 11;
+/// The order's length is 0 or over the limit, or the content has another one.
+pub const BAD_LENGTH: u8 = 12;
