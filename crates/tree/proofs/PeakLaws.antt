@@ -1,0 +1,180 @@
+-- The peaks of N: they tile 0..N-1, there is one for each one bit of N, each chunk is below one; and combining them. Assumes nothing.
+use mathlib.Core.Path.{_≡_, refl, sym, ap, ap₂, _∙_}
+use mathlib.Core.Logic.{_⊎_, inl, inr, _≢_}
+use mathlib.Core.List.{List, [], _∷_, _++_}
+use Prim.Native.Nat.{ℕ, zero, suc, _+_, _*_, _/_, _%_, _^_, _≤_, _<_}
+use native.Mathlib.Nat.{eq-or-lt-of-le}
+use native.Mathlib.Omega.{arith}
+use borrow.Author.Tests.{lt-ltb, le-ltb, le-leb, lt-leb, eq-eqb, ne-eqb}
+use lib.Dec.{leb, ltb, eqb}
+use lib.Pow.{pow-pos}
+use Rattle.tree.specs.Pick.{pick}
+use Rattle.tree.specs.Bin.{bin}
+use Rattle.tree.specs.Node.{Node, node, above}
+use Rattle.tree.specs.Pack.{levels}
+use Rattle.tree.specs.Peaks.{peaksFrom, peaks, peakFrom, peakOf}
+use Rattle.tree.specs.Tree.{given, combined}
+use Rattle.tree.specs.Steps.{folded, peaksBelow}
+use Rattle.tree.proofs.NodeLaws.{split, above-in, above-twice, above-left, above-right, above-inside, above-top, above-unique}
+use Rattle.tree.proofs.PackLaws.{levels-holds}
+use Rattle.tree.proofs.TreeLaws.{given-empty, given-whole, given-mixed}
+
+-- ---- the chunks from a up to b, in order, without gap or overlap
+
+pub data Tiles : ℕ → ℕ → List Node → Type 0 where
+  done : {a : ℕ} → Tiles a a []
+  next : {h a b : ℕ} {ns : List Node} → Tiles (a + 2 ^ h) b ns → Tiles a b (node h a ∷ ns)
+
+tile-from : (N h a : ℕ) → a ≤ N → N < a + 2 ^ h → Tiles a N (peaksFrom N h a)
+unfolding peaksFrom
+tile-from N zero a l u = let e : a ≡ N = omega arith in rw e done
+tile-from N (suc h) a l u = go (split (a + 2 ^ h) N) (tile-from N h (a + 2 ^ h)) (tile-from N h a)
+  where
+    go : (a + 2 ^ h ≤ N) ⊎ (N < a + 2 ^ h)
+        → (a + 2 ^ h ≤ N → N < a + 2 ^ h + 2 ^ h → Tiles (a + 2 ^ h) N (peaksFrom N h (a + 2 ^ h)))
+        → (a ≤ N → N < a + 2 ^ h → Tiles a N (peaksFrom N h a))
+        → Tiles a N (pick (leb (a + 2 ^ h) N) (node h a ∷ peaksFrom N h (a + 2 ^ h)) (peaksFrom N h a))
+    go (inl w) x y = rw (le-leb (a + 2 ^ h) N w) (next (x w (omega arith)))
+    go (inr w) x y = rw (lt-leb (a + 2 ^ h) N w) (y l w)
+
+pub peaks-tile : (N : ℕ) → Tiles 0 N (peaks N)
+unfolding peaks
+peaks-tile N = tile-from N (suc (levels N)) 0 (omega arith) (omega (arith, levels-holds N, pow-pos (levels N)))
+
+-- ---- one for each one bit of N
+
+from-bits : (N h : ℕ) → peaksFrom N h (above h N) ≡ peaksBelow N h
+unfolding peaksFrom peaksBelow
+from-bits N zero = refl
+from-bits N (suc h) = go (N / 2 ^ h % 2) refl (from-bits N h)
+  where
+    go : (r : ℕ) → N / 2 ^ h % 2 ≡ r → peaksFrom N h (above h N) ≡ peaksBelow N h
+        → pick (leb (above (suc h) N + 2 ^ h) N) (node h (above (suc h) N) ∷ peaksFrom N h (above (suc h) N + 2 ^ h)) (peaksFrom N h (above (suc h) N))
+        ≡ pick (eqb (N / 2 ^ h % 2) 1) (node h (above (suc h) N) ∷ []) [] ++ peaksBelow N h
+    go zero e ih =
+        let f = above-left h N e in
+        rw (lt-leb (above (suc h) N + 2 ^ h) N (omega (arith, above-in h N)), ne-eqb (N / 2 ^ h % 2) 1 (λ x. omega arith), f) ih
+    go (suc r) e ih =
+        let f = above-right h N (omega arith) in
+        rw (le-leb (above (suc h) N + 2 ^ h) N (omega (arith, above-in h N)), eq-eqb (N / 2 ^ h % 2) 1 (omega arith), f, ih)
+
+pub peaks-bits : (N : ℕ) → peaks N ≡ peaksBelow N (suc (levels N))
+unfolding peaks
+peaks-bits N =
+    ap (peaksFrom N (suc (levels N))) (sym (above-top (suc (levels N)) N (omega (arith, levels-holds N, pow-pos (levels N)))))
+    ∙ from-bits N (suc (levels N))
+
+-- ---- the peak above a chunk
+
+pub record Peak (N c : ℕ) (n : Node) : Type 0 where
+  pub on-way : n .from ≡ above (n .high) c
+  pub whole : n .from + 2 ^ n .high ≤ N
+  pub highest : N < above (suc (n .high)) c + 2 ^ suc (n .high)
+
+-- at c < N, between above h N and N, both nodes of height h are the same
+near : (N c h : ℕ) → above h N ≤ c → c < N → above h c ≡ above h N
+near N c h l m = above-unique h (N / 2 ^ h) c l (omega (arith, above-in h N))
+
+-- and a chunk below above h N, from above (h + 1) N on, has the left child above it
+left-of : (N c h : ℕ) → above (suc h) N ≤ c → c < above (suc h) N + 2 ^ h → above h c ≡ above (suc h) N
+left-of N c h l m =
+    let t = above-twice h N in
+    above-unique h (2 * (N / 2 ^ h / 2)) c (omega arith) (omega arith) ∙ omega arith
+
+peak-from : (N c h : ℕ) → above h N ≤ c → c < N → Peak N c (peakFrom N c h (above h N))
+unfolding peakFrom
+peak-from N c zero l m = absurd (omega (arith, above-in zero N))
+peak-from N c (suc h) l m = go (N / 2 ^ h % 2) refl (split (suc c) (above (suc h) N + 2 ^ h)) (peak-from N c h)
+  where
+    go : (r : ℕ) → N / 2 ^ h % 2 ≡ r → (c < above (suc h) N + 2 ^ h) ⊎ (above (suc h) N + 2 ^ h < suc c)
+        → (above h N ≤ c → c < N → Peak N c (peakFrom N c h (above h N)))
+        → Peak N c (peakFrom N c (suc h) (above (suc h) N))
+    go zero e v ih =
+        let f = above-left h N e in
+        rw (lt-leb (above (suc h) N + 2 ^ h) N (omega (arith, above-in h N)), f) (ih (omega arith) m)
+    go (suc r) e (inl v) ih =
+        let f = above-right h N (omega arith) in
+        rw (le-leb (above (suc h) N + 2 ^ h) N (omega (arith, above-in h N)), lt-ltb c (above (suc h) N + 2 ^ h) v)
+        (record {
+          on-way = sym (left-of N c h l v);
+          whole = omega (arith, above-in h N);
+          highest = rw (near N c (suc h) l m) (above-in (suc h) N .1);
+        })
+    go (suc r) e (inr v) ih =
+        let f = above-right h N (omega arith) in
+        rw (le-leb (above (suc h) N + 2 ^ h) N (omega (arith, above-in h N)), le-ltb c (above (suc h) N + 2 ^ h) (omega arith), f) (ih (omega arith) m)
+
+pub peak-of : (N c : ℕ) → c < N → Peak N c (peakOf N c)
+unfolding peakOf
+peak-of N c l =
+    let t : above (suc (levels N)) N ≡ 0 = above-top (suc (levels N)) N (omega (arith, levels-holds N, pow-pos (levels N))) in
+    rw t at (peak-from N c (suc (levels N)) (rw t (omega arith)) l)
+
+-- a chunk past the pack is below none
+past-from : (N c h a : ℕ) → N ≤ c → peakFrom N c h a .high ≡ 0
+unfolding peakFrom
+past-from N c zero a l = refl
+past-from N c (suc h) a l = go (split (a + 2 ^ h) N) (past-from N c h (a + 2 ^ h) l) (past-from N c h a l)
+  where
+    go : (a + 2 ^ h ≤ N) ⊎ (N < a + 2 ^ h) → peakFrom N c h (a + 2 ^ h) .high ≡ 0 → peakFrom N c h a .high ≡ 0
+        → pick (leb (a + 2 ^ h) N) (pick (ltb c (a + 2 ^ h)) (node h a) (peakFrom N c h (a + 2 ^ h))) (peakFrom N c h a) .high ≡ 0
+    go (inl w) x y = rw (le-leb (a + 2 ^ h) N w, le-ltb c (a + 2 ^ h) (omega arith)) x
+    go (inr w) x y = rw (lt-leb (a + 2 ^ h) N w) y
+
+pub peak-past : (N c : ℕ) → N ≤ c → peakOf N c .high ≡ 0
+unfolding peakOf
+peak-past N c l = past-from N c (suc (levels N)) 0 l
+
+-- ---- the same by N's bits, as a loop combines them: start at height 0 with the filler
+
+module _ (H : List ℕ → List ℕ) (Z : List ℕ) (N : ℕ) (held : ℕ → ℕ → List ℕ) where
+  pub folded-given : (h : ℕ) → folded H Z N held h (given H Z N held h (above h N)) ≡ given H Z N held (suc h) (above (suc h) N)
+  folded-given h = go (N / 2 ^ h % 2) refl
+    where
+      bit : N / 2 ^ h % 2 ≡ 1 → given H Z N held (suc h) (above (suc h) N) ≡ H (held h (above (suc h) N) ++ given H Z N held h (above h N))
+      bit b =
+          let f = above-right h N b in
+          given-mixed H Z N held h (above (suc h) N) (omega (arith, above-in h N, pow-pos h)) (above-in (suc h) N .1)
+          ∙ ap₂ (λ (x y : List ℕ). H (x ++ y)) (given-whole H Z N held h (above (suc h) N) (omega (arith, above-in h N))) (ap (given H Z N held h) f)
+
+      rest : N / 2 ^ h % 2 ≡ 0 → (above h N ≡ N) ⊎ (above h N < N)
+          → pick (eqb (above h N) N) (given H Z N held h (above h N)) (H (given H Z N held h (above h N) ++ Z)) ≡ given H Z N held (suc h) (above (suc h) N)
+      rest b (inl e) =
+          let f = above-left h N b in
+          rw (eq-eqb (above h N) N e) (given-empty H Z N held h (above h N) (omega arith) ∙ sym (given-empty H Z N held (suc h) (above (suc h) N) (omega arith)))
+      rest b (inr e) =
+          let f = above-left h N b in
+          rw (ne-eqb (above h N) N (λ q. omega arith))
+          (sym
+          (given-mixed H Z N held h (above (suc h) N) (omega arith) (above-in (suc h) N .1)
+          ∙ ap₂ (λ (x y : List ℕ). H (x ++ y)) (ap (given H Z N held h) f) (given-empty H Z N held h (above (suc h) N + 2 ^ h) (omega (arith, above-in h N)))))
+
+      le : (above h N ≡ N) ⊎ (above h N < N)
+      le = eq-or-lt-of-le (above-in h N .0)
+
+      go : (r : ℕ) → N / 2 ^ h % 2 ≡ r → folded H Z N held h (given H Z N held h (above h N)) ≡ given H Z N held (suc h) (above (suc h) N)
+      go zero b = rw (ne-eqb (N / 2 ^ h % 2) 1 (λ q. omega arith)) (rest b le)
+      go (suc r) b = let c : N / 2 ^ h % 2 ≡ 1 = omega arith in rw (eq-eqb (N / 2 ^ h % 2) 1 c) (sym (bit c))
+
+  pub folded-start : given H Z N held zero (above zero N) ≡ Z
+  folded-start = given-empty H Z N held zero (above zero N) (omega (arith, above-in zero N))
+
+  -- where N is no power of two
+  pub folded-end : N < 2 ^ levels N → given H Z N held (levels N) (above (levels N) N) ≡ combined H Z N held
+  unfolding combined
+  folded-end l = ap (given H Z N held (levels N)) (above-top (levels N) N l)
+
+-- the three ways of a step
+module _ (H : List ℕ → List ℕ) (Z : List ℕ) (N : ℕ) (held : ℕ → ℕ → List ℕ) (h : ℕ) (acc : List ℕ) where
+  pub folded-bit : N / 2 ^ h % 2 ≡ 1 → folded H Z N held h acc ≡ H (held h (above (suc h) N) ++ acc)
+  folded-bit b = rw (eq-eqb (N / 2 ^ h % 2) 1 b)
+
+  pub folded-none : N / 2 ^ h % 2 ≢ 1 → above h N ≡ N → folded H Z N held h acc ≡ acc
+  folded-none b e = rw (ne-eqb (N / 2 ^ h % 2) 1 b, eq-eqb (above h N) N e)
+
+  pub folded-some : N / 2 ^ h % 2 ≢ 1 → above h N ≢ N → folded H Z N held h acc ≡ H (acc ++ Z)
+  folded-some b e = rw (ne-eqb (N / 2 ^ h % 2) 1 b, ne-eqb (above h N) N e)
+
+-- N's peak of height h stands within the first 2 ^ t nodes' numbers
+pub peak-inside : (t h n : ℕ) → h < t → n < 2 ^ t → bin h (above (suc h) n) < 2 ^ suc t
+peak-inside t h n l u = omega (arith, above-inside t (suc h) n l u, pow-pos h)

@@ -1,0 +1,251 @@
+-- Two stores under one root, in both of which a chunk hangs and has other bytes: the walk to it names two different strings with one hash. Assumes nothing.
+use mathlib.Core.Path.{_≡_, refl, sym, ap, ap₂, _∙_}
+use mathlib.Core.Logic.{_⊎_, inl, inr, _≢_}
+use mathlib.Core.Bool.{Bool, true, false, true≢false}
+use mathlib.Core.List.{List, _++_}
+use mathlib.Core.Option.{Option, none, some}
+use Prim.Native.Nat.{ℕ, zero, suc, _+_, _^_, _≤_, _<_}
+use native.Mathlib.Omega.{arith}
+use lib.Dec.{ltb}
+use lib.ListN.{length, take, drop}
+use lib.Seq.{take-at, drop-at}
+use Rattle.hash.proofs.Promise.{same, same-is, same-refl}
+use Rattle.tree.specs.Pick.{pick}
+use Rattle.tree.specs.Node.{Node, node, down, above}
+use Rattle.tree.specs.Pack.{levels}
+use Rattle.tree.specs.Tree.{given, combined}
+use Rattle.tree.specs.State.{State}
+use Rattle.tree.specs.Walk.{Hangs, string, walkFrom, walk, names, Clash, lowest, Compared, equal, collision}
+use Rattle.tree.proofs.NodeLaws.{split, above-in, down-above, above-top, above-zero}
+use Rattle.tree.proofs.PackLaws.{levels-holds}
+use Rattle.tree.proofs.TreeLaws.{given-empty, given-whole, given-mixed}
+
+pub append-parts : (n : ℕ) (x y x′ y′ : List ℕ) → length x ≡ n → length x′ ≡ n → x ++ y ≡ x′ ++ y′ → (x ≡ x′) × (y ≡ y′)
+append-parts n x y x′ y′ h h′ e = (
+  sym (take-at x y n h) ∙ ap (take n) e ∙ take-at x′ y′ n h′,
+  sym (drop-at x y n h) ∙ ap (drop n) e ∙ drop-at x′ y′ n h′,
+)
+
+pub same-differ : (x y : List ℕ) → same x y ≡ false → x ≢ y
+same-differ x y e p = true≢false (sym (same-refl x) ∙ ap (same x) p ∙ e)
+
+-- ---- what a chunk that hangs is held by
+
+module _ (H : List ℕ → List ℕ) (Z : List ℕ) (N W : ℕ) (zlen : length Z ≡ W) (hlen : (x : List ℕ) → length (H x) ≡ W) where
+  pub given-length : (held : ℕ → ℕ → List ℕ) → ((h a : ℕ) → length (held h a) ≡ W) → (h a : ℕ) → length (given H Z N held h a) ≡ W
+  given-length held len zero a = go (split N a)
+    where
+      go : (N ≤ a) ⊎ (a < N) → length (given H Z N held zero a) ≡ W
+      go (inl e) = rw (given-empty H Z N held zero a e) zlen
+      go (inr e) = rw (given-whole H Z N held zero a (omega arith)) (len zero a)
+  given-length held len (suc h) a = go (split N a) (split (a + 2 ^ suc h) N)
+    where
+      go : (N ≤ a) ⊎ (a < N) → (a + 2 ^ suc h ≤ N) ⊎ (N < a + 2 ^ suc h) → length (given H Z N held (suc h) a) ≡ W
+      go (inl e) w = rw (given-empty H Z N held (suc h) a e) zlen
+      go (inr e) (inl w) = rw (given-whole H Z N held (suc h) a w) (len (suc h) a)
+      go (inr e) (inr w) = rw (given-mixed H Z N held h a e w) (hlen _)
+
+module _ (H : List ℕ → List ℕ) (Z : List ℕ) (N : ℕ) (r : List ℕ) where
+  pub given-string : (s : State) (c h : ℕ) → c < N → Hangs H Z N r s c → given H Z N (s .held) h (above h c) ≡ H (string H Z N s h (above h c))
+  unfolding string
+  given-string s c zero l g =
+      rw above-zero (given-whole H Z N (s .held) zero c (omega arith) ∙ g .leaf)
+  given-string s c (suc h) l g = go (split (above (suc h) c + 2 ^ suc h) N)
+    where
+      go : (above (suc h) c + 2 ^ suc h ≤ N) ⊎ (N < above (suc h) c + 2 ^ suc h)
+          → given H Z N (s .held) (suc h) (above (suc h) c)
+          ≡ H (given H Z N (s .held) h (above (suc h) c) ++ given H Z N (s .held) h (above (suc h) c + 2 ^ h))
+      go (inl w) =
+          given-whole H Z N (s .held) (suc h) (above (suc h) c) w
+          ∙ g .up h w
+          ∙ ap₂ (λ (x y : List ℕ). H (x ++ y))
+          (sym (given-whole H Z N (s .held) h (above (suc h) c) (omega arith)))
+          (sym (given-whole H Z N (s .held) h (above (suc h) c + 2 ^ h) (omega arith)))
+      go (inr w) = given-mixed H Z N (s .held) h (above (suc h) c) (omega (arith, above-in (suc h) c)) w
+
+-- ---- the walk goes on where the strings are the same, and stops where they differ
+
+module _ (H : List ℕ → List ℕ) (Z : List ℕ) (N : ℕ) (s t : State) (c a : ℕ) where
+  walk-leaf : walkFrom H Z N s t c zero a ≡ node zero a
+  unfolding walkFrom
+  walk-leaf = refl
+
+  walk-on : (h : ℕ) → same (string H Z N s (suc h) a) (string H Z N t (suc h) a) ≡ true → walkFrom H Z N s t c (suc h) a ≡ walkFrom H Z N s t c h (down c h a)
+  unfolding walkFrom
+  walk-on h e = rw e
+
+  walk-stops : (h : ℕ) → same (string H Z N s (suc h) a) (string H Z N t (suc h) a) ≡ false → walkFrom H Z N s t c (suc h) a ≡ node (suc h) a
+  unfolding walkFrom
+  walk-stops h e = rw e
+
+-- the strings differ at a node above c, and are hashed there to one value
+record Meets (H : List ℕ → List ℕ) (Z : List ℕ) (N : ℕ) (s t : State) (c : ℕ) (n : Node) : Type 0 where
+  on-way : n .from ≡ above (n .high) c
+  differ : string H Z N s (n .high) (n .from) ≢ string H Z N t (n .high) (n .from)
+  left : given H Z N (s .held) (n .high) (n .from) ≡ H (string H Z N s (n .high) (n .from))
+  right : given H Z N (t .held) (n .high) (n .from) ≡ H (string H Z N t (n .high) (n .from))
+  agree : H (string H Z N s (n .high) (n .from)) ≡ H (string H Z N t (n .high) (n .from))
+  within : n .high ≤ levels N
+
+module _ (H : List ℕ → List ℕ) (Z : List ℕ) (N W : ℕ) (zlen : length Z ≡ W) (hlen : (x : List ℕ) → length (H x) ≡ W)
+    (r : List ℕ) (s t : State) (slen : (h a : ℕ) → length (s .held h a) ≡ W) (tlen : (h a : ℕ) → length (t .held h a) ≡ W)
+    (c : ℕ) (l : c < N) (gs : Hangs H Z N r s c) (gt : Hangs H Z N r t c) (d : s .chunk c ≢ t .chunk c) where
+  -- equal strings are made of equal hashes
+  parts : (h a : ℕ) → string H Z N s (suc h) a ≡ string H Z N t (suc h) a
+      → (given H Z N (s .held) h a ≡ given H Z N (t .held) h a) × (given H Z N (s .held) h (a + 2 ^ h) ≡ given H Z N (t .held) h (a + 2 ^ h))
+  unfolding string
+  parts h a e =
+      append-parts W _ _ _ _ (given-length H Z N W zlen hlen (s .held) slen h a) (given-length H Z N W zlen hlen (t .held) tlen h a) e
+
+  at-down : (h a : ℕ) → (given H Z N (s .held) h a ≡ given H Z N (t .held) h a) × (given H Z N (s .held) h (a + 2 ^ h) ≡ given H Z N (t .held) h (a + 2 ^ h))
+      → given H Z N (s .held) h (down c h a) ≡ given H Z N (t .held) h (down c h a)
+  at-down h a p = go (ltb c (a + 2 ^ h))
+    where
+      go : (b : Bool) → given H Z N (s .held) h (pick b a (a + 2 ^ h)) ≡ given H Z N (t .held) h (pick b a (a + 2 ^ h))
+      go true = p .0
+      go false = p .1
+
+  leaf-string : (u : State) → string H Z N u zero (above zero c) ≡ u .chunk c
+  unfolding string
+  leaf-string u = ap (u .chunk) (above-zero c)
+
+  meets-from : (h : ℕ) → h ≤ levels N → given H Z N (s .held) h (above h c) ≡ given H Z N (t .held) h (above h c)
+      → Meets H Z N s t c (walkFrom H Z N s t c h (above h c))
+  meets-from zero w e =
+      rw (walk-leaf H Z N s t c (above zero c))
+      (record {
+        on-way = refl;
+        differ = λ p. d (sym (leaf-string s) ∙ p ∙ leaf-string t);
+        left = given-string H Z N r s c zero l gs;
+        right = given-string H Z N r t c zero l gt;
+        agree = sym (given-string H Z N r s c zero l gs) ∙ e ∙ given-string H Z N r t c zero l gt;
+        within = w;
+      })
+  meets-from (suc h) w e = go (same S T) refl (meets-from h (omega arith))
+    where
+      S : List ℕ
+      S = string H Z N s (suc h) (above (suc h) c)
+
+      T : List ℕ
+      T = string H Z N t (suc h) (above (suc h) c)
+
+      go : (b : Bool) → same S T ≡ b
+          → (given H Z N (s .held) h (above h c) ≡ given H Z N (t .held) h (above h c) → Meets H Z N s t c (walkFrom H Z N s t c h (above h c)))
+          → Meets H Z N s t c (walkFrom H Z N s t c (suc h) (above (suc h) c))
+      go true f ih =
+          rw (walk-on H Z N s t c (above (suc h) c) h f, down-above h c)
+          (ih (rw (down-above h c) at (at-down h (above (suc h) c) (parts h (above (suc h) c) (same-is S T f)))))
+      go false f ih =
+          rw (walk-stops H Z N s t c (above (suc h) c) h f)
+          (record {
+            on-way = refl;
+            differ = same-differ S T f;
+            left = given-string H Z N r s c (suc h) l gs;
+            right = given-string H Z N r t c (suc h) l gt;
+            agree = sym (given-string H Z N r s c (suc h) l gs) ∙ e ∙ given-string H Z N r t c (suc h) l gt;
+            within = w;
+          })
+
+  -- the walk from the root
+  meets : Meets H Z N s t c (walk H Z N s t c)
+  unfolding walk combined
+  meets =
+      let z = above-top (levels N) c (omega (arith, levels-holds N)) in
+      rw z at (meets-from (levels N) (omega arith) (rw z (gs .top ∙ sym (gt .top))))
+
+-- it is the first such node: at each node above it on the way the strings are the same
+module _ (H : List ℕ → List ℕ) (Z : List ℕ) (N : ℕ) (s t : State) (c : ℕ) where
+  first-from : (h : ℕ) (k : ℕ) → walkFrom H Z N s t c h (above h c) .high < k → k ≤ h → string H Z N s k (above k c) ≡ string H Z N t k (above k c)
+  first-from zero k l u = absurd (omega (arith, ap (λ (n : Node). n .high) (walk-leaf H Z N s t c (above zero c))))
+  first-from (suc h) k l u = go (same S T) refl (first-from h k)
+    where
+      S : List ℕ
+      S = string H Z N s (suc h) (above (suc h) c)
+
+      T : List ℕ
+      T = string H Z N t (suc h) (above (suc h) c)
+
+      go : (b : Bool) → same S T ≡ b
+          → (walkFrom H Z N s t c h (above h c) .high < k → k ≤ h → string H Z N s k (above k c) ≡ string H Z N t k (above k c))
+          → string H Z N s k (above k c) ≡ string H Z N t k (above k c)
+      go false f ih = absurd (omega (arith, ap (λ (n : Node). n .high) (walk-stops H Z N s t c (above (suc h) c) h f)))
+      go true f ih = at (split k h)
+        where
+          at : (k ≤ h) ⊎ (h < k) → string H Z N s k (above k c) ≡ string H Z N t k (above k c)
+          at (inl v) = ih (rw (walk-on H Z N s t c (above (suc h) c) h f, down-above h c) at l) v
+          at (inr v) = let e : k ≡ suc h = omega arith in rw e (same-is S T f)
+
+  pub walk-first : c < N → (k : ℕ) → walk H Z N s t c .high < k → k ≤ levels N → string H Z N s k (above k c) ≡ string H Z N t k (above k c)
+  unfolding walk
+  walk-first l k =
+      let z = above-top (levels N) c (omega (arith, levels-holds N)) in
+      rw z at (first-from (levels N) k)
+
+module _ (H : List ℕ → List ℕ) (Z : List ℕ) (N W : ℕ) (zlen : length Z ≡ W) (hlen : (x : List ℕ) → length (H x) ≡ W)
+    (r : List ℕ) (s t : State) (slen : (h a : ℕ) → length (s .held h a) ≡ W) (tlen : (h a : ℕ) → length (t .held h a) ≡ W)
+    (c : ℕ) (l : c < N) (gs : Hangs H Z N r s c) (gt : Hangs H Z N r t c) (d : s .chunk c ≢ t .chunk c) where
+  pub clash : Clash H Z N s t c
+  unfolding names
+  clash =
+      let m = meets H Z N W zlen hlen r s t slen tlen c l gs gt d in
+      record {
+        on-way = m .on-way;
+        in-tree = m .within;
+        differ = m .differ;
+        hashed-here = m .left;
+        hashed-there = m .right;
+        one-value = m .agree;
+        first = walk-first H Z N s t c l;
+      }
+
+-- ---- the lowest chunk that differs
+
+record LowestFrom (s t : State) (i d j : ℕ) : Type 0 where
+  in-range : (i ≤ j) × (j < i + d)
+  under : (k : ℕ) → i ≤ k → k < j → s .chunk k ≡ t .chunk k
+  unlike : s .chunk j ≢ t .chunk j
+
+abbrev Says : State → State → ℕ → ℕ → Option ℕ → Type 0
+Says s t i d none = (k : ℕ) → i ≤ k → k < i + d → s .chunk k ≡ t .chunk k
+Says s t i d (some j) = LowestFrom s t i d j
+
+lowest-says : (s t : State) (d i : ℕ) → Says s t i d (lowest s t d i)
+unfolding lowest
+lowest-says s t zero i = λ k l u. absurd (omega arith)
+lowest-says s t (suc d) i = go (same (s .chunk i) (t .chunk i)) refl (lowest s t d (suc i)) (lowest-says s t d (suc i))
+  where
+    at-or-after : (P : ℕ → Type 0) (m k : ℕ) → P m → (suc m ≤ k → P k) → m ≤ k → P k
+    at-or-after P m k p f l = pair (split k m)
+      where
+        pair : (k ≤ m) ⊎ (m < k) → P k
+        pair (inl e) = let q : m ≡ k = omega arith in rw q at p
+        pair (inr e) = f e
+
+    go : (b : Bool) → same (s .chunk i) (t .chunk i) ≡ b → (o : Option ℕ) → Says s t (suc i) d o → Says s t i (suc d) (pick b o (some i))
+    go true f none g =
+        λ k l u. at-or-after (λ (m : ℕ). s .chunk m ≡ t .chunk m) i k (same-is (s .chunk i) (t .chunk i) f) (λ m. g k m (omega arith)) l
+    go true f (some j) g = record {
+      in-range = let h = g .in-range in omega arith;
+      under = λ k l u. at-or-after (λ (m : ℕ). s .chunk m ≡ t .chunk m) i k (same-is (s .chunk i) (t .chunk i) f) (λ m. g .under k m u) l;
+      unlike = g .unlike;
+    }
+    go false f o g = record {
+      in-range = omega arith;
+      under = λ k l u. absurd (omega arith);
+      unlike = same-differ (s .chunk i) (t .chunk i) f;
+    }
+
+-- ---- the claim
+
+-- Two stores under one root in which every chunk hangs.
+pub compare : (H : List ℕ → List ℕ) (Z : List ℕ) (N W : ℕ) → length Z ≡ W → ((x : List ℕ) → length (H x) ≡ W)
+    → (r : List ℕ) (s t : State) → ((h a : ℕ) → length (s .held h a) ≡ W) → ((h a : ℕ) → length (t .held h a) ≡ W)
+    → ((c : ℕ) → c < N → Hangs H Z N r s c) → ((c : ℕ) → c < N → Hangs H Z N r t c) → Compared H Z N s t
+compare H Z N W zlen hlen r s t slen tlen gs gt = go (lowest s t N 0) refl (lowest-says s t N 0)
+  where
+    go : (o : Option ℕ) → lowest s t N 0 ≡ o → Says s t 0 N o → Compared H Z N s t
+    go none e g = equal (λ k l. g k (omega arith) (omega arith))
+    go (some c) e g =
+        let l : c < N = omega (arith, g .in-range) in
+        collision c (record { found = e; in-pack = l; below = λ k u. g .under k (omega arith) u; differs = g .unlike })
+        (clash H Z N W zlen hlen r s t slen tlen c l (gs c l) (gt c l) (g .unlike))

@@ -1,0 +1,11 @@
+pub mod Pick
+pub mod Bin
+pub mod Node
+pub mod Pack
+pub mod Peaks
+pub mod Range
+pub mod Tree
+pub mod State
+pub mod Verdicts
+pub mod Walk
+pub mod Steps

@@ -1,0 +1,36 @@
+-- A pack of L bytes in chunks of S, and the least tree over its N chunks (01, "What a store works under" and "Nodes and
+-- the tree"). The sizes and limits of the yard profile stand here alone. Assumes nothing.
+use Prim.Native.Nat.{ℕ, zero, suc, _+_, _-_, _*_, _/_, _^_, min}
+use lib.Dec.{leb}
+use Rattle.tree.specs.Bin.{bin}
+use Rattle.tree.specs.Pick.{pick}
+
+-- Chunks are 1,024 bytes, the last one 1 to 1,024; a pack has at most 524,288 bytes.
+abbrev pub chunkSize : ℕ
+chunkSize = 1024
+
+abbrev pub maxLength : ℕ
+maxLength = 524288
+
+-- N is L divided by S, rounded up.
+abbrev pub chunks : ℕ → ℕ → ℕ
+chunks S L = (L + (S - 1)) / S
+
+-- The size of chunk i: 0 past the end.
+abbrev pub size : ℕ → ℕ → ℕ → ℕ
+size S L i = min S (L - S * i)
+
+-- The height of the least tree with at least N leaves, found among the heights up to d.
+unfoldable pub least : ℕ → ℕ → ℕ
+least N zero = zero
+least N (suc d) = pick (leb N (2 ^ d)) (least N d) (suc d)
+
+unfoldable pub levels : ℕ → ℕ
+levels N = least N N
+
+-- Its leaf places, and its root's number.
+abbrev pub leafPlaces : ℕ → ℕ
+leafPlaces N = 2 ^ levels N
+
+abbrev pub rootNode : ℕ → ℕ
+rootNode N = bin (levels N) 0
