@@ -1,0 +1,14 @@
+-- What the proofs of several functions cite.
+pub mod RoomLaws
+pub mod IntegrityLaws
+pub mod LoopLaws
+pub mod VerdictLaws
+pub mod CopyLaws
+pub mod StoringLaws
+pub mod WrittenLaws
+pub mod AgreeLaws
+pub mod BuildingLaws
+pub mod StartedLaws
+pub mod BuiltLaws
+pub mod AnswerLaws
+pub mod CallLaws

@@ -1,0 +1,129 @@
+-- The loops of a verdict, turn by turn. Assumes nothing.
+use mathlib.Core.Path.{_≡_, refl, sym, ap, _∙_}
+use mathlib.Core.Logic.{_≢_}
+use mathlib.Core.Bool.{Bool, true, false}
+use mathlib.Core.List.{List, [], _∷_, _++_}
+use Prim.Native.Nat.{ℕ, zero, suc, _+_, _-_, _/_, _%_, _^_, _≤_, _<_}
+use native.Mathlib.Numerals.{add-one}
+use native.Mathlib.Omega.{arith}
+use borrow.Author.Tests.{le-leb, lt-leb, eq-eqb, ne-eqb}
+use lib.Dec.{ltb, eqb}
+use Rattle.tree.specs.Pick.{pick}
+use Rattle.tree.specs.Node.{Node, above}
+use Rattle.tree.specs.Pack.{levels}
+use Rattle.tree.specs.Peaks.{peaks, siblings}
+use Rattle.tree.specs.Tree.{given}
+use Rattle.tree.specs.State.{isPeak}
+use Rattle.tree.specs.Verdicts.{every, reachFrom}
+use Rattle.tree.specs.Steps.{peakAt, siblingAt, peaksBelow}
+use Rattle.tree.proofs.NodeLaws.{down-above, parent-above}
+use Rattle.tree.proofs.PeakLaws.{peaks-bits}
+use Rattle.tree.proofs.TreeLaws.{given-whole}
+
+-- ---- a test of every peak, height by height
+
+pub step-skip : (x : ℕ) (t ok : Bool) → x ≢ 1 → ok ≡ pick (eqb x 1) (pick t ok false) ok
+step-skip x t ok d = rw (ne-eqb x 1 d)
+
+pub step-yes : (x : ℕ) (t ok : Bool) → x ≡ 1 → t ≡ true → ok ≡ pick (eqb x 1) (pick t ok false) ok
+step-yes x t ok e f = rw (eq-eqb x 1 e, f)
+
+pub step-no : (x : ℕ) (t ok : Bool) → x ≡ 1 → t ≡ false → false ≡ pick (eqb x 1) (pick t ok false) ok
+step-no x t ok e f = rw (eq-eqb x 1 e, f)
+
+pub every-none : (f : Node → Bool) (N : ℕ) → true ≡ every f (peaksBelow N 0)
+unfolding every peaksBelow
+every-none f N = refl
+
+pub every-peak : (f : Node → Bool) (N h : ℕ) (r ok : Bool) → r ≡ pick (eqb (N / 2 ^ h % 2) 1) (pick (f (peakAt N h)) ok false) ok → ok ≡ every f (peaksBelow N h)
+    → r ≡ every f (peaksBelow N (h + 1))
+unfolding every peaksBelow
+every-peak f N h r ok e q = rw (add-one h) (e ∙ go (eqb (N / 2 ^ h % 2) 1))
+  where
+    go : (t : Bool) → pick t (pick (f (peakAt N h)) ok false) ok ≡ every f (pick t (peakAt N h ∷ []) [] ++ peaksBelow N h)
+    go true = ap (λ (x : Bool). pick (f (peakAt N h)) x false) q
+    go false = q
+
+pub every-end : (f : Node → Bool) (N h : ℕ) (ok : Bool) → h ≡ suc (levels N) → ok ≡ every f (peaksBelow N h) → ok ≡ every f (peaks N)
+every-end f N h ok e q = q ∙ ap (λ (x : ℕ). every f (peaksBelow N x)) e ∙ ap (every f) (sym (peaks-bits N))
+
+-- ---- and of every sibling
+
+pub sibs-none : (f : Node → Bool) (c : ℕ) → true ≡ every f (siblings c 0 (above 0 c))
+unfolding every siblings
+sibs-none f c = refl
+
+pub sibs-more : (f : Node → Bool) (c h : ℕ) (r ok : Bool) → r ≡ pick (f (siblingAt c h)) ok false → ok ≡ every f (siblings c h (above h c))
+    → r ≡ every f (siblings c (h + 1) (above (h + 1) c))
+unfolding every siblings
+sibs-more f c h r ok e q =
+    rw (add-one h) (e ∙ ap (λ (x : Bool). pick (f (siblingAt c h)) x false) (q ∙ ap (λ (a : ℕ). every f (siblings c h a)) (sym (down-above h c))))
+
+-- ---- the least height that passes
+
+pub reach-here : (f : ℕ → Bool) (n h : ℕ) → 0 < n → f h ≡ true → reachFrom f n h ≡ h
+unfolding reachFrom
+reach-here f zero h l e = absurd (omega arith)
+reach-here f (suc n) h l e = rw e
+
+pub reach-next : (f : ℕ → Bool) (n h : ℕ) → 0 < n → f h ≡ false → reachFrom f n h ≡ reachFrom f (n - 1) (h + 1)
+unfolding reachFrom
+reach-next f zero h l e = absurd (omega arith)
+reach-next f (suc n) h l e = let q : suc n - 1 ≡ n = omega arith in rw (e, q, add-one h)
+
+pub reach-end : (f : ℕ → Bool) (n h : ℕ) → n ≤ 0 → reachFrom f n h ≡ h
+unfolding reachFrom
+reach-end f zero h l = refl
+reach-end f (suc n) h l = absurd (omega arith)
+
+-- ---- a peak of n
+
+pub peak-no : (n c h : ℕ) → n < above h c + 2 ^ h → false ≡ isPeak n h (above h c)
+peak-no n c h l = rw (lt-leb (above h c + 2 ^ h) n l)
+
+pub peak-if : (n c h : ℕ) → above h c + 2 ^ h ≤ n → ltb n (above (suc h) c + 2 ^ suc h) ≡ isPeak n h (above h c)
+peak-if n c h l = rw (le-leb (above h c + 2 ^ h) n l, parent-above h c)
+
+-- ---- the one peak of a power of two
+
+pub given-one : (H : List ℕ → List ℕ) (Z : List ℕ) (N : ℕ) (held : ℕ → ℕ → List ℕ) (t : ℕ) → N ≡ 2 ^ t → given H Z N held t 0 ≡ held t 0
+given-one H Z N held t e = given-whole H Z N held t 0 (omega arith)
+
+-- ---- what counts as trusted, by cases
+
+module _ (o p b : Bool) where
+  pub counted-yes : b ≡ true → true ≡ pick o b (pick p true b)
+  counted-yes e = sym (ap (λ (x : Bool). pick o x (pick p true x)) e ∙ go o p)
+    where
+      go : (u v : Bool) → pick u true (pick v true true) ≡ true
+      go true v = refl
+      go false true = refl
+      go false false = refl
+
+  pub counted-open : o ≡ true → b ≡ false → false ≡ pick o b (pick p true b)
+  counted-open e f = rw (e, f)
+
+  pub counted-peak : o ≡ false → b ≡ false → p ≡ pick o b (pick p true b)
+  counted-peak e f = rw (e, f) (go p)
+    where
+      go : (v : Bool) → v ≡ pick v true false
+      go true = refl
+      go false = refl
+
+module _ (o p : Bool) (x y : List ℕ) where
+  pub counted-got : o ≡ false → p ≡ true → x ≡ pick o y (pick p x y)
+  counted-got e f = rw (e, f)
+
+  pub counted-old : o ≡ false → p ≡ false → y ≡ pick o y (pick p x y)
+  counted-old e f = rw (e, f)
+
+pub right : (q : ℕ) → q % 2 ≢ 0 → q % 2 ≡ 1
+right q d = omega arith
+
+-- ---- both tests, or one
+
+pub there-yes : (p s r q : Bool) → q ≡ true → q ≡ p → r ≡ s → r ≡ pick p s false
+there-yes p s r q e f g = rw (← f, e) g
+
+pub there-no : (p s q : Bool) → q ≡ false → q ≡ p → false ≡ pick p s false
+there-no p s q e f = rw (← f, e)

@@ -1,0 +1,129 @@
+-- The loops of storing a chunk, turn by turn. Assumes nothing.
+use mathlib.Core.Path.{_≡_, refl, ap, ap₂, _∙_}
+use mathlib.Core.Logic.{_≢_}
+use mathlib.Core.Bool.{Bool, true, false}
+use mathlib.Core.List.{List, map}
+use Prim.Native.Nat.{ℕ, zero, suc, _+_, _*_, _/_, _%_, _^_, _≤_, _<_}
+use native.Mathlib.Numerals.{add-one}
+use native.Mathlib.Omega.{arith}
+use borrow.Author.Tests.{eq-eqb, ne-eqb}
+use lib.Dec.{eqb}
+use lib.Pow.{pow-pos}
+use lib.ListN.{length}
+use Rattle.hash.proofs.Promise.{sha256}
+use Rattle.bits.proofs.Promise.{bitAt, setBit, length-setBit}
+use Rattle.tree.specs.Pick.{pick}
+use Rattle.tree.specs.Bin.{bin}
+use Rattle.tree.specs.Node.{other, above}
+use Rattle.tree.specs.Pack.{chunkSize, chunks, levels}
+use Rattle.tree.specs.Peaks.{peaks}
+use Rattle.tree.specs.Tree.{climb}
+use Rattle.tree.specs.Verdicts.{got, every}
+use Rattle.tree.proofs.NodeLaws.{above-in, above-right, above-inside}
+use Rattle.store.specs.Room.{putHash}
+use Rattle.store.specs.Integrity.{Integrity}
+use Rattle.store.specs.Rooms.{Rooms, roomsOf, trustedIn, gotBy}
+use Rattle.store.specs.Storing.{Put, mark, putIf, putPeaks, putPath, putAll, copied, stored, storeSpec}
+
+-- one peak
+pub put-one : (put : Put) (l : List ℕ) {l′ : List ℕ} {b b′ : ℕ} {v v′ : List ℕ} (x : ℕ) → l′ ≡ put l b v → b ≡ b′ → v ≡ v′ → x ≡ 1 → l′ ≡ putIf put (eqb x 1) l b′ v′
+put-one put l x e f g h = rw (eq-eqb x 1 h, ← f, ← g) e
+
+pub put-none : (put : Put) (l : List ℕ) (b : ℕ) (v : List ℕ) (x : ℕ) → x ≢ 1 → l ≡ putIf put (eqb x 1) l b v
+put-none put l b v x d = rw (ne-eqb x 1 d)
+
+module _ (put : Put) (got : ℕ → ℕ → List ℕ) (N : ℕ) (l : List ℕ) where
+  pub peaks-none : l ≡ putPeaks put got N 0 l
+  unfolding putPeaks
+  peaks-none = refl
+
+  pub peaks-more : (h : ℕ) {m m′ : List ℕ} → m′ ≡ putIf put (eqb (N / 2 ^ h % 2) 1) m (bin h (above (suc h) N)) (got h (above (suc h) N)) → m ≡ putPeaks put got N h l
+      → m′ ≡ putPeaks put got N (h + 1) l
+  unfolding putPeaks
+  peaks-more h e f = rw (add-one h) (e ∙ ap (λ (x : List ℕ). putIf put (eqb (N / 2 ^ h % 2) 1) x (bin h (above (suc h) N)) (got h (above (suc h) N))) f)
+
+module _ (put : Put) (own : ℕ → List ℕ) (got : ℕ → ℕ → List ℕ) (c : ℕ) (l : List ℕ) where
+  pub path-none : l ≡ putPath put own got c 0 l
+  unfolding putPath
+  path-none = refl
+
+  pub path-more : (h : ℕ) {m m′ v : List ℕ} → m′ ≡ put (put m (bin h (above h c)) v) (bin h (other c h (above (suc h) c))) (got h (other c h (above (suc h) c)))
+      → v ≡ own h → m ≡ putPath put own got c h l → m′ ≡ putPath put own got c (h + 1) l
+  unfolding putPath
+  path-more h e g f =
+      rw (add-one h)
+      (e ∙ ap₂ (λ (x y : List ℕ). put (put x (bin h (above h c)) y) (bin h (other c h (above (suc h) c))) (got h (other c h (above (suc h) c)))) f g)
+
+-- lengths
+module _ (put : Put) (len : (l : List ℕ) (b : ℕ) (v : List ℕ) → length (put l b v) ≡ length l) where
+  len-if : (t : Bool) (l : List ℕ) (b : ℕ) (v : List ℕ) → length (putIf put t l b v) ≡ length l
+  len-if true l b v = len l b v
+  len-if false l b v = refl
+
+  pub length-peaks : (got : ℕ → ℕ → List ℕ) (N k : ℕ) (l : List ℕ) → length (putPeaks put got N k l) ≡ length l
+  unfolding putPeaks
+  length-peaks got N zero l = refl
+  length-peaks got N (suc h) l =
+      len-if (eqb (N / 2 ^ h % 2) 1) (putPeaks put got N h l) (bin h (above (suc h) N)) (got h (above (suc h) N)) ∙ length-peaks got N h l
+
+  pub length-path : (own : ℕ → List ℕ) (got : ℕ → ℕ → List ℕ) (c t : ℕ) (l : List ℕ) → length (putPath put own got c t l) ≡ length l
+  unfolding putPath
+  length-path own got c zero l = refl
+  length-path own got c (suc h) l =
+      len (put (putPath put own got c h l) (bin h (above h c)) (own h)) (bin h (other c h (above (suc h) c))) (got h (other c h (above (suc h) c)))
+      ∙ len (putPath put own got c h l) (bin h (above h c)) (own h) ∙ length-path own got c h l
+
+  pub length-open : (t : Bool) (got : ℕ → ℕ → List ℕ) (N k : ℕ) (l : List ℕ) → length (pick t l (putPeaks put got N k l)) ≡ length l
+  length-open true got N k l = refl
+  length-open false got N k l = length-peaks got N k l
+
+pub length-mark : (l : List ℕ) (b : ℕ) (v : List ℕ) → length (mark l b v) ≡ length l
+length-mark l b v = length-setBit l b
+
+-- the path's nodes within a tree of k levels
+pub own-inside : (k h c : ℕ) → h ≤ k → c < 2 ^ k → bin h (above h c) < 2 ^ suc k
+own-inside k h c l u = omega (arith, above-inside k h c l u, pow-pos h)
+
+-- a peak's, too
+pub peak-within : (k h N : ℕ) → N ≤ 2 ^ k → N / 2 ^ h % 2 ≡ 1 → bin h (above (suc h) N) < 2 ^ suc k
+peak-within k h N u b = omega (arith, above-right h N b, above-in h N, pow-pos h)
+
+-- two writes, one after the other
+pub writes : (put : Put) {l m : List ℕ} {b b′ s s′ : ℕ} (u : List ℕ) {v v′ : List ℕ} → m ≡ put l b u → b ≡ b′ → s ≡ s′ → v ≡ v′ → put m s v ≡ put (put l b′ u) s′ v′
+writes put u e f g h = rw (e, f, g, h)
+
+-- the peaks where they weren't trusted
+pub open-no : (l : List ℕ) {q b : Bool} {m x : List ℕ} → q ≡ b → q ≡ false → m ≡ x → m ≡ pick b l x
+open-no l e f g = rw (← e, f) g
+
+pub open-yes : (l x : List ℕ) {q b : Bool} → q ≡ b → q ≡ true → l ≡ pick b l x
+open-yes l x e f = rw (← e, f)
+
+-- four rooms equal, the rooms equal
+rooms-eq : {c c′ m m′ h h′ t t′ : List ℕ} → c ≡ c′ → m ≡ m′ → h ≡ h′ → t ≡ t′ → roomsOf c m h t ≡ roomsOf c′ m′ h′ t′
+rooms-eq e f g i = cc
+
+pub stored-is : (chunks map hashes trusted : List ℕ) (N c t : ℕ) (d : List ℕ) (o : Integrity) {chunks′ map′ h1 h2 t1 t2 : List ℕ} (v : List ℕ) {top : ℕ}
+    → chunks′ ≡ copied chunks (chunkSize * c) d → map′ ≡ setBit map c → top ≡ levels N → v ≡ sha256 d
+    → (h1 ≡ pick (every (trustedIn trusted) (peaks N)) hashes (putPeaks putHash (gotBy o) N (suc top) hashes))
+    × (t1 ≡ pick (every (trustedIn trusted) (peaks N)) trusted (putPeaks mark (gotBy o) N (suc top) trusted))
+    → (h2 ≡ putPath putHash (λ h. climb sha256 (gotBy o) v c h (above h c)) (gotBy o) c t h1)
+    × (t2 ≡ putPath mark (λ h. climb sha256 (gotBy o) v c h (above h c)) (gotBy o) c t t1)
+    → roomsOf chunks′ map′ h2 t2 ≡ stored (roomsOf chunks map hashes trusted) N c t d o
+unfolding stored putAll
+stored-is chunks map hashes trusted N c t d o v e f g i p q =
+    rooms-eq e f
+    (q .0 ∙ path putHash (p .0 ∙ ap (λ (x : ℕ). pick (every (trustedIn trusted) (peaks N)) hashes (putPeaks putHash (gotBy o) N (suc x) hashes)) g))
+    (q .1 ∙ path mark (p .1 ∙ ap (λ (x : ℕ). pick (every (trustedIn trusted) (peaks N)) trusted (putPeaks mark (gotBy o) N (suc x) trusted)) g))
+  where
+    path : (put : Put) {l l′ : List ℕ} → l ≡ l′ → putPath put (λ h. climb sha256 (gotBy o) v c h (above h c)) (gotBy o) c t l ≡ putPath put (λ h. climb sha256 (gotBy o) (sha256 d) c h (above h c)) (gotBy o) c t l′
+    path put j = ap₂ (λ (x y : List ℕ). putPath put (λ h. climb sha256 (gotBy o) x c h (above h c)) (gotBy o) c t y) i j
+
+module _ (w : Rooms) (N c t : ℕ) (d : List ℕ) (o : Integrity) where
+  pub store-new : {x : Rooms} {q : Bool} → q ≡ bitAt (w .map) c → q ≡ false → x ≡ stored w N c t d o → x ≡ storeSpec w N c t d o
+  unfolding storeSpec
+  store-new e f g = rw (← e, f) g
+
+  pub store-held : {q : Bool} → q ≡ bitAt (w .map) c → q ≡ true → w ≡ storeSpec w N c t d o
+  unfolding storeSpec
+  store-held e f = rw (← e, f)

@@ -1,0 +1,62 @@
+use mathlib.Core.List.{map}
+use lib.ListN.{set}
+use Rattle.hash.proofs.Promise.{bytesOf, words}
+use Rattle.tree.specs.Pack.{chunks, levels}
+use Rattle.tree.specs.Peaks.{before}
+use Rattle.store.specs.Integrity.{integrityOf}
+use Rattle.store.proofs.StoringLaws.{stored-is}
+use borrow.Author.Needs.{needs}
+use Rattle.store.proofs.storing.put.Statement.{statement}
+use Rattle.store.proofs.storing.put.Tie as tie
+
+levels-requires : tie.Need-levels-requires
+levels-requires c κs = search needs
+
+mul-copy-in : tie.Need-mul-copy-in
+mul-copy-in c = search needs
+
+copy-in-requires : tie.Need-copy-in-requires
+copy-in-requires c κs = search needs
+
+set-requires : tie.Need-set-requires
+set-requires c κs = search needs
+
+put-opening-requires : tie.Need-put-opening-requires
+put-opening-requires c κs = search needs
+
+put-path-requires : tie.Need-put-path-requires
+put-path-requires c κs = search needs
+
+same-length : tie.Need-same-length
+same-length c = search needs
+
+same-length-2 : tie.Need-same-length-2
+same-length-2 c = search needs
+
+same-length-3 : tie.Need-same-length-3
+same-length-3 c = search needs
+
+same-length-4 : tie.Need-same-length-4
+same-length-4 c = search needs
+
+returns : tie.Need-returns
+returns c =     let a = c .before .before .before .before .before .before .before .before .before .before .before .before .before .before .before .before .before .before .before .before .before .before .before .before .before .before .before .before .before .before .args in
+    let o = integrityOf (a .entries .now) (a .bytes .now) in
+    stored-is (a .chunks .now) (a .map .now) (a .hashes .now) (a .trusted .now) (a .n) (a .c) (a .t) (a .chunk .now) o (bytesOf (a .leaf .words))
+    (c .before .before .before .before .before .before .before .before .before .before .before .before .before .before .before .before .before .before .before .before .copy-in .ensures) (c .before .before .before .before .before .before .before .before .before .before .before .before .before .before .before .before .set .ensures) (c .before .before .before .before .before .before .before .before .before .before .before .before .before .before .before .before .before .before .before .before .before .before .levels .ensures .0) (c .before .before .before .before .before .before .before .before .before .before .before .before .before .before .before .before .before .before .before .before .before .before .before .before .before .before .before .before .before .before .pre .2) (c .before .before .before .before .before .before .before .before .before .before .before .put-opening .ensures) (c .before .before .before .before .put-path .ensures)
+
+pub put-spec : {M : Type 1} → statement M
+put-spec =
+    tie.close
+    (tie.spec
+    levels-requires
+    mul-copy-in
+    copy-in-requires
+    set-requires
+    put-opening-requires
+    put-path-requires
+    same-length
+    same-length-2
+    same-length-3
+    same-length-4
+    returns)

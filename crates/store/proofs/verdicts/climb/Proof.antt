@@ -1,0 +1,57 @@
+use mathlib.Core.Path.{_≡_, refl, sym, ap, _∙_}
+use mathlib.Core.List.{List}
+use Prim.Native.Nat.{ℕ, suc, _-_, _≤_}
+use native.Mathlib.Numerals.{add-one}
+use native.Mathlib.Omega.{arith}
+use Rattle.hash.proofs.Promise.{sha256, bytesOf, words}
+use Rattle.tree.specs.Node.{other, above}
+use Rattle.tree.specs.Peaks.{before}
+use Rattle.tree.specs.Tree.{joined, climb}
+use Rattle.store.specs.Integrity.{integrityOf}
+use Rattle.store.specs.Rooms.{gotBy}
+use Rattle.tree.proofs.TreeLaws.{climb-suc}
+use Rattle.store.proofs.verdicts.climb.Statement.{statement}
+use Rattle.store.proofs.verdicts.climb.Tie as tie
+
+abbrev Inv-loop : tie.InvT-loop
+Inv-loop entries bytes c t acc₀ h₀ acc h = (h ≤ t) × (bytesOf (acc .words) ≡ climb sha256 (gotBy (integrityOf entries bytes)) (bytesOf (acc₀ .words)) c h (above h c))
+
+abbrev μ-loop : tie.MeasureT-loop
+μ-loop entries bytes c t acc₀ h₀ acc h = t - h
+
+loop-holds : tie.Need-loop-holds Inv-loop μ-loop
+unfolding climb
+loop-holds c = (omega arith, refl)
+
+step-requires : tie.Need-step-requires Inv-loop μ-loop
+step-requires c κs = omega arith
+
+add-h : tie.Need-add-h Inv-loop μ-loop
+add-h c = record { fits = omega arith }
+
+loop-less : tie.Need-loop-less Inv-loop μ-loop
+loop-less c = omega arith
+
+loop-again : tie.Need-loop-again Inv-loop μ-loop
+loop-again c =     let a = c .before .before .before .before .before .args in
+    let o = integrityOf (a .entries .now) (a .bytes .now) in
+    let l = c .before .before .loop in
+    (
+      omega arith,
+      rw (add-one (l .h))
+          (c .step .ensures
+          ∙ ap (λ (x : List ℕ). joined sha256 (a .c) (l .h) (above (suc (l .h)) (a .c)) x (gotBy o (l .h) (other (a .c) (l .h) (above (suc (l .h)) (a .c))))) (l .inv .1)
+          ∙ sym (climb-suc sha256 (gotBy o) (bytesOf (a .v .words)) (a .c) (l .h))),
+    )
+
+returns : tie.Need-returns Inv-loop μ-loop
+returns c =     let a = c .before .before .before .before .args in
+    let o = integrityOf (a .entries .now) (a .bytes .now) in
+    let l = c .before .loop in
+    let e : l .h ≡ a .t = omega arith in
+    l .inv .1 ∙ ap (λ (x : ℕ). climb sha256 (gotBy o) (bytesOf (a .v .words)) (a .c) x (above x (a .c))) e
+
+pub climb-spec : {M : Type 1} → statement M
+climb-spec =
+    tie.close
+    (tie.spec Inv-loop μ-loop loop-holds step-requires add-h loop-less loop-again returns)

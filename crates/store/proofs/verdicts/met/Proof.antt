@@ -1,0 +1,22 @@
+use mathlib.Core.Path.{ap₂, _∙_}
+use Rattle.hash.proofs.Promise.{same}
+use Rattle.tree.specs.Peaks.{before}
+use Rattle.tree.specs.Tree.{climb}
+use borrow.Author.Needs.{needs}
+use Rattle.store.proofs.verdicts.met.Statement.{statement}
+use Rattle.store.proofs.verdicts.met.Tie as tie
+
+climb-requires : tie.Need-climb-requires
+climb-requires c κs = search needs
+
+target-requires : tie.Need-target-requires
+target-requires c κs = search needs
+
+same-requires : tie.Need-same-requires
+same-requires c κs = search needs
+
+returns : tie.Need-returns
+returns c = c .same .ensures ∙ ap₂ same (c .before .before .climb .ensures) (c .before .target .ensures)
+
+pub met-spec : {M : Type 1} → statement M
+met-spec = tie.close (tie.spec climb-requires target-requires same-requires returns)

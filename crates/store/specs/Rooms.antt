@@ -1,0 +1,61 @@
+-- The rooms of a store (01, "What a store works under") and what they hold, node by node and chunk by chunk. Assumes nothing.
+use Prim.Native.Nat.{ℕ, _*_}
+use mathlib.Core.List.{List}
+use mathlib.Core.Path.{_≡_}
+use mathlib.Core.Bool.{Bool}
+use lib.ListN.{take, drop}
+use Rattle.bits.proofs.Promise.{bitAt}
+use Rattle.hash.proofs.Promise.{sha256}
+use Rattle.tree.specs.Pick.{pick}
+use Rattle.tree.specs.Bin.{bin}
+use Rattle.tree.specs.Node.{Node, num}
+use Rattle.tree.specs.Pack.{chunkSize, chunks, size}
+use Rattle.tree.specs.State.{State, Sound, isPeak}
+use Rattle.store.specs.Room.{filler, hashIn}
+use Rattle.store.specs.Integrity.{Integrity, came, gotAt}
+
+-- Chunk bytes, the chunk map, the hashes and the trusted nodes.
+pub record Rooms : Type 0 where
+  pub bytes : List ℕ
+  pub map : List ℕ
+  pub hashes : List ℕ
+  pub trusted : List ℕ
+
+abbrev pub roomsOf : List ℕ → List ℕ → List ℕ → List ℕ → Rooms
+roomsOf c m h t = record { bytes = c; map = m; hashes = h; trusted = t }
+
+-- The number of chunks of a pack of L bytes.
+abbrev pub countOf : ℕ → ℕ
+countOf L = chunks chunkSize L
+
+-- The bytes of chunk x of a pack of L bytes.
+abbrev pub chunkIn : ℕ → List ℕ → ℕ → List ℕ
+chunkIn L s x = take (size chunkSize L x) (drop (chunkSize * x) s)
+
+-- What the rooms hold of such a pack.
+abbrev pub stateOf : ℕ → Rooms → State
+stateOf L w = record {
+  held = λ h a. hashIn (w .hashes) (bin h a);
+  trust = λ h a. bitAt (w .trusted) (bin h a);
+  has = λ x. bitAt (w .map) x;
+  chunk = λ x. chunkIn L (w .bytes) x;
+}
+
+-- A store under the order of root r and length L is sound.
+unfoldable pub SoundRooms : ℕ → List ℕ → Rooms → Type 0
+SoundRooms L r w = Sound sha256 filler (countOf L) r (stateOf L w)
+
+-- ---- by node
+
+abbrev pub trustedIn : List ℕ → Node → Bool
+trustedIn trusted n = bitAt trusted (num n)
+
+abbrev pub cameIn : Integrity → Node → Bool
+cameIn o n = came o (num n)
+
+-- The hash that came, or that of the room.
+abbrev pub gotBy : Integrity → ℕ → ℕ → List ℕ
+gotBy o h a = gotAt o (bin h a)
+
+abbrev pub heldBy : List ℕ → ℕ → ℕ → List ℕ
+heldBy hashes h a = hashIn hashes (bin h a)

@@ -1,0 +1,117 @@
+// The calls on the rooms: start a store, build a whole one, take a chunk. Any order, any rooms, any numbers and any bytes
+// get an answer, and a refusal changes nothing.
+ghost use mathlib.Core.Path.{_≡_};
+ghost use Prim.Native.Nat.{_+_, _*_, _<_, _≤_};
+ghost use lib.ListN.{length};
+ghost use Rattle.hash.proofs.Promise.{bytesOf};
+ghost use Rattle.tree.specs.Pack.{chunkSize};
+ghost use Rattle.store.specs.Integrity.{integrityOf};
+ghost use Rattle.store.specs.Rooms.{roomsOf};
+ghost use Rattle.store.specs.Building.{rootOf};
+ghost use Rattle.store.specs.Calls.{outOf, startSpec, buildSpec, foundRoot, settleSpec, takeSpec};
+use crate::answers;
+use crate::building;
+use crate::storing;
+use crate::verdicts;
+use hash::value;
+use hash::value::HashValue;
+use tree::verdict::Verdict;
+
+// What a store works under: the root's hash and the pack's length.
+pub struct Order {
+    pub root: HashValue,
+    pub length: u32,
+}
+
+// What building gives back: its answer and the root found; the filler where it was refused.
+pub struct Built {
+    pub answer: u32,
+    pub root: HashValue,
+}
+
+// Starts a store under an order.
+pub fn start(order: Order, chunks: &[u8], map: &mut [u32], hashes: &mut [u32], trusted: &mut [u32]) -> u32
+    ensures { λ r. ⌜ outOf r (roomsOf (now (chunks .entry)) (now (map .exit)) (now (hashes .exit)) (now (trusted .exit))) ≡ startSpec (roomsOf (now (chunks .entry)) (now (map .entry)) (now (hashes .entry)) (now (trusted .entry))) (bytesOf (order .root .words)) (order .length) ⌝ }
+{
+    let length = order.length;
+    let root = order.root;
+    let refused = answers::order_answer(length, chunks.len(), map.len(), hashes.len(), trusted.len());
+    if refused != 0 {
+        return refused;
+    }
+    building::start(map, hashes, trusted, root, tree::pack::chunk_count(length));
+    0
+}
+
+// Builds a whole store of a length from its content.
+pub fn build(length: u32, chunks: &mut [u8], map: &mut [u32], hashes: &mut [u32], trusted: &mut [u32], content: &[u8]) -> Built
+    ensures { λ r. ⌜ (outOf (r .answer) (roomsOf (now (chunks .exit)) (now (map .exit)) (now (hashes .exit)) (now (trusted .exit))) ≡ buildSpec (roomsOf (now (chunks .entry)) (now (map .entry)) (now (hashes .entry)) (now (trusted .entry))) length (now (content .entry))) × (bytesOf (r .root .words) ≡ foundRoot (r .answer) (rootOf (now (content .entry)))) ⌝ }
+{
+    let refused = answers::build_answer(length, content.len(), chunks.len(), map.len(), hashes.len(), trusted.len());
+    if refused != 0 {
+        return Built {
+            answer: refused,
+            root: value::zero(),
+        };
+    }
+    let n = tree::pack::chunk_count(length);
+    let root = building::build(chunks, map, hashes, trusted, n, content);
+    Built {
+        answer: 0,
+        root: root,
+    }
+}
+
+// The verdict's number, and the chunk stored where it fits.
+fn settle(
+    chunks: &mut [u8],
+    map: &mut [u32],
+    hashes: &mut [u32],
+    trusted: &mut [u32],
+    root: HashValue,
+    n: u32,
+    c: u32,
+    chunk: &[u8],
+    entries: &[u64],
+    bytes: &[u8],
+) -> u32
+    requires { ⌜ (c < n) × (chunkSize * c + length (now chunk) ≤ length (now chunks)) ⌝ }
+    ensures { λ r. ⌜ outOf r (roomsOf (now (chunks .exit)) (now (map .exit)) (now (hashes .exit)) (now (trusted .exit))) ≡ settleSpec (roomsOf (now (chunks .entry)) (now (map .entry)) (now (hashes .entry)) (now (trusted .entry))) (bytesOf (root .words)) n c (now (chunk .entry)) (integrityOf (now (entries .entry)) (now (bytes .entry))) ⌝ }
+{
+    let judged = verdicts::judge(hashes, trusted, root, n, c, chunk, entries, bytes);
+    let v = judged.verdict;
+    let leaf = judged.leaf;
+    match v {
+        Verdict::Fits(t) => {
+            storing::store(chunks, map, hashes, trusted, n, c, t, leaf, chunk, entries, bytes);
+            0
+        }
+        Verdict::Missing => 9,
+        Verdict::WrongPeaks => 10,
+        Verdict::WrongClimb => 10,
+    }
+}
+
+// Takes chunk c with the hashes that came: stores it if it fits.
+pub fn take(
+    order: Order,
+    chunks: &mut [u8],
+    map: &mut [u32],
+    hashes: &mut [u32],
+    trusted: &mut [u32],
+    c: u32,
+    chunk: &[u8],
+    entries: &[u64],
+    bytes: &[u8],
+) -> u32
+    ensures { λ r. ⌜ outOf r (roomsOf (now (chunks .exit)) (now (map .exit)) (now (hashes .exit)) (now (trusted .exit))) ≡ takeSpec (roomsOf (now (chunks .entry)) (now (map .entry)) (now (hashes .entry)) (now (trusted .entry))) (bytesOf (order .root .words)) (order .length) c (now (chunk .entry)) (integrityOf (now (entries .entry)) (now (bytes .entry))) ⌝ }
+{
+    let length = order.length;
+    let root = order.root;
+    let refused = answers::take_answer(length, chunks.len(), map.len(), hashes.len(), trusted.len(), c, chunk.len());
+    if refused != 0 {
+        return refused;
+    }
+    let n = tree::pack::chunk_count(length);
+    settle(chunks, map, hashes, trusted, root, n, c, chunk, entries, bytes)
+}
