@@ -74,8 +74,8 @@ module _ (w : Rooms) (L k : ℕ) (s : List ℕ)
       → (n ≡ countOf (length s)) × (16 * leafPlaces n ≤ length (w .hashes)) × (length s ≤ length (w .bytes))
   unfolding buildAnswer
   build-facts z n ne =
-      let p = both-zero _ _ (sym ke ∙ z) in
-      let q = both-zero _ _ (p .0) in
+      let p = both-zero (earlier (lengthAnswer L) (refuse (not (eqb (length s) L)) 12 0)) (roomAnswer L (length (w .bytes)) (length (w .map)) (length (w .hashes)) (length (w .trusted))) (sym ke ∙ z) in
+      let q = both-zero (lengthAnswer L) (refuse (not (eqb (length s) L)) 12 0) (p .0) in
       let e = same-length L (length s) (q .1) in
       let f = room-facts L (length (w .bytes)) (length (w .map)) (length (w .hashes)) (length (w .trusted)) (p .1) in
       (ne ∙ ap countOf (sym e), rw ne (f .2), omega (arith, e, f .0))
