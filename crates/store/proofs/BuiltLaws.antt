@@ -41,7 +41,7 @@ tree-is : (s : List ℕ) (h a : ℕ) → tree sha256 filler (countOf (length s))
 unfolding treeOf
 tree-is s h a = refl
 
-map-built : (s : List ℕ) (w : Rooms) (x : ℕ) → x < countOf (length s) → countOf (length s) ≤ length (w .map) * 32 → true ≡ stateOf (length s) (buildRooms w s) .has x
+pub map-built : (s : List ℕ) (w : Rooms) (x : ℕ) → x < countOf (length s) → countOf (length s) ≤ length (w .map) * 32 → true ≡ stateOf (length s) (buildRooms w s) .has x
 unfolding buildRooms
 map-built s w x i m =
     sym (bitAt-setRange-in (clearRow (w .map) (countOf (length s))) 0 (countOf (length s)) x (omega arith) (omega arith) (rw (length-cleared (w .map) (countOf (length s))) (omega arith)))

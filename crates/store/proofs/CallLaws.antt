@@ -59,6 +59,13 @@ module _ (w : Rooms) (r : List ℕ) (L k : ℕ) (ke : k ≡ roomsAnswer L w) whe
 
 -- ---- building
 
+pub content-long : (L n : ℕ) → refuse (not (eqb n L)) 12 0 ≡ 0 → n ≡ L
+content-long L n e = go (eqb n L) refl e
+  where
+    go : (b : Bool) → eqb n L ≡ b → refuse (not b) 12 0 ≡ 0 → n ≡ L
+    go true q e = eqb-true n L q
+    go false q e = absurd (omega arith)
+
 module _ (w : Rooms) (L k : ℕ) (s : List ℕ)
     (ke : k ≡ buildAnswer L (length s) (length (w .bytes)) (length (w .map)) (length (w .hashes)) (length (w .trusted))) where
   pub build-not : k ≢ 0 → outOf k w ≡ buildSpec w L s
@@ -76,16 +83,9 @@ module _ (w : Rooms) (L k : ℕ) (s : List ℕ)
   build-facts z n ne =
       let p = both-zero (earlier (lengthAnswer L) (refuse (not (eqb (length s) L)) 12 0)) (roomAnswer L (length (w .bytes)) (length (w .map)) (length (w .hashes)) (length (w .trusted))) (sym ke ∙ z) in
       let q = both-zero (lengthAnswer L) (refuse (not (eqb (length s) L)) 12 0) (p .0) in
-      let e = same-length L (length s) (q .1) in
+      let e = content-long L (length s) (q .1) in
       let f = room-facts L (length (w .bytes)) (length (w .map)) (length (w .hashes)) (length (w .trusted)) (p .1) in
       (ne ∙ ap countOf (sym e), rw ne (f .2), omega (arith, e, f .0))
-    where
-      same-length : (L n : ℕ) → refuse (not (eqb n L)) 12 0 ≡ 0 → n ≡ L
-      same-length L n e = go (eqb n L) refl e
-        where
-          go : (b : Bool) → eqb n L ≡ b → refuse (not b) 12 0 ≡ 0 → n ≡ L
-          go true q e = eqb-true n L q
-          go false q e = absurd (omega arith)
 
 pub root-not : (k : ℕ) (r : List ℕ) {x : List ℕ} → k ≢ 0 → x ≡ filler → x ≡ foundRoot k r
 root-not zero r d e = absurd (d refl)

@@ -12,3 +12,7 @@ pub mod StartedLaws
 pub mod BuiltLaws
 pub mod AnswerLaws
 pub mod CallLaws
+pub mod BegunLaws
+pub mod TakenLaws
+pub mod AlikeLaws
+pub mod Promise

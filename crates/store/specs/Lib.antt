@@ -6,3 +6,4 @@ pub mod Storing
 pub mod Building
 pub mod Answers
 pub mod Calls
+pub mod Whole

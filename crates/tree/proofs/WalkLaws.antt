@@ -15,7 +15,7 @@ use Rattle.tree.specs.Node.{Node, node, down, above}
 use Rattle.tree.specs.Pack.{levels}
 use Rattle.tree.specs.Tree.{given, combined}
 use Rattle.tree.specs.State.{State}
-use Rattle.tree.specs.Walk.{Hangs, string, walkFrom, walk, names, Clash, lowest, Compared, equal, collision}
+use Rattle.tree.specs.Walk.{Hangs, string, walkFrom, walk, names, Clash, lowest, Compared, equal, clashing}
 use Rattle.tree.proofs.NodeLaws.{split, above-in, down-above, above-top, above-zero}
 use Rattle.tree.proofs.PackLaws.{levels-holds}
 use Rattle.tree.proofs.TreeLaws.{given-empty, given-whole, given-mixed}
@@ -247,5 +247,5 @@ compare H Z N W zlen hlen r s t slen tlen gs gt = go (lowest s t N 0) refl (lowe
     go none e g = equal (λ k l. g k (omega arith) (omega arith))
     go (some c) e g =
         let l : c < N = omega (arith, g .in-range) in
-        collision c (record { found = e; in-pack = l; below = λ k u. g .under k (omega arith) u; differs = g .unlike })
+        clashing c (record { found = e; in-pack = l; below = λ k u. g .under k (omega arith) u; differs = g .unlike })
         (clash H Z N W zlen hlen r s t slen tlen c l (gs c l) (gt c l) (g .unlike))

@@ -83,4 +83,4 @@ pub record Lowest (N : ℕ) (s t : State) (c : ℕ) : Type 0 where
 -- Two stores compared: all chunks are the same, or the walk to the lowest that differs names a collision.
 pub data Compared (H : List ℕ → List ℕ) (Z : List ℕ) (N : ℕ) (s t : State) : Type 0 where
   equal : ((k : ℕ) → k < N → s .chunk k ≡ t .chunk k) → Compared H Z N s t
-  collision : (c : ℕ) → Lowest N s t c → Clash H Z N s t c → Compared H Z N s t
+  clashing : (c : ℕ) → Lowest N s t c → Clash H Z N s t c → Compared H Z N s t

@@ -1,0 +1,146 @@
+-- A store that was started or built is running, with an empty map or a full one. Assumes nothing.
+use mathlib.Core.Path.{_≡_, refl, sym, ap, _∙_}
+use mathlib.Core.Bool.{false, not}
+use mathlib.Core.List.{List, map}
+use Prim.Native.Nat.{ℕ, zero, suc, _*_, _≤_, _<_}
+use native.Mathlib.Omega.{arith}
+use lib.Dec.{eqb}
+use lib.ListN.{length}
+use lib.Seq.{length-paste}
+use Rattle.bits.proofs.Promise.{bitAt, length-setBit, length-setRange, row-room}
+use Rattle.tree.specs.Pack.{levels, leafPlaces, rootNode}
+use Rattle.store.specs.Room.{putHash}
+use Rattle.store.specs.Rooms.{Rooms, countOf}
+use Rattle.store.specs.Storing.{mark, copied}
+use Rattle.store.specs.Building.{clearRow, startRooms, treeOf, rootOf, putLevels, buildRooms}
+use Rattle.store.specs.Whole.{Roomy, Running, Whole}
+use Rattle.store.specs.Answers.{refuse, earlier, lengthAnswer, roomAnswer, orderAnswer}
+use Rattle.store.specs.Calls.{decide, roomsAnswer, startSpec, buildAnswer, buildSpec}
+use Rattle.store.proofs.RoomLaws.{Digest, length-putHash}
+use Rattle.store.proofs.StoringLaws.{length-mark}
+use Rattle.store.proofs.BuildingLaws.{length-levels}
+use Rattle.store.proofs.StartedLaws.{cleared, length-cleared, start-sound}
+use Rattle.store.proofs.BuiltLaws.{map-built, build-sound}
+use Rattle.store.proofs.AnswerLaws.{both-zero, room-facts}
+use Rattle.store.proofs.CallLaws.{content-long}
+
+-- ---- rooms that are large enough
+
+pub roomy-is : (L : ℕ) (w : Rooms) → roomAnswer L (length (w .bytes)) (length (w .map)) (length (w .hashes)) (length (w .trusted)) ≡ 0 → Roomy L w
+roomy-is L w e =
+    let f = room-facts L (length (w .bytes)) (length (w .map)) (length (w .hashes)) (length (w .trusted)) e in
+    record { bytes-in = f .0; map-in = f .1; hashes-in = f .2; trusted-in = f .3 }
+
+pub roomy-order : (L : ℕ) (w : Rooms) → roomsAnswer L w ≡ 0 → Roomy L w
+unfolding orderAnswer
+roomy-order L w e =
+    roomy-is L w (both-zero (lengthAnswer L) (roomAnswer L (length (w .bytes)) (length (w .map)) (length (w .hashes)) (length (w .trusted))) e .1)
+
+-- rooms of the same lengths
+pub record SameSizes (w v : Rooms) : Type 0 where
+  pub bytes-long : length (v .bytes) ≡ length (w .bytes)
+  pub map-long : length (v .map) ≡ length (w .map)
+  pub hashes-long : length (v .hashes) ≡ length (w .hashes)
+  pub trusted-long : length (v .trusted) ≡ length (w .trusted)
+
+pub roomy-sizes : (L : ℕ) (w v : Rooms) → SameSizes w v → Roomy L w → Roomy L v
+roomy-sizes L w v s R = record {
+  bytes-in = omega (arith, s .bytes-long, R .bytes-in);
+  map-in = omega (arith, s .map-long, R .map-in);
+  hashes-in = omega (arith, s .hashes-long, R .hashes-in);
+  trusted-in = omega (arith, s .trusted-long, R .trusted-in);
+}
+
+-- ---- starting
+
+module _ (w : Rooms) (r : List ℕ) (L : ℕ) where
+  start-sizes : SameSizes w (startRooms w (countOf L) r)
+  unfolding startRooms
+  start-sizes = record {
+    bytes-long = refl;
+    map-long = length-cleared (w .map) (countOf L);
+    hashes-long = length-putHash (w .hashes) (rootNode (countOf L)) r;
+    trusted-long =
+        length-setBit (clearRow (w .trusted) (2 * leafPlaces (countOf L))) (rootNode (countOf L))
+        ∙ length-cleared (w .trusted) (2 * leafPlaces (countOf L));
+  }
+
+  starts : startSpec w r L .answer ≡ 0 → (roomsAnswer L w ≡ 0) × (startSpec w r L .rooms ≡ startRooms w (countOf L) r)
+  unfolding startSpec
+  starts = go (roomsAnswer L w)
+    where
+      go : (n : ℕ) → decide n w (startRooms w (countOf L) r) .answer ≡ 0 → (n ≡ 0) × (decide n w (startRooms w (countOf L) r) .rooms ≡ startRooms w (countOf L) r)
+      go zero e = (refl, refl)
+      go (suc n) e = absurd (omega arith)
+
+  pub start-running : Digest r → startSpec w r L .answer ≡ 0 → Running L r (startSpec w r L .rooms)
+  start-running D e =
+      let s = starts e in
+      let R = roomy-order L w (s .0) in
+      rw (s .1)
+      (record {
+        roomy = roomy-sizes L w (startRooms w (countOf L) r) start-sizes R;
+        sound = start-sound L w (countOf L) r refl D (omega (arith, R .hashes-in)) (omega (arith, row-room (w .trusted) (2 * leafPlaces (countOf L)) (R .trusted-in))) (row-room (w .map) (countOf L) (R .map-in));
+      })
+
+  -- it has no chunk in its map, and its bytes are as they were
+  pub start-empty : startSpec w r L .answer ≡ 0 → (x : ℕ) → x < countOf L → bitAt (startSpec w r L .rooms .map) x ≡ false
+  unfolding startRooms
+  start-empty e x l = ap (λ (v : Rooms). bitAt (v .map) x) (starts e .1) ∙ cleared (w .map) (countOf L) x l
+
+-- ---- building
+
+module _ (w : Rooms) (L : ℕ) (s : List ℕ) where
+  build-sizes : length s ≤ length (w .bytes) → SameSizes w (buildRooms w s)
+  unfolding buildRooms copied
+  build-sizes l = record {
+    bytes-long = length-paste (w .bytes) 0 s (length s) (omega arith) (omega arith);
+    map-long = length-setRange (clearRow (w .map) (countOf (length s))) 0 (countOf (length s)) ∙ length-cleared (w .map) (countOf (length s));
+    hashes-long =
+        length-putHash (putLevels putHash (treeOf s) (countOf (length s)) (suc (levels (countOf (length s)))) (w .hashes)) (rootNode (countOf (length s))) (rootOf s)
+        ∙ length-levels putHash (treeOf s) length-putHash (countOf (length s)) (suc (levels (countOf (length s)))) (w .hashes);
+    trusted-long =
+        length-setBit (putLevels mark (treeOf s) (countOf (length s)) (suc (levels (countOf (length s)))) (clearRow (w .trusted) (2 * leafPlaces (countOf (length s))))) (rootNode (countOf (length s)))
+        ∙ length-levels mark (treeOf s) length-mark (countOf (length s)) (suc (levels (countOf (length s)))) (clearRow (w .trusted) (2 * leafPlaces (countOf (length s))))
+        ∙ length-cleared (w .trusted) (2 * leafPlaces (countOf (length s)));
+  }
+
+  abbrev answers : ℕ
+  answers = buildAnswer L (length s) (length (w .bytes)) (length (w .map)) (length (w .hashes)) (length (w .trusted))
+
+  builds : buildSpec w L s .answer ≡ 0 → (answers ≡ 0) × (buildSpec w L s .rooms ≡ buildRooms w s)
+  unfolding buildSpec
+  builds = go answers
+    where
+      go : (n : ℕ) → decide n w (buildRooms w s) .answer ≡ 0 → (n ≡ 0) × (decide n w (buildRooms w s) .rooms ≡ buildRooms w s)
+      go zero e = (refl, refl)
+      go (suc n) e = absurd (omega arith)
+
+  -- the content has the order's length, and the rooms are large enough
+  build-means : answers ≡ 0 → (length s ≡ L) × Roomy L w
+  unfolding buildAnswer
+  build-means e =
+      let p = both-zero (earlier (lengthAnswer L) (refuse (not (eqb (length s) L)) 12 0)) (roomAnswer L (length (w .bytes)) (length (w .map)) (length (w .hashes)) (length (w .trusted))) e in
+      let q = both-zero (lengthAnswer L) (refuse (not (eqb (length s) L)) 12 0) (p .0) in
+      (content-long L (length s) (q .1), roomy-is L w (p .1))
+
+  pub build-running : buildSpec w L s .answer ≡ 0 → (length s ≡ L) × Running L (rootOf s) (buildSpec w L s .rooms)
+  build-running e =
+      let b = builds e in
+      let m = build-means (b .0) in
+      let R : Roomy (length s) w = rw (m .0) (m .1) in
+      let G : Running (length s) (rootOf s) (buildRooms w s) = record {
+        roomy = roomy-sizes (length s) w (buildRooms w s) (build-sizes (R .bytes-in)) R;
+        sound = build-sound w s (R .bytes-in) (omega (arith, R .hashes-in)) (omega (arith, row-room (w .trusted) (2 * leafPlaces (countOf (length s))) (R .trusted-in))) (row-room (w .map) (countOf (length s)) (R .map-in));
+      } in
+      (m .0, rw (b .1, ← (m .0)) G)
+
+  -- it has all chunks in its map
+  pub build-whole : buildSpec w L s .answer ≡ 0 → Whole L (buildSpec w L s .rooms)
+  unfolding Whole
+  build-whole e x l =
+      let b = builds e in
+      let m = build-means (b .0) in
+      let R : Roomy (length s) w = rw (m .0) (m .1) in
+      let k : x < countOf (length s) = rw (m .0) l in
+      ap (λ (v : Rooms). bitAt (v .map) x) (b .1) ∙ sym (map-built s w x k (row-room (w .map) (countOf (length s)) (R .map-in)))

@@ -1,0 +1,93 @@
+-- What the crates above know of this one: the theorems on a running store, and of its definitions the names passed on here.
+-- Assumes nothing.
+use mathlib.Core.Path.{_≡_}
+use mathlib.Core.Logic.{_≢_}
+use mathlib.Core.Bool.{true, false}
+use mathlib.Core.List.{List, map}
+use Prim.Native.Nat.{ℕ, _<_}
+use lib.Dec.{eqb}
+use lib.ListN.{length}
+use Rattle.hash.proofs.Promise.{bytesOf}
+use Rattle.bits.proofs.Promise.{bitAt}
+use Rattle.tree.specs.Pick.{pick}
+use Rattle.tree.specs.Pack.{chunkSize, size}
+use Rattle.store.proofs.RoomLaws.{Digest, digest-words}
+use Rattle.store.proofs.BegunLaws.{start-running, start-empty, build-running, build-whole}
+use Rattle.store.proofs.TakenLaws.{take-refused-same, take-means, take-sizes, take-running, take-map, take-bytes}
+use Rattle.store.proofs.AlikeLaws.{hangs, alike}
+pub use Rattle.store.specs.Room.{filler, hashIn}
+pub use Rattle.store.specs.Integrity.{Integrity, integrityOf}
+pub use Rattle.store.specs.Rooms.{Rooms, roomsOf, countOf, chunkIn, stateOf, SoundRooms}
+pub use Rattle.store.specs.Building.{rootOf}
+pub use Rattle.store.specs.Answers.{refuse, earlier, lengthAnswer, roomAnswer, orderAnswer, chunkAnswer}
+pub use Rattle.store.specs.Calls.{Out, outOf, roomsAnswer, startSpec, buildSpec, foundRoot, takeSpec}
+pub use Rattle.store.specs.Whole.{Roomy, Running, HangsIn, Whole, Alike}
+pub use Rattle.store.proofs.BegunLaws.{SameSizes}
+
+-- A root is 32 bytes, such as the words of an order's root stand for.
+pub Root : List ℕ → Type 0
+Root r = Digest r
+
+pub root-words : (u : List ℕ) → length u ≡ 8 → Root (bytesOf u)
+unfolding Root
+root-words = digest-words
+
+-- ---- starting
+
+-- A start that answers 0 leaves a running store under its order,
+pub started-running : (w : Rooms) (r : List ℕ) (L : ℕ) → Root r → startSpec w r L .answer ≡ 0 → Running L r (startSpec w r L .rooms)
+unfolding Root
+started-running = start-running
+
+-- with no chunk in its map.
+pub started-empty : (w : Rooms) (r : List ℕ) (L : ℕ) → startSpec w r L .answer ≡ 0 → (x : ℕ) → x < countOf L → bitAt (startSpec w r L .rooms .map) x ≡ false
+started-empty = start-empty
+
+-- ---- building
+
+-- A building that answers 0 leaves a running store under the root that it found; its content has the order's length,
+pub built-running : (w : Rooms) (L : ℕ) (s : List ℕ) → buildSpec w L s .answer ≡ 0 → (length s ≡ L) × Running L (rootOf s) (buildSpec w L s .rooms)
+built-running = build-running
+
+-- and all chunks are in its map.
+pub built-whole : (w : Rooms) (L : ℕ) (s : List ℕ) → buildSpec w L s .answer ≡ 0 → Whole L (buildSpec w L s .rooms)
+built-whole = build-whole
+
+-- ---- taking
+
+module _ (w : Rooms) (r : List ℕ) (L c : ℕ) (d : List ℕ) (o : Integrity) where
+  -- A refused chunk changes nothing.
+  pub refused-same : takeSpec w r L c d o .answer ≢ 0 → takeSpec w r L c d o .rooms ≡ w
+  refused-same = take-refused-same w r L c d o
+
+  -- Whatever comes, a running store keeps running,
+  pub taken-running : Running L r w → Running L r (takeSpec w r L c d o .rooms)
+  taken-running = take-running w r L c d o
+
+  -- in rooms of the same sizes.
+  pub taken-sizes : SameSizes w (takeSpec w r L c d o .rooms)
+  taken-sizes = take-sizes w r L c d o
+
+  -- A chunk taken with 0 is one of the pack and has its length;
+  pub taken-chunk : takeSpec w r L c d o .answer ≡ 0 → (c < countOf L) × (length d ≡ size chunkSize L c)
+  taken-chunk e = let m = take-means w r L c d o e in (m .1, m .2)
+
+  -- the map afterwards is the map before, and the chunk;
+  pub taken-map : takeSpec w r L c d o .answer ≡ 0 → (x : ℕ) → x < countOf L
+      → bitAt (takeSpec w r L c d o .rooms .map) x ≡ pick (eqb x c) true (bitAt (w .map) x)
+  taken-map = take-map w r L c d o
+
+  -- its bytes are those that came unless it was held before, and all other chunks have the bytes they had.
+  pub taken-bytes : takeSpec w r L c d o .answer ≡ 0 → (x : ℕ) → x < countOf L
+      → chunkIn L (takeSpec w r L c d o .rooms .bytes) x ≡ pick (bitAt (w .map) c) (chunkIn L (w .bytes) x) (pick (eqb x c) d (chunkIn L (w .bytes) x))
+  taken-bytes = take-bytes w r L c d o
+
+-- ---- what a running store holds
+
+-- Every chunk in its map hangs from the root.
+pub running-hangs : (L : ℕ) (r : List ℕ) (w : Rooms) → Running L r w → (x : ℕ) → x < countOf L → bitAt (w .map) x ≡ true → HangsIn L r w x
+running-hangs = hangs
+
+-- Two whole stores under one root and length hold the same bytes over the length, or the walk names a collision.
+pub whole-alike : (L : ℕ) (r : List ℕ) (w v : Rooms) → Running L r w → Running L r v → Whole L w → Whole L v → Alike L w v
+whole-alike = alike

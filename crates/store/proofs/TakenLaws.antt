@@ -1,0 +1,186 @@
+-- Taking a chunk, whatever comes: a running store keeps running, and its map and its bytes change only as said. Assumes nothing.
+use mathlib.Core.Path.{_≡_, refl, sym, ap, _∙_}
+use mathlib.Core.Logic.{_≢_}
+use mathlib.Core.Bool.{Bool, true, false}
+use mathlib.Core.List.{List, map}
+use Prim.Native.Nat.{ℕ, zero, suc, _+_, _*_, _≤_, _<_}
+use native.Mathlib.Omega.{arith}
+use native.Mathlib.Decide.{ℕ-discrete}
+use borrow.Author.Tests.{eqb-true}
+use lib.Dec.{eqb}
+use lib.ListN.{length}
+use lib.Seq.{length-paste}
+use Rattle.bits.proofs.Promise.{bitAt, length-setBit, row-room}
+use Rattle.tree.specs.Pick.{pick}
+use Rattle.tree.specs.Pack.{chunkSize, size, levels, leafPlaces}
+use Rattle.tree.specs.Peaks.{peaks}
+use Rattle.tree.specs.State.{State, adopted}
+use Rattle.tree.specs.Verdicts.{every, number}
+use Rattle.tree.specs.declared.verdict.Verdict.{Verdict}
+use Rattle.tree.specs.declared.verdict.Verdict.the-variants.{Fits, Missing, WrongPeaks, WrongClimb}
+use Rattle.store.specs.Room.{putHash}
+use Rattle.store.specs.Integrity.{Integrity}
+use Rattle.store.specs.Rooms.{Rooms, countOf, chunkIn, stateOf, SoundRooms, trustedIn, gotBy}
+use Rattle.store.specs.Storing.{mark, putAll, copied, stored, storeSpec, roomVerdict, roomsBy}
+use Rattle.store.specs.Whole.{Roomy, Running}
+use Rattle.store.specs.Answers.{earlier, chunkAnswer}
+use Rattle.store.specs.Calls.{outOf, unless, roomsAnswer, settleSpec, takeSpec}
+use Rattle.store.proofs.RoomLaws.{length-putHash}
+use Rattle.store.proofs.VerdictLaws.{fits-within}
+use Rattle.store.proofs.StoringLaws.{length-path, length-open, length-mark}
+use Rattle.store.proofs.AgreeLaws.{Fitting, stored-agrees, taken-sound}
+use Rattle.store.proofs.AnswerLaws.{both-zero, chunk-facts}
+use Rattle.store.proofs.BegunLaws.{roomy-order, SameSizes, roomy-sizes}
+
+-- ---- a refused chunk changes nothing, a taken one is stored
+
+module _ (w : Rooms) (r : List ℕ) (L c : ℕ) (d : List ℕ) (o : Integrity) where
+  abbrev told : Verdict
+  told = roomVerdict (countOf L) r (w .hashes) (w .trusted) c d o
+
+  abbrev left : Rooms
+  left = takeSpec w r L c d o .rooms
+
+  pub take-refused-same : takeSpec w r L c d o .answer ≢ 0 → left ≡ w
+  unfolding takeSpec settleSpec
+  take-refused-same = go (earlier (roomsAnswer L w) (chunkAnswer L c (length d))) told
+    where
+      go : (n : ℕ) (v : Verdict) → unless n w (outOf (number v) (roomsBy v w (λ t. storeSpec w (countOf L) c t d o))) .answer ≢ 0
+          → unless n w (outOf (number v) (roomsBy v w (λ t. storeSpec w (countOf L) c t d o))) .rooms ≡ w
+      go zero (Fits t) q = absurd (q refl)
+      go zero Missing q = refl
+      go zero WrongPeaks q = refl
+      go zero WrongClimb q = refl
+      go (suc n) v q = refl
+
+  -- the chunk fits below a node of height t, and the rooms are those that storing leaves
+  record Taken : Type 0 where
+    answers-right : earlier (roomsAnswer L w) (chunkAnswer L c (length d)) ≡ 0
+    height : ℕ
+    fits-there : told ≡ Fits height
+    stored-so : left ≡ storeSpec w (countOf L) c height d o
+
+  left-is : earlier (roomsAnswer L w) (chunkAnswer L c (length d)) ≡ 0 → left ≡ roomsBy told w (λ t. storeSpec w (countOf L) c t d o)
+  unfolding takeSpec settleSpec
+  left-is e = ap (λ (n : ℕ). unless n w (outOf (number told) (roomsBy told w (λ t. storeSpec w (countOf L) c t d o))) .rooms) e
+
+  taken : takeSpec w r L c d o .answer ≡ 0 → Taken
+  unfolding takeSpec settleSpec
+  taken = go (earlier (roomsAnswer L w) (chunkAnswer L c (length d))) told refl refl
+    where
+      go : (n : ℕ) (v : Verdict) → earlier (roomsAnswer L w) (chunkAnswer L c (length d)) ≡ n → told ≡ v
+          → unless n w (outOf (number v) (roomsBy v w (λ t. storeSpec w (countOf L) c t d o))) .answer ≡ 0 → Taken
+      go zero (Fits t) e f q = record { answers-right = e; height = t; fits-there = f; stored-so = left-is e ∙ ap (λ (v : Verdict). roomsBy v w (λ k. storeSpec w (countOf L) c k d o)) f }
+      go zero Missing e f q = absurd (omega arith)
+      go zero WrongPeaks e f q = absurd (omega arith)
+      go zero WrongClimb e f q = absurd (omega arith)
+      go (suc n) v e f q = absurd (omega arith)
+
+  -- what the answer 0 says of the order, the rooms and the chunk
+  pub take-means : takeSpec w r L c d o .answer ≡ 0 → Roomy L w × (c < countOf L) × (length d ≡ size chunkSize L c)
+  take-means e =
+      let p = both-zero (roomsAnswer L w) (chunkAnswer L c (length d)) (taken e .answers-right) in
+      let g = chunk-facts L c (length d) (p .1) in
+      (roomy-order L w (p .0), g .0, g .1)
+
+  fitting : takeSpec w r L c d o .answer ≡ 0 → Fitting L w (countOf L) c d
+  fitting e =
+      let m = take-means e in
+      let R = m .0 in
+      record {
+        pack-is = refl;
+        chunk-in = m .1;
+        hashes-in = omega (arith, R .hashes-in);
+        trusted-in = omega (arith, row-room (w .trusted) (2 * leafPlaces (countOf L)) (R .trusted-in));
+        map-in = row-room (w .map) (countOf L) (R .map-in);
+        bytes-in = in-room L c (length d) (length (w .bytes)) (m .1) (m .2) (R .bytes-in);
+        chunk-is = m .2;
+      }
+    where
+      in-room : (L c n b : ℕ) → c < countOf L → n ≡ size chunkSize L c → L ≤ b → chunkSize * c + n ≤ b
+      in-room L c n b i e l = omega arith
+
+  -- ---- soundness
+
+  pub take-sound : SoundRooms L r w → SoundRooms L r left
+  take-sound S = go (ℕ-discrete (takeSpec w r L c d o .answer) 0)
+    where
+      go : Dec (takeSpec w r L c d o .answer ≡ 0) → SoundRooms L r left
+      go (no q) = rw (take-refused-same q) S
+      go (yes e) =
+          let t = taken e in
+          rw (t .stored-so) (taken-sound L w (countOf L) c d r o (fitting e) (Fits (t .height)) (t .fits-there) S)
+
+  -- ---- sizes
+
+  stored-sizes : (t : ℕ) → chunkSize * c + length d ≤ length (w .bytes) → SameSizes w (stored w (countOf L) c t d o)
+  unfolding stored putAll copied
+  stored-sizes t l = record {
+    bytes-long = length-paste (w .bytes) (chunkSize * c) d (length d) l (omega arith);
+    map-long = length-setBit (w .map) c;
+    hashes-long = length-path putHash length-putHash _ (gotBy o) c t _ ∙ length-open putHash length-putHash (every (trustedIn (w .trusted)) (peaks (countOf L))) (gotBy o) (countOf L) (suc (levels (countOf L))) (w .hashes);
+    trusted-long = length-path mark length-mark _ (gotBy o) c t _ ∙ length-open mark length-mark (every (trustedIn (w .trusted)) (peaks (countOf L))) (gotBy o) (countOf L) (suc (levels (countOf L))) (w .trusted);
+  }
+
+  same-sizes : SameSizes w w
+  same-sizes = record { bytes-long = refl; map-long = refl; hashes-long = refl; trusted-long = refl }
+
+  store-sizes : (t : ℕ) → chunkSize * c + length d ≤ length (w .bytes) → SameSizes w (storeSpec w (countOf L) c t d o)
+  unfolding storeSpec
+  store-sizes t l = go (bitAt (w .map) c)
+    where
+      go : (b : Bool) → SameSizes w (pick b w (stored w (countOf L) c t d o))
+      go true = same-sizes
+      go false = stored-sizes t l
+
+  pub take-sizes : SameSizes w left
+  take-sizes = go (ℕ-discrete (takeSpec w r L c d o .answer) 0)
+    where
+      go : Dec (takeSpec w r L c d o .answer ≡ 0) → SameSizes w left
+      go (no q) = rw (take-refused-same q) same-sizes
+      go (yes e) = let t = taken e in rw (t .stored-so) (store-sizes (t .height) (fitting e .bytes-in))
+
+  pub take-running : Running L r w → Running L r left
+  take-running R = record { roomy = roomy-sizes L w left take-sizes (R .roomy); sound = take-sound (R .sound) }
+
+  -- ---- the map and the bytes
+
+  store-map : (t x : ℕ) → Fitting L w (countOf L) c d → t ≤ levels (countOf L) → x < countOf L
+      → (bitAt (storeSpec w (countOf L) c t d o .map) x ≡ pick (eqb x c) true (bitAt (w .map) x))
+      × (chunkIn L (storeSpec w (countOf L) c t d o .bytes) x ≡ pick (bitAt (w .map) c) (chunkIn L (w .bytes) x) (pick (eqb x c) d (chunkIn L (w .bytes) x)))
+  unfolding storeSpec
+  store-map t x F h l = go (bitAt (w .map) c) refl
+    where
+      held-too : (b : Bool) → bitAt (w .map) c ≡ true → eqb x c ≡ b → bitAt (w .map) x ≡ pick b true (bitAt (w .map) x)
+      held-too true e q = ap (bitAt (w .map)) (eqb-true x c q) ∙ e
+      held-too false e q = refl
+
+      opened-so : (b : Bool) (s : State) → (pick b s (adopted (countOf L) (gotBy o) s) .has x ≡ s .has x) × (pick b s (adopted (countOf L) (gotBy o) s) .chunk x ≡ s .chunk x)
+      opened-so true s = (refl, refl)
+      opened-so false s = (refl, refl)
+
+      go : (b : Bool) → bitAt (w .map) c ≡ b
+          → (bitAt (pick b w (stored w (countOf L) c t d o) .map) x ≡ pick (eqb x c) true (bitAt (w .map) x))
+          × (chunkIn L (pick b w (stored w (countOf L) c t d o) .bytes) x ≡ pick b (chunkIn L (w .bytes) x) (pick (eqb x c) d (chunkIn L (w .bytes) x)))
+      go true e = (held-too (eqb x c) e refl, refl)
+      go false e =
+          let g = stored-agrees L w (countOf L) c t d o F h .chunks-are x l in
+          let k = opened-so (every (trustedIn (w .trusted)) (peaks (countOf L))) (stateOf L w) in (
+            sym (g .0) ∙ ap (pick (eqb x c) true) (k .0),
+            sym (g .1) ∙ ap (pick (eqb x c) d) (k .1),
+          )
+
+  -- the map afterwards: what was there, and the chunk that was taken
+  pub take-map : takeSpec w r L c d o .answer ≡ 0 → (x : ℕ) → x < countOf L → bitAt (left .map) x ≡ pick (eqb x c) true (bitAt (w .map) x)
+  take-map e x l =
+      let t = taken e in
+      let h = fits-within (countOf L) r (w .hashes) (w .trusted) c d o (t .height) (fitting e .chunk-in) (t .fits-there) in
+      ap (λ (v : Rooms). bitAt (v .map) x) (t .stored-so) ∙ store-map (t .height) x (fitting e) h l .0
+
+  -- the bytes afterwards: those of the chunk where it was not held before, all others as they were
+  pub take-bytes : takeSpec w r L c d o .answer ≡ 0 → (x : ℕ) → x < countOf L
+      → chunkIn L (left .bytes) x ≡ pick (bitAt (w .map) c) (chunkIn L (w .bytes) x) (pick (eqb x c) d (chunkIn L (w .bytes) x))
+  take-bytes e x l =
+      let t = taken e in
+      let h = fits-within (countOf L) r (w .hashes) (w .trusted) c d o (t .height) (fitting e .chunk-in) (t .fits-there) in
+      ap (λ (v : Rooms). chunkIn L (v .bytes) x) (t .stored-so) ∙ store-map (t .height) x (fitting e) h l .1
