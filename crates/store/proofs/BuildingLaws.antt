@@ -34,11 +34,11 @@ use Rattle.tree.proofs.TreeLaws.{tree-leaf, tree-step, combined-root}
 
 -- ---- the content
 
-pub chunk-last : (s : List ℕ) (i : ℕ) → length s - 1024 * i < 1024 → take (length s - 1024 * i) (drop (1024 * i) s) ≡ chunkIn (length s) s i
-chunk-last s i u = let e : length s - 1024 * i ≡ size chunkSize (length s) i = omega arith in ap (λ (x : ℕ). take x (drop (1024 * i) s)) e
+pub chunk-last : (s : List ℕ) (i : ℕ) → length s - chunkSize * i < chunkSize → take (length s - chunkSize * i) (drop (chunkSize * i) s) ≡ chunkIn (length s) s i
+chunk-last s i u = let e : length s - chunkSize * i ≡ size chunkSize (length s) i = omega arith in ap (λ (x : ℕ). take x (drop (chunkSize * i) s)) e
 
-pub chunk-whole : (s : List ℕ) (i : ℕ) → 1024 ≤ length s - 1024 * i → take (1024 * i + 1024 - 1024 * i) (drop (1024 * i) s) ≡ chunkIn (length s) s i
-chunk-whole s i u = let e : 1024 * i + 1024 - 1024 * i ≡ size chunkSize (length s) i = omega arith in ap (λ (x : ℕ). take x (drop (1024 * i) s)) e
+pub chunk-whole : (s : List ℕ) (i : ℕ) → chunkSize ≤ length s - chunkSize * i → take (chunkSize * i + chunkSize - chunkSize * i) (drop (chunkSize * i) s) ≡ chunkIn (length s) s i
+chunk-whole s i u = let e : chunkSize * i + chunkSize - chunkSize * i ≡ size chunkSize (length s) i = omega arith in ap (λ (x : ℕ). take x (drop (chunkSize * i) s)) e
 
 -- the k-th node of height h
 pub multiple : (h k : ℕ) → above h (k * 2 ^ h) ≡ k * 2 ^ h
@@ -212,7 +212,7 @@ leaf-in N h k z l = let i = kth-inside N h k l in omega (arith, i, pow-pos h, ti
     times-one : (h k : ℕ) → h ≡ 0 → k * 2 ^ h ≡ k
     times-one h k z = rw z (omega arith)
 
-pub chunk-starts : (s : List ℕ) (k : ℕ) → k < countOf (length s) → 1024 * k < length s
+pub chunk-starts : (s : List ℕ) (k : ℕ) → k < countOf (length s) → chunkSize * k < length s
 chunk-starts s k l = omega arith
 
 pub leaf-hash : (s : List ℕ) (N h k : ℕ) → h ≡ 0 → N ≡ countOf (length s) → k < N / 2 ^ h → sha256 (chunkIn (length s) s k) ≡ treeOf s h (k * 2 ^ h)

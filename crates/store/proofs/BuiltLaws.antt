@@ -51,9 +51,9 @@ unfolding buildRooms
 bytes-built w s x l = sym (copied-whole (w .bytes) s l (chunkSize * x) (size chunkSize (length s) x) (part (length s) x))
   where
     part : (n x : ℕ) → (size chunkSize n x ≡ 0) ⊎ (chunkSize * x + size chunkSize n x ≤ n)
-    part n x = go (split n (1024 * x))
+    part n x = go (split n (chunkSize * x))
       where
-        go : (n ≤ 1024 * x) ⊎ (1024 * x < n) → (size chunkSize n x ≡ 0) ⊎ (chunkSize * x + size chunkSize n x ≤ n)
+        go : (n ≤ chunkSize * x) ⊎ (chunkSize * x < n) → (size chunkSize n x ≡ 0) ⊎ (chunkSize * x + size chunkSize n x ≤ n)
         go (inl u) = inl (omega arith)
         go (inr u) = inr (omega arith)
 

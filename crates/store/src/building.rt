@@ -6,7 +6,7 @@ ghost use lib.ListN.{length};
 ghost use Rattle.bits.proofs.Promise.{setRange};
 ghost use Rattle.hash.proofs.Promise.{bytesOf, sha256};
 ghost use Rattle.tree.specs.Bin.{bin};
-ghost use Rattle.tree.specs.Pack.{levels, leafPlaces};
+ghost use Rattle.tree.specs.Pack.{chunkSize, levels, leafPlaces};
 ghost use Rattle.store.specs.Room.{putHash};
 ghost use Rattle.store.specs.Rooms.{roomsOf, countOf, chunkIn};
 ghost use Rattle.store.specs.Storing.{mark};
@@ -17,6 +17,7 @@ use crate::storing;
 use hash::message;
 use hash::node;
 use hash::value::HashValue;
+use tree::pack::CHUNK_SIZE;
 
 // Clears the row of n bits.
 fn clear_row(ws: &mut [u32], n: u64)
@@ -38,15 +39,16 @@ pub fn start(map: &mut [u32], hashes: &mut [u32], trusted: &mut [u32], root: Has
 
 // The hash of chunk i of a content.
 fn leaf_of(content: &[u8], i: usize) -> HashValue
-    requires { ⌜ 1024 * i < length (now content) ⌝ }
+    requires { ⌜ chunkSize * i < length (now content) ⌝ }
     ensures { λ r. ⌜ bytesOf (r .words) ≡ sha256 (chunkIn (length (now (content .entry))) (now (content .entry)) i) ⌝ }
 {
-    let at = 1024 * i;
+    let size = CHUNK_SIZE as usize;
+    let at = size * i;
     let left = content.len() - at;
-    if left < 1024 {
+    if left < size {
         return message::sha256(&content[at..]);
     }
-    let end = at + 1024;
+    let end = at + size;
     message::sha256(&content[at..end])
 }
 

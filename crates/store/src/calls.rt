@@ -6,7 +6,8 @@ ghost use lib.ListN.{length};
 ghost use Rattle.hash.proofs.Promise.{bytesOf};
 ghost use Rattle.tree.specs.Pack.{chunkSize};
 ghost use Rattle.store.specs.Integrity.{integrityOf};
-ghost use Rattle.store.specs.Rooms.{roomsOf};
+ghost use Rattle.store.specs.Rooms.{roomsOf, countOf};
+ghost use Rattle.store.specs.Storing.{roomVerdict};
 ghost use Rattle.store.specs.Building.{rootOf};
 ghost use Rattle.store.specs.Calls.{outOf, startSpec, buildSpec, foundRoot, settleSpec, takeSpec};
 use crate::answers;
@@ -60,6 +61,16 @@ pub fn build(length: u32, chunks: &mut [u8], map: &mut [u32], hashes: &mut [u32]
         answer: 0,
         root: root,
     }
+}
+
+// What would become of chunk c that came with these hashes; nothing is written.
+pub fn verdict(order: Order, hashes: &[u32], trusted: &[u32], c: u32, chunk: &[u8], entries: &[u64], bytes: &[u8]) -> Verdict
+    ensures { λ r. ⌜ r ≡ roomVerdict (countOf (order .length)) (bytesOf (order .root .words)) (now (hashes .entry)) (now (trusted .entry)) c (now (chunk .entry)) (integrityOf (now (entries .entry)) (now (bytes .entry))) ⌝ }
+{
+    let root = order.root;
+    let n = tree::pack::chunk_count(order.length);
+    let judged = verdicts::judge(hashes, trusted, root, n, c, chunk, entries, bytes);
+    judged.verdict
 }
 
 // The verdict's number, and the chunk stored where it fits.

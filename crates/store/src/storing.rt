@@ -21,6 +21,7 @@ use crate::peaks;
 use crate::room;
 use crate::verdicts;
 use hash::value::HashValue;
+use tree::pack::CHUNK_SIZE;
 
 // The bytes of src into dst from a place on.
 pub fn copy_in(dst: &mut [u8], at: usize, src: &[u8])
@@ -114,7 +115,7 @@ fn put(
 {
     let i = c as usize;
     let top = tree::pack::levels(n);
-    copy_in(chunks, 1024 * i, chunk);
+    copy_in(chunks, CHUNK_SIZE as usize * i, chunk);
     bits::set(map, i);
     put_opening(hashes, trusted, entries, bytes, n, top);
     put_path(hashes, trusted, entries, bytes, c, t, leaf);

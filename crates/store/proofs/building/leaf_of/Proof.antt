@@ -7,6 +7,9 @@ use borrow.Author.Needs.{needs}
 use Rattle.store.proofs.building.leaf_of.Statement.{statement}
 use Rattle.store.proofs.building.leaf_of.Tie as tie
 
+cast-size : tie.Need-cast-size
+cast-size c = search needs
+
 mul-at : tie.Need-mul-at
 mul-at c = search needs
 
@@ -50,6 +53,7 @@ pub leaf-of-spec : {M : Type 1} → statement M
 leaf-of-spec =
     tie.close
     (tie.spec
+    cast-size
     mul-at
     sub-left
     sub-sha256

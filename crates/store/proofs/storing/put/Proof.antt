@@ -12,6 +12,9 @@ use Rattle.store.proofs.storing.put.Tie as tie
 levels-requires : tie.Need-levels-requires
 levels-requires c κs = search needs
 
+cast-copy-in : tie.Need-cast-copy-in
+cast-copy-in c = search needs
+
 mul-copy-in : tie.Need-mul-copy-in
 mul-copy-in c = search needs
 
@@ -50,6 +53,7 @@ put-spec =
     tie.close
     (tie.spec
     levels-requires
+    cast-copy-in
     mul-copy-in
     copy-in-requires
     set-requires
