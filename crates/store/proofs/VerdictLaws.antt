@@ -41,7 +41,6 @@ module _ (N : ℕ) (trusted : List ℕ) (c : ℕ) (l : c < N) where
       let R = rw (← q) at (reach-finds (λ h. countedBit b N trusted h (above h c)) p (peak-counts b e) (suc (levels N)) 0 (omega arith) (omega arith)) in
       (omega (arith, R .within), whole-below N c t p (R .within .1) w, R .passes)
 
-
 module _ (L : ℕ) (bytes map : List ℕ) (N : ℕ) (r hashes trusted : List ℕ) (c : ℕ) (d : List ℕ) (o : Integrity) (b : Bool) (t : ℕ) where
   reached-is : (x : Bool)
       → reachFrom (λ h. countedBit x N trusted h (above h c)) (suc (levels N)) 0

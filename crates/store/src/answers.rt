@@ -49,7 +49,14 @@ pub fn order_answer(length: u32, chunks: usize, map: usize, hashes: usize, trust
 }
 
 // The same for building, 12 also where the content has another length.
-pub fn build_answer(length: u32, content: usize, chunks: usize, map: usize, hashes: usize, trusted: usize) -> u32
+pub fn build_answer(
+    length: u32,
+    content: usize,
+    chunks: usize,
+    map: usize,
+    hashes: usize,
+    trusted: usize,
+) -> u32
     ensures { λ r. ⌜ r ≡ buildAnswer length content chunks map hashes trusted ⌝ }
 {
     let refused = length_answer(length);
@@ -76,7 +83,15 @@ pub fn chunk_answer(length: u32, c: u32, size: usize) -> u32
 }
 
 // All that refuses a chunk before its hashes are looked at: 12, 11, 7, 8.
-pub fn take_answer(length: u32, chunks: usize, map: usize, hashes: usize, trusted: usize, c: u32, size: usize) -> u32
+pub fn take_answer(
+    length: u32,
+    chunks: usize,
+    map: usize,
+    hashes: usize,
+    trusted: usize,
+    c: u32,
+    size: usize,
+) -> u32
     ensures { λ r. ⌜ r ≡ earlier (orderAnswer length chunks map hashes trusted) (chunkAnswer length c size) ⌝ }
 {
     let refused = order_answer(length, chunks, map, hashes, trusted);

@@ -31,12 +31,24 @@ pub struct Built {
 }
 
 // Starts a store under an order.
-pub fn start(order: Order, chunks: &[u8], map: &mut [u32], hashes: &mut [u32], trusted: &mut [u32]) -> u32
+pub fn start(
+    order: Order,
+    chunks: &[u8],
+    map: &mut [u32],
+    hashes: &mut [u32],
+    trusted: &mut [u32],
+) -> u32
     ensures { λ r. ⌜ outOf r (roomsOf (now (chunks .entry)) (now (map .exit)) (now (hashes .exit)) (now (trusted .exit))) ≡ startSpec (roomsOf (now (chunks .entry)) (now (map .entry)) (now (hashes .entry)) (now (trusted .entry))) (bytesOf (order .root .words)) (order .length) ⌝ }
 {
     let length = order.length;
     let root = order.root;
-    let refused = answers::order_answer(length, chunks.len(), map.len(), hashes.len(), trusted.len());
+    let refused = answers::order_answer(
+        length,
+        chunks.len(),
+        map.len(),
+        hashes.len(),
+        trusted.len(),
+    );
     if refused != 0 {
         return refused;
     }
@@ -45,10 +57,24 @@ pub fn start(order: Order, chunks: &[u8], map: &mut [u32], hashes: &mut [u32], t
 }
 
 // Builds a whole store of a length from its content.
-pub fn build(length: u32, chunks: &mut [u8], map: &mut [u32], hashes: &mut [u32], trusted: &mut [u32], content: &[u8]) -> Built
+pub fn build(
+    length: u32,
+    chunks: &mut [u8],
+    map: &mut [u32],
+    hashes: &mut [u32],
+    trusted: &mut [u32],
+    content: &[u8],
+) -> Built
     ensures { λ r. ⌜ (outOf (r .answer) (roomsOf (now (chunks .exit)) (now (map .exit)) (now (hashes .exit)) (now (trusted .exit))) ≡ buildSpec (roomsOf (now (chunks .entry)) (now (map .entry)) (now (hashes .entry)) (now (trusted .entry))) length (now (content .entry))) × (bytesOf (r .root .words) ≡ foundRoot (r .answer) (rootOf (now (content .entry)))) ⌝ }
 {
-    let refused = answers::build_answer(length, content.len(), chunks.len(), map.len(), hashes.len(), trusted.len());
+    let refused = answers::build_answer(
+        length,
+        content.len(),
+        chunks.len(),
+        map.len(),
+        hashes.len(),
+        trusted.len(),
+    );
     if refused != 0 {
         return Built {
             answer: refused,
@@ -64,7 +90,15 @@ pub fn build(length: u32, chunks: &mut [u8], map: &mut [u32], hashes: &mut [u32]
 }
 
 // What would become of chunk c that came with these hashes; nothing is written.
-pub fn verdict(order: Order, hashes: &[u32], trusted: &[u32], c: u32, chunk: &[u8], entries: &[u64], bytes: &[u8]) -> Verdict
+pub fn verdict(
+    order: Order,
+    hashes: &[u32],
+    trusted: &[u32],
+    c: u32,
+    chunk: &[u8],
+    entries: &[u64],
+    bytes: &[u8],
+) -> Verdict
     ensures { λ r. ⌜ r ≡ roomVerdict (countOf (order .length)) (bytesOf (order .root .words)) (now (hashes .entry)) (now (trusted .entry)) c (now (chunk .entry)) (integrityOf (now (entries .entry)) (now (bytes .entry))) ⌝ }
 {
     let root = order.root;
@@ -94,7 +128,19 @@ fn settle(
     let leaf = judged.leaf;
     match v {
         Verdict::Fits(t) => {
-            storing::store(chunks, map, hashes, trusted, n, c, t, leaf, chunk, entries, bytes);
+            storing::store(
+                chunks,
+                map,
+                hashes,
+                trusted,
+                n,
+                c,
+                t,
+                leaf,
+                chunk,
+                entries,
+                bytes,
+            );
             0
         }
         Verdict::Missing => 9,
@@ -119,10 +165,29 @@ pub fn take(
 {
     let length = order.length;
     let root = order.root;
-    let refused = answers::take_answer(length, chunks.len(), map.len(), hashes.len(), trusted.len(), c, chunk.len());
+    let refused = answers::take_answer(
+        length,
+        chunks.len(),
+        map.len(),
+        hashes.len(),
+        trusted.len(),
+        c,
+        chunk.len(),
+    );
     if refused != 0 {
         return refused;
     }
     let n = tree::pack::chunk_count(length);
-    settle(chunks, map, hashes, trusted, root, n, c, chunk, entries, bytes)
+    settle(
+        chunks,
+        map,
+        hashes,
+        trusted,
+        root,
+        n,
+        c,
+        chunk,
+        entries,
+        bytes,
+    )
 }

@@ -90,7 +90,15 @@ fn hash_from(from: bool, hashes: &[u32], entries: &[u64], bytes: &[u8], b: u64) 
 }
 
 // One step of combining the peaks of n, from height h to the next: fillers go by place.
-fn fold(from: bool, hashes: &[u32], entries: &[u64], bytes: &[u8], n: u32, h: u32, acc: HashValue) -> HashValue
+fn fold(
+    from: bool,
+    hashes: &[u32],
+    entries: &[u64],
+    bytes: &[u8],
+    n: u32,
+    h: u32,
+    acc: HashValue,
+) -> HashValue
     requires { ⌜ h < 59 ⌝ }
     ensures { λ r. ⌜ bytesOf (r .words) ≡ folded sha256 filler n (sourceBy from (now (hashes .entry)) (integrityOf (now (entries .entry)) (now (bytes .entry)))) h (bytesOf (acc .words)) ⌝ }
 {
@@ -121,7 +129,14 @@ fn combine(from: bool, hashes: &[u32], entries: &[u64], bytes: &[u8], n: u32, to
 }
 
 // The root that the peaks of n give, those that came or those in the room: where n is a power of two it is the one peak.
-pub fn root_of_peaks(from: bool, hashes: &[u32], entries: &[u64], bytes: &[u8], n: u32, top: u32) -> HashValue
+pub fn root_of_peaks(
+    from: bool,
+    hashes: &[u32],
+    entries: &[u64],
+    bytes: &[u8],
+    n: u32,
+    top: u32,
+) -> HashValue
     requires { ⌜ (top ≤ 32) × (n ≤ 2 ^ top) ⌝ }
     ensures { λ r. ⌜ bytesOf (r .words) ≡ given sha256 filler n (sourceBy from (now (hashes .entry)) (integrityOf (now (entries .entry)) (now (bytes .entry)))) top 0 ⌝ }
 {

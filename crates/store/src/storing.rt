@@ -48,7 +48,14 @@ fn put_peak(hashes: &mut [u32], trusted: &mut [u32], entries: &[u64], bytes: &[u
 }
 
 // All of them.
-fn put_peaks(hashes: &mut [u32], trusted: &mut [u32], entries: &[u64], bytes: &[u8], n: u32, top: u32)
+fn put_peaks(
+    hashes: &mut [u32],
+    trusted: &mut [u32],
+    entries: &[u64],
+    bytes: &[u8],
+    n: u32,
+    top: u32,
+)
     requires { ⌜ top ≤ 32 ⌝ }
     ensures { λ _. ⌜ (now (hashes .exit) ≡ putPeaks putHash (gotBy (integrityOf (now (entries .entry)) (now (bytes .entry)))) n (suc top) (now (hashes .entry))) × (now (trusted .exit) ≡ putPeaks mark (gotBy (integrityOf (now (entries .entry)) (now (bytes .entry)))) n (suc top) (now (trusted .entry))) ⌝ }
 {
@@ -60,7 +67,14 @@ fn put_peaks(hashes: &mut [u32], trusted: &mut [u32], entries: &[u64], bytes: &[
 }
 
 // The peaks, where they aren't trusted yet.
-fn put_opening(hashes: &mut [u32], trusted: &mut [u32], entries: &[u64], bytes: &[u8], n: u32, top: u32)
+fn put_opening(
+    hashes: &mut [u32],
+    trusted: &mut [u32],
+    entries: &[u64],
+    bytes: &[u8],
+    n: u32,
+    top: u32,
+)
     requires { ⌜ (top ≡ levels n) × (top ≤ 32) ⌝ }
     ensures { λ _. ⌜ (now (hashes .exit) ≡ pick (every (trustedIn (now (trusted .entry))) (peaks n)) (now (hashes .entry)) (putPeaks putHash (gotBy (integrityOf (now (entries .entry)) (now (bytes .entry)))) n (suc top) (now (hashes .entry)))) × (now (trusted .exit) ≡ pick (every (trustedIn (now (trusted .entry))) (peaks n)) (now (trusted .entry)) (putPeaks mark (gotBy (integrityOf (now (entries .entry)) (now (bytes .entry)))) n (suc top) (now (trusted .entry)))) ⌝ }
 {
@@ -71,7 +85,15 @@ fn put_opening(hashes: &mut [u32], trusted: &mut [u32], entries: &[u64], bytes: 
 }
 
 // The node of height h above chunk c, whose hash is acc, and its sibling; the hash of the next.
-fn put_step(hashes: &mut [u32], trusted: &mut [u32], entries: &[u64], bytes: &[u8], c: u32, h: u32, acc: HashValue) -> HashValue
+fn put_step(
+    hashes: &mut [u32],
+    trusted: &mut [u32],
+    entries: &[u64],
+    bytes: &[u8],
+    c: u32,
+    h: u32,
+    acc: HashValue,
+) -> HashValue
     requires { ⌜ h < 59 ⌝ }
     ensures { λ r. ⌜ (bytesOf (r .words) ≡ joined sha256 c h (above (suc h) c) (bytesOf (acc .words)) (gotBy (integrityOf (now (entries .entry)) (now (bytes .entry))) h (other c h (above (suc h) c)))) × (now (hashes .exit) ≡ putHash (putHash (now (hashes .entry)) (bin h (above h c)) (bytesOf (acc .words))) (bin h (other c h (above (suc h) c))) (gotBy (integrityOf (now (entries .entry)) (now (bytes .entry))) h (other c h (above (suc h) c)))) × (now (trusted .exit) ≡ setBit (setBit (now (trusted .entry)) (bin h (above h c))) (bin h (other c h (above (suc h) c)))) ⌝ }
 {
@@ -84,7 +106,15 @@ fn put_step(hashes: &mut [u32], trusted: &mut [u32], entries: &[u64], bytes: &[u
 }
 
 // The path from chunk c, whose leaf has the hash v, up to below height t.
-fn put_path(hashes: &mut [u32], trusted: &mut [u32], entries: &[u64], bytes: &[u8], c: u32, t: u32, v: HashValue)
+fn put_path(
+    hashes: &mut [u32],
+    trusted: &mut [u32],
+    entries: &[u64],
+    bytes: &[u8],
+    c: u32,
+    t: u32,
+    v: HashValue,
+)
     requires { ⌜ t ≤ 33 ⌝ }
     ensures { λ _. ⌜ (now (hashes .exit) ≡ putPath putHash (λ h. climb sha256 (gotBy (integrityOf (now (entries .entry)) (now (bytes .entry)))) (bytesOf (v .words)) c h (above h c)) (gotBy (integrityOf (now (entries .entry)) (now (bytes .entry)))) c t (now (hashes .entry))) × (now (trusted .exit) ≡ putPath mark (λ h. climb sha256 (gotBy (integrityOf (now (entries .entry)) (now (bytes .entry)))) (bytesOf (v .words)) c h (above h c)) (gotBy (integrityOf (now (entries .entry)) (now (bytes .entry)))) c t (now (trusted .entry))) ⌝ }
 {
@@ -140,6 +170,18 @@ pub fn store(
 {
     let held = bits::test(map, c as usize);
     if !held {
-        put(chunks, map, hashes, trusted, n, c, t, leaf, chunk, entries, bytes);
+        put(
+            chunks,
+            map,
+            hashes,
+            trusted,
+            n,
+            c,
+            t,
+            leaf,
+            chunk,
+            entries,
+            bytes,
+        );
     }
 }

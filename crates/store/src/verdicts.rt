@@ -116,7 +116,15 @@ fn climb(entries: &[u64], bytes: &[u8], c: u32, v: HashValue, t: u32) -> HashVal
 }
 
 // The hash that counts for the node of height t above chunk c: a peak's came where the peaks aren't trusted yet.
-fn target(hashes: &[u32], entries: &[u64], bytes: &[u8], opened: bool, n: u32, c: u32, t: u32) -> HashValue
+fn target(
+    hashes: &[u32],
+    entries: &[u64],
+    bytes: &[u8],
+    opened: bool,
+    n: u32,
+    c: u32,
+    t: u32,
+) -> HashValue
     requires { ⌜ t ≤ 33 ⌝ }
     ensures { λ r. ⌜ bytesOf (r .words) ≡ countedHash opened n (now (hashes .entry)) (integrityOf (now (entries .entry)) (now (bytes .entry))) t (above t c) ⌝ }
 {
@@ -145,7 +153,15 @@ fn complete(entries: &[u64], bytes: &[u8], opened: bool, n: u32, c: u32, top: u3
 }
 
 // Whether the peaks are trusted, or give the root.
-fn rooted(entries: &[u64], bytes: &[u8], hashes: &[u32], opened: bool, root: HashValue, n: u32, top: u32) -> bool
+fn rooted(
+    entries: &[u64],
+    bytes: &[u8],
+    hashes: &[u32],
+    opened: bool,
+    root: HashValue,
+    n: u32,
+    top: u32,
+) -> bool
     requires { ⌜ (top ≤ 32) × (n ≤ 2 ^ top) ⌝ }
     ensures { λ r. ⌜ r ≡ pick opened true (same (given sha256 filler n (gotBy (integrityOf (now (entries .entry)) (now (bytes .entry)))) top 0) (bytesOf (root .words))) ⌝ }
 {
@@ -157,7 +173,16 @@ fn rooted(entries: &[u64], bytes: &[u8], hashes: &[u32], opened: bool, root: Has
 }
 
 // Whether the climb from the leaf's hash gives the hash that counts for the node of height t.
-fn met(hashes: &[u32], entries: &[u64], bytes: &[u8], opened: bool, n: u32, c: u32, t: u32, leaf: HashValue) -> bool
+fn met(
+    hashes: &[u32],
+    entries: &[u64],
+    bytes: &[u8],
+    opened: bool,
+    n: u32,
+    c: u32,
+    t: u32,
+    leaf: HashValue,
+) -> bool
     requires { ⌜ t ≤ 33 ⌝ }
     ensures { λ r. ⌜ r ≡ same (climb sha256 (gotBy (integrityOf (now (entries .entry)) (now (bytes .entry)))) (bytesOf (leaf .words)) c t (above t c)) (countedHash opened n (now (hashes .entry)) (integrityOf (now (entries .entry)) (now (bytes .entry))) t (above t c)) ⌝ }
 {

@@ -14,4 +14,5 @@ pub mod BeginLaws
 pub mod WalkLaws
 pub mod SentLaws
 pub mod StepLaws
+pub mod TrueLaws
 pub mod Tried

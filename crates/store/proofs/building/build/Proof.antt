@@ -21,11 +21,11 @@ copy-in-requires : tie.Need-copy-in-requires
 copy-in-requires c κs = search needs
 
 mark-all-requires : tie.Need-mark-all-requires
-mark-all-requires c κs =     let l = pow-mono {i = c .before .before .before .before .before .before .before .levels .result} {j = 32} (c .before .before .before .before .before .before .before .levels .ensures .1) in
+mark-all-requires c κs = let l = pow-mono {i = c .before .before .before .before .before .before .before .levels .result} {j = 32} (c .before .before .before .before .before .before .before .levels .ensures .1) in
     omega (arith, c .before .before .before .before .before .before .pow2 .ensures .0, l)
 
 put-levels-requires : tie.Need-put-levels-requires
-put-levels-requires c κs =     let a = c .before .before .before .before .before .before .before .before .before .before .before .before .before .before .before .before .before .before .before .before .args in
+put-levels-requires c κs = let a = c .before .before .before .before .before .before .before .before .before .before .before .before .before .before .before .before .before .before .before .before .args in
     let W = c .before .before .before .before .before .before .before .before .before .before .before .before .before .before .before .before .before .before .before .before .pre in
     (c .before .before .before .before .before .before .before .before .before .before .before .before .before .before .levels .ensures .1, W .0, omega (arith, W .1, levels-holds (a .n)))
 
@@ -36,7 +36,7 @@ slice-aggregate-root-of-peaks-2 : tie.Need-slice-aggregate-root-of-peaks-2
 slice-aggregate-root-of-peaks-2 c = search needs
 
 root-of-peaks-requires : tie.Need-root-of-peaks-requires
-root-of-peaks-requires c κs =     let a = c .before .before .before .before .before .before .before .before .before .before .before .before .before .before .before .before .before .before .before .before .before .before .before .before .before .before .before .before .args in
+root-of-peaks-requires c κs = let a = c .before .before .before .before .before .before .before .before .before .before .before .before .before .before .before .before .before .before .before .before .before .before .before .before .before .before .before .before .args in
     (c .before .before .before .before .before .before .before .before .before .before .before .before .before .before .before .before .before .before .before .before .before .before .levels .ensures .1, rw (c .before .before .before .before .before .before .before .before .before .before .before .before .before .before .before .before .before .before .before .before .before .before .levels .ensures .0) (levels-holds (a .n)))
 
 sub-trust : tie.Need-sub-trust
@@ -58,7 +58,7 @@ same-length-4 : tie.Need-same-length-4
 same-length-4 c = search needs
 
 returns : tie.Need-returns
-returns c =     let a = c .before .before .before .before .before .before .before .before .before .before .before .before .before .before .before .before .before .before .before .before .before .before .before .before .before .before .before .before .before .before .before .before .before .before .before .before .args in
+returns c = let a = c .before .before .before .before .before .before .before .before .before .before .before .before .before .before .before .before .before .before .before .before .before .before .before .before .before .before .before .before .before .before .before .before .before .before .before .before .args in
     let W = c .before .before .before .before .before .before .before .before .before .before .before .before .before .before .before .before .before .before .before .before .before .before .before .before .before .before .before .before .before .before .before .before .before .before .before .before .pre in
     let r : 16 * a .n ≤ length (a .hashes .now) + 8 = omega (arith, W .1, levels-holds (a .n)) in
     built-is (a .chunks .now) (a .map .now) (a .hashes .now) (a .trusted .now) (a .content .now) (a .n) (c .before .before .before .before .before .before .before .before .before .before .before .before .before .before .before .before .before .before .before .before .before .before .before .before .before .before .before .before .before .before .levels .result) (c .before .before .before .before .before .before .before .before .before .before .before .before .before .before .before .before .before .before .before .before .before .before .before .before .before .before .before .before .before .pow2 .result) (W .0) (c .before .before .before .before .before .before .before .before .before .before .before .before .before .before .before .before .before .before .before .before .before .before .before .before .before .before .before .before .before .before .levels .ensures .0) (c .before .before .before .before .before .before .before .before .before .before .before .before .before .before .before .before .before .before .before .before .before .before .before .before .before .before .before .before .before .pow2 .ensures .0) r

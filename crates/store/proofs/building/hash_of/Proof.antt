@@ -13,13 +13,13 @@ use Rattle.store.proofs.building.hash_of.Statement.{statement}
 use Rattle.store.proofs.building.hash_of.Tie as tie
 
 leaf-of-requires : tie.Need-leaf-of-requires
-leaf-of-requires c κs =     let a = c .before .before .before .args in
+leaf-of-requires c κs = let a = c .before .before .before .args in
     let p = c .before .before .before .pre .0 in
     let l = leaf-in (a .n) (a .h) (a .k) (c .if1 .taken) (p .1) in
     chunk-starts (a .content .now) (a .k) (omega (arith, l, p .2))
 
 returns : tie.Need-returns
-returns c =     let a = c .before .before .before .before .args in
+returns c = let a = c .before .before .before .before .args in
     let p = c .before .before .before .before .pre .0 in
     c .leaf-of .ensures ∙ leaf-hash (a .content .now) (a .n) (a .h) (a .k) (c .before .if1 .taken) (p .2) (p .1)
 
@@ -27,13 +27,13 @@ sub-nth : tie.Need-sub-nth
 sub-nth c = search needs
 
 mul-nth : tie.Need-mul-nth
-mul-nth c =     let a = c .before .before .before .args in
+mul-nth c = let a = c .before .before .before .args in
     let p = c .before .before .before .pre .0 in
     let i = kth-inside (a .n) (a .h) (a .k) (p .1) in
     record { fits = omega (arith, i, twice-below (a .h) (a .k) (c .if1 .left)) }
 
 nth-requires : tie.Need-nth-requires
-nth-requires c κs =     let a = c .before .before .before .args in
+nth-requires c κs = let a = c .before .before .before .args in
     let p = c .before .before .before .pre .0 in
     let i = kth-inside (a .n) (a .h) (a .k) (p .1) in
     let j = kids-in (a .n) (a .h) (a .k) (c .if1 .left) i in
@@ -46,19 +46,19 @@ sub-nth-2 : tie.Need-sub-nth-2
 sub-nth-2 c = search needs
 
 mul-nth-2 : tie.Need-mul-nth-2
-mul-nth-2 c =     let a = c .before .before .before .before .before .args in
+mul-nth-2 c = let a = c .before .before .before .before .before .args in
     let p = c .before .before .before .before .before .pre .0 in
     let i = kth-inside (a .n) (a .h) (a .k) (p .1) in
     record { fits = omega (arith, i, twice-below (a .h) (a .k) (c .before .before .if1 .left)) }
 
 add-nth : tie.Need-add-nth
-add-nth c =     let a = c .before .before .before .before .before .args in
+add-nth c = let a = c .before .before .before .before .before .args in
     let p = c .before .before .before .before .before .pre .0 in
     let i = kth-inside (a .n) (a .h) (a .k) (p .1) in
     record { fits = omega (arith, i, twice-below (a .h) (a .k) (c .before .before .if1 .left)) }
 
 nth-requires-2 : tie.Need-nth-requires-2
-nth-requires-2 c κs =     let a = c .before .before .before .before .before .args in
+nth-requires-2 c κs = let a = c .before .before .before .before .before .args in
     let p = c .before .before .before .before .before .pre .0 in
     let i = kth-inside (a .n) (a .h) (a .k) (p .1) in
     let j = kids-in (a .n) (a .h) (a .k) (c .before .before .if1 .left) i in
@@ -71,7 +71,7 @@ parent-requires : tie.Need-parent-requires
 parent-requires c κs = search needs
 
 returns-2 : tie.Need-returns-2
-returns-2 c =     let a = c .before .before .before .before .before .before .before .before .args in
+returns-2 c = let a = c .before .before .before .before .before .before .before .before .args in
     let p = c .before .before .before .before .before .before .before .before .pre .0 in
     let i = kth-inside (a .n) (a .h) (a .k) (p .1) in
     c .parent .ensures

@@ -26,7 +26,7 @@ same-length-2 : tie.Need-same-length-2
 same-length-2 c = search needs
 
 returns : tie.Need-returns
-returns c =     let a = c .before .before .before .before .before .before .before .before .before .before .before .before .before .before .args in
+returns c = let a = c .before .before .before .before .before .before .before .before .before .before .before .before .before .before .args in
     (c .before .before .before .before .before .before .set-range .ensures ∙ ap (λ (x : List ℕ). setRange x 0 (a .n)) (c .before .before .before .before .before .before .before .before .before .before .clear-row .ensures), c .before .before .clear-row2 .ensures)
 
 pub mark-all-spec : {M : Type 1} → statement M

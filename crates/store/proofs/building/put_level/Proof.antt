@@ -25,16 +25,16 @@ div-count : tie.Need-div-count Inv-loop μ-loop
 div-count c = omega (arith, c .pow2 .ensures)
 
 cast-count : tie.Need-cast-count Inv-loop μ-loop
-cast-count c =     let a = c .before .before .before .before .args in
+cast-count c = let a = c .before .before .before .before .args in
     let e : a .n / c .pow2 .result ≡ a .n / 2 ^ a .h = ap (λ (x : ℕ). a .n / x) (c .pow2 .ensures .0) in
     record { fits = omega (arith, e, less (a .n) (a .h)) }
 
 loop-holds : tie.Need-loop-holds Inv-loop μ-loop
-loop-holds c =     let a = c .before .before .before .before .args in
+loop-holds c = let a = c .before .before .before .before .args in
     (omega arith, ap (λ (x : ℕ). a .n / x) (c .pow2 .ensures .0), level-none putHash (treeOf (a .content .now)) (a .h) (a .hashes .now), level-none mark (treeOf (a .content .now)) (a .h) (a .trusted .now))
 
 put-node-requires : tie.Need-put-node-requires Inv-loop μ-loop
-put-node-requires c κs =     let a = c .before .before .before .before .before .before .before .before .args in
+put-node-requires c κs = let a = c .before .before .before .before .before .before .before .before .args in
     let p = c .before .before .before .before .before .before .before .before .pre .0 in
     let l = c .before .before .before .loop in
     let u = c .before .before .loop-test .taken in
@@ -42,14 +42,14 @@ put-node-requires c κs =     let a = c .before .before .before .before .before 
     ((p .0, omega (arith, u, l .inv .1), p .1, omega (arith, p .2, e)), rw (l .inv .2) (filled-level (a .content .now) (a .n) (a .h) (l .k) (a .hashes .now) (c .before .before .before .before .before .before .before .before .pre .1)))
 
 add-k : tie.Need-add-k Inv-loop μ-loop
-add-k c =     let a = c .before .before .before .before .before .before .before .before .before .before .before .before .before .args in
+add-k c = let a = c .before .before .before .before .before .before .before .before .before .before .before .before .before .args in
     record { fits = omega (arith, c .before .before .before .before .before .before .before .loop-test .taken, c .before .before .before .before .before .before .before .before .loop .inv .1, less (a .n) (a .h)) }
 
 loop-less : tie.Need-loop-less Inv-loop μ-loop
 loop-less c = omega (arith, c .before .before .before .before .before .before .before .loop-test .taken)
 
 loop-again : tie.Need-loop-again Inv-loop μ-loop
-loop-again c =     let a = c .before .before .before .before .before .before .before .before .before .before .before .before .before .args in
+loop-again c = let a = c .before .before .before .before .before .before .before .before .before .before .before .before .before .args in
     let l = c .before .before .before .before .before .before .before .before .loop in
     let e = c .before .before .before .before .put-node .ensures in (
       omega (arith, c .before .before .before .before .before .before .before .loop-test .taken, l .inv .1),
@@ -59,17 +59,17 @@ loop-again c =     let a = c .before .before .before .before .before .before .be
     )
 
 same-length : tie.Need-same-length Inv-loop μ-loop
-same-length c =     let a = c .before .before .before .before .before .before .args in
+same-length c = let a = c .before .before .before .before .before .before .args in
     let l = c .before .loop in
     ap length (l .inv .2) ∙ length-level putHash (treeOf (a .content .now)) length-putHash (a .h) (l .k) (a .hashes .now)
 
 same-length-2 : tie.Need-same-length-2 Inv-loop μ-loop
-same-length-2 c =     let a = c .before .before .before .before .before .before .args in
+same-length-2 c = let a = c .before .before .before .before .before .before .args in
     let l = c .before .loop in
     ap length (l .inv .3) ∙ length-level mark (treeOf (a .content .now)) length-mark (a .h) (l .k) (a .trusted .now)
 
 returns : tie.Need-returns Inv-loop μ-loop
-returns c =     let a = c .before .before .before .before .before .before .args in
+returns c = let a = c .before .before .before .before .before .before .args in
     let l = c .before .loop in
     let e : l .k ≡ a .n / 2 ^ a .h = omega (arith, l .inv .0, l .inv .1, c .loop-test .left) in
     (l .inv .2 ∙ ap (λ (x : ℕ). putLevel putHash (treeOf (a .content .now)) (a .h) x (a .hashes .now)) e, l .inv .3 ∙ ap (λ (x : ℕ). putLevel mark (treeOf (a .content .now)) (a .h) x (a .trusted .now)) e)

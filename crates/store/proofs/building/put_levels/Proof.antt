@@ -19,11 +19,11 @@ abbrev μ-loop : tie.MeasureT-loop
 μ-loop hashes₀ trusted₀ content n top h₀ hashes trusted h = suc top - h
 
 loop-holds : tie.Need-loop-holds Inv-loop μ-loop
-loop-holds c =     let a = c .before .before .before .args in
+loop-holds c = let a = c .before .before .before .args in
     (omega arith, levels-none putHash (treeOf (a .content .now)) (a .n) (a .hashes .now), levels-none mark (treeOf (a .content .now)) (a .n) (a .trusted .now))
 
 put-level-requires : tie.Need-put-level-requires Inv-loop μ-loop
-put-level-requires c κs =     let a = c .before .before .before .before .before .before .before .args in
+put-level-requires c κs = let a = c .before .before .before .before .before .before .before .args in
     let p = c .before .before .before .before .before .before .before .pre in
     let l = c .before .before .before .loop in
     let u = c .before .before .loop-test .taken in
@@ -37,23 +37,23 @@ loop-less : tie.Need-loop-less Inv-loop μ-loop
 loop-less c = omega (arith, c .before .before .before .before .before .before .before .loop-test .taken)
 
 loop-again : tie.Need-loop-again Inv-loop μ-loop
-loop-again c =     let a = c .before .before .before .before .before .before .before .before .before .before .before .before .args in
+loop-again c = let a = c .before .before .before .before .before .before .before .before .before .before .before .before .args in
     let l = c .before .before .before .before .before .before .before .before .loop in
     let e = c .before .before .before .before .put-level .ensures in
     (omega (arith, c .before .before .before .before .before .before .before .loop-test .taken), levels-more putHash (treeOf (a .content .now)) (a .n) (l .h) (a .hashes .now) (e .0) (l .inv .1), levels-more mark (treeOf (a .content .now)) (a .n) (l .h) (a .trusted .now) (e .1) (l .inv .2))
 
 same-length : tie.Need-same-length Inv-loop μ-loop
-same-length c =     let a = c .before .before .before .before .before .args in
+same-length c = let a = c .before .before .before .before .before .args in
     let l = c .before .loop in
     ap length (l .inv .1) ∙ length-levels putHash (treeOf (a .content .now)) length-putHash (a .n) (l .h) (a .hashes .now)
 
 same-length-2 : tie.Need-same-length-2 Inv-loop μ-loop
-same-length-2 c =     let a = c .before .before .before .before .before .args in
+same-length-2 c = let a = c .before .before .before .before .before .args in
     let l = c .before .loop in
     ap length (l .inv .2) ∙ length-levels mark (treeOf (a .content .now)) length-mark (a .n) (l .h) (a .trusted .now)
 
 returns : tie.Need-returns Inv-loop μ-loop
-returns c =     let a = c .before .before .before .before .before .args in
+returns c = let a = c .before .before .before .before .before .args in
     let l = c .before .loop in
     let e : l .h ≡ suc (a .top) = omega (arith, l .inv .0, c .loop-test .left) in
     (l .inv .1 ∙ ap (λ (x : ℕ). putLevels putHash (treeOf (a .content .now)) (a .n) x (a .hashes .now)) e, l .inv .2 ∙ ap (λ (x : ℕ). putLevels mark (treeOf (a .content .now)) (a .n) x (a .trusted .now)) e)

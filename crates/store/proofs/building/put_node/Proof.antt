@@ -10,7 +10,7 @@ use Rattle.store.proofs.building.put_node.Statement.{statement}
 use Rattle.store.proofs.building.put_node.Tie as tie
 
 nth-requires : tie.Need-nth-requires
-nth-requires c κs =     let a = c .before .before .before .args in
+nth-requires c κs = let a = c .before .before .before .args in
     let p = c .before .before .before .pre .0 in
     let i = kth-inside (a .n) (a .h) (a .k) (p .1) in
     (p .0, omega (arith, i, pow-pos (a .h)))
@@ -28,7 +28,7 @@ same-length-2 : tie.Need-same-length-2
 same-length-2 c = search needs
 
 returns : tie.Need-returns
-returns c =     let a = c .before .before .before .before .before .before .before .before .before .before .before .before .before .args in
+returns c = let a = c .before .before .before .before .before .before .before .before .before .before .before .before .before .args in
     let t = c .before .before .before .before .trust .ensures in
     let b = c .before .before .before .before .before .before .before .before .before .nth .ensures in
     let v = c .before .before .before .before .before .before .before .hash-of .ensures in

@@ -18,14 +18,14 @@ clear-row-requires : tie.Need-clear-row-requires
 clear-row-requires c κs = search needs
 
 mul-clear-row : tie.Need-mul-clear-row
-mul-clear-row c =     let a = c .before .before .before .before .before .before .before .before .before .args in
+mul-clear-row c = let a = c .before .before .before .before .before .before .before .before .before .args in
     let g = places-small 32 _ _ (c .before .before .before .before .before .leaf-places .ensures) (omega arith) in search needs
 
 clear-row-requires-2 : tie.Need-clear-row-requires-2
 clear-row-requires-2 c κs = search needs
 
 sub-trust : tie.Need-sub-trust
-sub-trust c =     let a = c .before .before .before .before .before .before .before .before .before .before .before .before .before .before .args in
+sub-trust c = let a = c .before .before .before .before .before .before .before .before .before .before .before .before .before .before .args in
     let e = c .before .before .before .before .before .before .before .before .before .before .leaf-places .ensures in omega (arith, e, pow-pos (levels (a .n)))
 
 trust-requires : tie.Need-trust-requires
@@ -41,7 +41,7 @@ same-length-3 : tie.Need-same-length-3
 same-length-3 c = search needs
 
 returns : tie.Need-returns
-returns c =     let a = c .before .before .before .before .before .before .before .before .before .before .before .before .before .before .before .before .before .before .before .args in
+returns c = let a = c .before .before .before .before .before .before .before .before .before .before .before .before .before .before .before .before .before .before .before .args in
     started-is (a .map .now) (a .hashes .now) (a .trusted .now) (a .n) (bytesOf (a .root .words)) _ (c .before .before .before .before .before .before .before .before .before .before .before .before .before .before .before .leaf-places .ensures) (c .before .before .before .before .before .before .before .before .before .before .before .before .before .clear-row .ensures) (c .before .before .before .before .before .before .before .before .before .clear-row2 .ensures) (c .before .before .before .before .trust .ensures .0) (c .before .before .before .before .trust .ensures .1)
 
 pub start-spec : {M : Type 1} → statement M

@@ -20,14 +20,14 @@ zero-requires c κs = search needs
 
 returns : tie.Need-returns
 unfolding filler
-returns c =     let a = c .before .before .before .before .before .before .before .before .args in
+returns c = let a = c .before .before .before .before .before .before .before .before .args in
     (build-not (roomsOf (a .chunks .now) (a .map .now) (a .hashes .now) (a .trusted .now)) (a .length) (c .before .before .build-answer .result) (a .content .now) (c .before .before .build-answer .ensures) (c .before .if1 .taken), root-not _ (rootOf (a .content .now)) (c .before .if1 .taken) (c .zero .ensures))
 
 chunk-count-requires : tie.Need-chunk-count-requires
 chunk-count-requires c κs = search needs
 
 build-requires : tie.Need-build-requires
-build-requires c κs =     let a = c .before .before .before .before .before .before .before .before .before .before .before .before .args in
+build-requires c κs = let a = c .before .before .before .before .before .before .before .before .before .before .before .before .args in
     build-facts (roomsOf (a .chunks .now) (a .map .now) (a .hashes .now) (a .trusted .now)) (a .length) (c .before .before .before .before .before .before .build-answer .result) (a .content .now) (c .before .before .before .before .before .before .build-answer .ensures) (omega arith) (c .before .before .before .before .chunk-count .result) (c .before .before .before .before .chunk-count .ensures)
 
 same-length : tie.Need-same-length
@@ -43,7 +43,7 @@ same-length-4 : tie.Need-same-length-4
 same-length-4 c = search needs
 
 returns-2 : tie.Need-returns-2
-returns-2 c =     let a = c .before .before .before .before .before .before .before .before .before .before .before .before .before .before .before .before .before .before .before .before .before .args in
+returns-2 c = let a = c .before .before .before .before .before .before .before .before .before .before .before .before .before .before .before .before .before .before .before .before .before .args in
     (build-done (roomsOf (a .chunks .now) (a .map .now) (a .hashes .now) (a .trusted .now)) (a .length) (c .before .before .before .before .before .before .before .before .before .before .before .before .before .before .before .build-answer .result) (a .content .now) (c .before .before .before .before .before .before .before .before .before .before .before .before .before .before .before .build-answer .ensures) (omega arith) (c .before .before .before .before .before .before .before .before .build .ensures .1), c .before .before .before .before .before .before .before .before .build .ensures .0)
 
 pub build-spec : {M : Type 1} → statement M

@@ -24,7 +24,7 @@ enum-known-v : tie.Need-enum-known-v
 enum-known-v c = search needs
 
 store-requires : tie.Need-store-requires
-store-requires c κs =     let a = c .before .before .before .before .before .before .before .before .before .before .before .before .before .before .before .before .before .before .args in
+store-requires c κs = let a = c .before .before .before .before .before .before .before .before .before .before .before .before .before .before .before .before .before .before .args in
     let o = integrityOf (a .entries .now) (a .bytes .now) in
     let p = c .before .before .before .before .before .before .before .before .before .before .before .before .before .before .before .before .before .before .pre in
     let e = c .before .before .before .before .before .v .given .1 in
@@ -55,7 +55,7 @@ same-length-4 : tie.Need-same-length-4
 same-length-4 c = search needs
 
 returns : tie.Need-returns
-returns c =     let a = c .before .before .before .before .before .before .before .before .before .before .before .before .before .before .before .before .before .before .before .before .before .before .before .before .before .before .before .args in
+returns c = let a = c .before .before .before .before .before .before .before .before .before .before .before .before .before .before .before .before .before .before .before .before .before .before .before .before .before .before .before .args in
     let o = integrityOf (a .entries .now) (a .bytes .now) in
     settle-fits (roomsOf (a .chunks .now) (a .map .now) (a .hashes .now) (a .trusted .now)) (bytesOf (a .root .words)) (a .n) (a .c) (a .chunk .now) o (c .before .before .before .before .before .before .before .before .before .before .before .before .before .before .before .before .before .judge .result .verdict) (c .before .before .before .before .before .before .before .before .before .before .before .before .before .before .before .before .before .judge .ensures .0) (c .before .before .before .before .before .before .before .before .before .before .before .before .before .before .v .given .0 .0) _ (c .before .before .before .before .before .before .before .before .before .before .before .before .before .before .v .given .1) (c .before .before .before .before .before .before .before .before .store .ensures)
 
@@ -66,7 +66,7 @@ same-length-6 : tie.Need-same-length-6
 same-length-6 c = search needs
 
 returns-2 : tie.Need-returns-2
-returns-2 c =     let a = c .before .before .before .before .before .before .before .before .before .before .before .before .before .args in
+returns-2 c = let a = c .before .before .before .before .before .before .before .before .before .before .before .before .before .args in
     let o = integrityOf (a .entries .now) (a .bytes .now) in
     settle-missing (roomsOf (a .chunks .now) (a .map .now) (a .hashes .now) (a .trusted .now)) (bytesOf (a .root .words)) (a .n) (a .c) (a .chunk .now) o (c .before .before .before .judge .result .verdict) (c .before .before .before .judge .ensures .0) (c .enum-told .given .1)
 
@@ -77,7 +77,7 @@ same-length-8 : tie.Need-same-length-8
 same-length-8 c = search needs
 
 returns-3 : tie.Need-returns-3
-returns-3 c =     let a = c .before .before .before .before .before .before .before .before .before .before .before .before .before .args in
+returns-3 c = let a = c .before .before .before .before .before .before .before .before .before .before .before .before .before .args in
     let o = integrityOf (a .entries .now) (a .bytes .now) in
     settle-peaks (roomsOf (a .chunks .now) (a .map .now) (a .hashes .now) (a .trusted .now)) (bytesOf (a .root .words)) (a .n) (a .c) (a .chunk .now) o (c .before .before .before .judge .result .verdict) (c .before .before .before .judge .ensures .0) (c .enum-told2 .given .1)
 
@@ -88,7 +88,7 @@ same-length-10 : tie.Need-same-length-10
 same-length-10 c = search needs
 
 returns-4 : tie.Need-returns-4
-returns-4 c =     let a = c .before .before .before .before .before .before .before .before .before .before .before .before .before .args in
+returns-4 c = let a = c .before .before .before .before .before .before .before .before .before .before .before .before .before .args in
     let o = integrityOf (a .entries .now) (a .bytes .now) in
     settle-climb (roomsOf (a .chunks .now) (a .map .now) (a .hashes .now) (a .trusted .now)) (bytesOf (a .root .words)) (a .n) (a .c) (a .chunk .now) o (c .before .before .before .judge .result .verdict) (c .before .before .before .judge .ensures .0) (c .enum-told3 .given .1)
 

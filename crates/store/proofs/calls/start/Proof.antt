@@ -15,7 +15,7 @@ order-answer-requires : tie.Need-order-answer-requires
 order-answer-requires c κs = search needs
 
 returns : tie.Need-returns
-returns c =     let a = c .before .before .before .before .before .before .before .args in
+returns c = let a = c .before .before .before .before .before .before .before .args in
     start-refused (roomsOf (a .chunks .now) (a .map .now) (a .hashes .now) (a .trusted .now)) (bytesOf (a .order .root .words)) (a .order .length) _ (c .before .order-answer .ensures) (c .if1 .taken)
 
 chunk-count-requires : tie.Need-chunk-count-requires
@@ -34,7 +34,7 @@ same-length-3 : tie.Need-same-length-3
 same-length-3 c = search needs
 
 returns-2 : tie.Need-returns-2
-returns-2 c =     let a = c .before .before .before .before .before .before .before .before .before .before .before .before .before .before .before .before .before .before .args in
+returns-2 c = let a = c .before .before .before .before .before .before .before .before .before .before .before .before .before .before .before .before .before .before .args in
     start-done (roomsOf (a .chunks .now) (a .map .now) (a .hashes .now) (a .trusted .now)) (bytesOf (a .order .root .words)) (a .order .length) _ (c .before .before .before .before .before .before .before .before .before .before .before .before .order-answer .ensures) (omega arith) (c .before .before .before .before .before .before .before .chunk-count .result) (c .before .before .before .before .before .before .before .chunk-count .ensures) (c .before .before .before .before .before .before .start .ensures)
 
 pub start-spec : {M : Type 1} → statement M

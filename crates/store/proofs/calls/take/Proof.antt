@@ -16,14 +16,14 @@ take-answer-requires : tie.Need-take-answer-requires
 take-answer-requires c κs = search needs
 
 returns : tie.Need-returns
-returns c =     let a = c .before .before .before .before .before .before .before .before .before .before .args in
+returns c = let a = c .before .before .before .before .before .before .before .before .before .before .args in
     take-refused (roomsOf (a .chunks .now) (a .map .now) (a .hashes .now) (a .trusted .now)) (bytesOf (a .order .root .words)) (a .order .length) (a .c) (a .chunk .now) (integrityOf (a .entries .now) (a .bytes .now)) (c .before .take-answer .result) (c .before .take-answer .ensures) (c .if1 .taken)
 
 chunk-count-requires : tie.Need-chunk-count-requires
 chunk-count-requires c κs = search needs
 
 settle-requires : tie.Need-settle-requires
-settle-requires c κs =     let a = c .before .before .before .before .before .before .before .before .before .before .before .before .before .before .before .args in
+settle-requires c κs = let a = c .before .before .before .before .before .before .before .before .before .before .before .before .before .before .before .args in
     take-facts (roomsOf (a .chunks .now) (a .map .now) (a .hashes .now) (a .trusted .now)) (bytesOf (a .order .root .words)) (a .order .length) (a .c) (a .chunk .now) (integrityOf (a .entries .now) (a .bytes .now)) (c .before .before .before .before .before .before .take-answer .result) (c .before .before .before .before .before .before .take-answer .ensures) (omega arith) (c .before .before .before .before .chunk-count .result) (c .before .before .before .before .chunk-count .ensures)
 
 same-length : tie.Need-same-length
@@ -39,7 +39,7 @@ same-length-4 : tie.Need-same-length-4
 same-length-4 c = search needs
 
 returns-2 : tie.Need-returns-2
-returns-2 c =     let a = c .before .before .before .before .before .before .before .before .before .before .before .before .before .before .before .before .before .before .before .before .before .before .before .before .args in
+returns-2 c = let a = c .before .before .before .before .before .before .before .before .before .before .before .before .before .before .before .before .before .before .before .before .before .before .before .before .args in
     take-settled (roomsOf (a .chunks .now) (a .map .now) (a .hashes .now) (a .trusted .now)) (bytesOf (a .order .root .words)) (a .order .length) (a .c) (a .chunk .now) (integrityOf (a .entries .now) (a .bytes .now)) (c .before .before .before .before .before .before .before .before .before .before .before .before .before .before .before .take-answer .result) (c .before .before .before .before .before .before .before .before .before .before .before .before .before .before .before .take-answer .ensures) (omega arith) (c .before .before .before .before .before .before .before .before .before .before .before .before .before .chunk-count .result) (c .before .before .before .before .before .before .before .before .before .before .before .before .before .chunk-count .ensures) (c .before .before .before .before .before .before .before .before .settle .ensures)
 
 pub take-spec : {M : Type 1} → statement M

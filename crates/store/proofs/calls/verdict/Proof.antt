@@ -16,7 +16,7 @@ judge-requires : tie.Need-judge-requires
 judge-requires c κs = search needs
 
 returns : tie.Need-returns
-returns c =     let a = c .before .before .before .before .before .before .before .before .args in
+returns c = let a = c .before .before .before .before .before .before .before .before .args in
     c .judge .ensures .0
     ∙ ap (λ (n : ℕ). roomVerdict n (bytesOf (a .order .root .words)) (a .hashes .now) (a .trusted .now) (a .c) (a .chunk .now) (integrityOf (a .entries .now) (a .bytes .now))) (c .before .chunk-count .ensures)
 

@@ -11,7 +11,7 @@ fits-requires : tie.Need-fits-requires
 fits-requires c κs = search needs
 
 returns : tie.Need-returns
-returns c =     let a = c .before .before .before .before .args in
+returns c = let a = c .before .before .before .before .args in
     has-is (a .entries .now) (a .bytes .now) (a .b) (c .before .place .result) (c .before .place .ensures) (c .fits2 .ensures)
 
 pub has-spec : {M : Type 1} → statement M

@@ -42,7 +42,7 @@ loop-less : tie.Need-loop-less Inv-loop μ-loop
 loop-less c = omega arith
 
 loop-again : tie.Need-loop-again Inv-loop μ-loop
-loop-again c =     let r = c .before .before .before .before .loop .rest .now in
+loop-again c = let r = c .before .before .before .before .loop .rest .now in
     ap (λ (x : List ℕ). find x (c .before .before .before .before .before .args .b)) (rest-is r) ∙ sym (find-next r (c .before .before .before .before .before .args .b) (omega arith) (c .before .if1 .left)) ∙ c .before .before .before .before .loop .inv
 
 returns-2 : tie.Need-returns-2 Inv-loop μ-loop

@@ -17,7 +17,7 @@ abbrev μ-loop : tie.MeasureT-loop
 μ-loop entries bytes n top ok₀ h₀ ok h = suc top - h
 
 loop-holds : tie.Need-loop-holds Inv-loop μ-loop
-loop-holds c =     let a = c .before .before .args in
+loop-holds c = let a = c .before .before .args in
     let o = integrityOf (a .entries .now) (a .bytes .now) in
     (omega arith, every-none (cameIn o) (a .n))
 
@@ -31,12 +31,12 @@ loop-less : tie.Need-loop-less Inv-loop μ-loop
 loop-less c = omega arith
 
 loop-again : tie.Need-loop-again Inv-loop μ-loop
-loop-again c =     let a = c .before .before .before .before .before .args in
+loop-again c = let a = c .before .before .before .before .before .args in
     let o = integrityOf (a .entries .now) (a .bytes .now) in
     (omega arith, every-peak (cameIn o) (a .n) (c .before .before .loop .h) _ _ (c .peak-came .ensures) (c .before .before .loop .inv .1))
 
 returns : tie.Need-returns Inv-loop μ-loop
-returns c =     let a = c .before .before .before .before .args in
+returns c = let a = c .before .before .before .before .args in
     let o = integrityOf (a .entries .now) (a .bytes .now) in
     every-end (cameIn o) (a .n) (c .before .loop .h) _ (omega arith) (c .before .loop .inv .1)
 

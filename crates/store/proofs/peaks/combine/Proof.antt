@@ -27,7 +27,7 @@ zero-requires c κs = search needs
 
 loop-holds : tie.Need-loop-holds Inv-loop μ-loop
 unfolding filler
-loop-holds c =     let a = c .before .before .before .before .args in
+loop-holds c = let a = c .before .before .before .before .args in
     let o = integrityOf (a .entries .now) (a .bytes .now) in
     (omega arith, c .zero .ensures ∙ sym (folded-start sha256 filler (a .n) (sourceBy (a .from) (a .hashes .now) o)))
 
@@ -41,17 +41,16 @@ loop-less : tie.Need-loop-less Inv-loop μ-loop
 loop-less c = omega arith
 
 loop-again : tie.Need-loop-again Inv-loop μ-loop
-loop-again c =     let a = c .before .before .before .before .before .before .before .args in
+loop-again c = let a = c .before .before .before .before .before .before .before .args in
     let o = integrityOf (a .entries .now) (a .bytes .now) in
-    let l = c .before .before .loop in
-    (
+    let l = c .before .before .loop in (
       omega arith,
       rw (add-one (l .h))
           (c .fold .ensures ∙ ap (folded sha256 filler (a .n) (sourceBy (a .from) (a .hashes .now) o) (l .h)) (l .inv .1) ∙ folded-given sha256 filler (a .n) (sourceBy (a .from) (a .hashes .now) o) (l .h)),
     )
 
 returns : tie.Need-returns Inv-loop μ-loop
-returns c =     let a = c .before .before .before .before .before .before .args in
+returns c = let a = c .before .before .before .before .before .before .args in
     let o = integrityOf (a .entries .now) (a .bytes .now) in
     let l = c .before .loop in
     let e : l .h ≡ a .top = omega arith in

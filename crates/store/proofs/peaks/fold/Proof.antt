@@ -25,7 +25,7 @@ parent-requires : tie.Need-parent-requires
 parent-requires c κs = search needs
 
 returns : tie.Need-returns
-returns c =     let a = c .before .before .before .before .before .before .before .before .args in
+returns c = let a = c .before .before .before .before .before .before .before .before .args in
     let o = integrityOf (a .entries .now) (a .bytes .now) in
     let e : a .n / 2 ^ a .h % 2 ≡ 1 = sym (c .before .before .before .before .side .ensures) ∙ c .before .before .before .if1 .taken in
     c .parent .ensures
@@ -36,7 +36,7 @@ above-requires : tie.Need-above-requires
 above-requires c κs = search needs
 
 returns-2 : tie.Need-returns-2
-returns-2 c =     let a = c .before .before .before .before .before .before .before .args in
+returns-2 c = let a = c .before .before .before .before .before .before .before .args in
     let o = integrityOf (a .entries .now) (a .bytes .now) in
     sym (folded-none sha256 filler (a .n) (sourceBy (a .from) (a .hashes .now) o) (a .h) (bytesOf (a .acc .words)) (λ q. c .before .before .if1 .left (c .before .before .before .side .ensures ∙ q)) (sym (c .before .above .ensures .0) ∙ c .if2 .taken))
 
@@ -48,7 +48,7 @@ parent-requires-2 c κs = search needs
 
 returns-3 : tie.Need-returns-3
 unfolding filler
-returns-3 c =     let a = c .before .before .before .before .before .before .before .before .before .args in
+returns-3 c = let a = c .before .before .before .before .before .before .before .before .before .args in
     let o = integrityOf (a .entries .now) (a .bytes .now) in
     c .parent2 .ensures ∙ ap (λ (x : List ℕ). sha256 (bytesOf (a .acc .words) ++ x)) (c .before .zero .ensures)
     ∙ sym (folded-some sha256 filler (a .n) (sourceBy (a .from) (a .hashes .now) o) (a .h) (bytesOf (a .acc .words)) (λ q. c .before .before .before .before .if1 .left (c .before .before .before .before .before .side .ensures ∙ q)) (λ q. c .before .before .if2 .left (c .before .before .before .above .ensures .0 ∙ q)))

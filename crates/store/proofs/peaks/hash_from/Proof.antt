@@ -11,7 +11,7 @@ get-requires : tie.Need-get-requires
 get-requires c κs = search needs
 
 returns : tie.Need-returns
-returns c =     let a = c .before .before .before .before .before .args in
+returns c = let a = c .before .before .before .before .before .args in
     let o = integrityOf (a .entries .now) (a .bytes .now) in
     c .get .ensures ∙ ap (λ (t : Bool). source t (a .hashes .now) o (a .b)) (sym (c .before .if1 .taken))
 
@@ -19,7 +19,7 @@ read-requires : tie.Need-read-requires
 read-requires c κs = search needs
 
 returns-2 : tie.Need-returns-2
-returns-2 c =     let a = c .before .before .before .before .before .args in
+returns-2 c = let a = c .before .before .before .before .before .args in
     let o = integrityOf (a .entries .now) (a .bytes .now) in
     c .read .ensures ∙ ap (λ (t : Bool). source t (a .hashes .now) o (a .b)) (sym (c .before .if1 .left))
 

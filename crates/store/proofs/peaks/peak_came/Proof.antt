@@ -14,7 +14,7 @@ side-requires : tie.Need-side-requires
 side-requires c κs = search needs
 
 returns : tie.Need-returns
-returns c =     let a = c .before .before .before .before .args in
+returns c = let a = c .before .before .before .before .args in
     let o = integrityOf (a .entries .now) (a .bytes .now) in
     let e : a .n / 2 ^ a .h % 2 ≢ 1 = λ q. c .if1 .taken (c .before .side .ensures ∙ q) in step-skip (a .n / 2 ^ a .h % 2) (came o (num (peakAt (a .n) (a .h)))) (a .ok) e
 
@@ -25,12 +25,12 @@ has-requires : tie.Need-has-requires
 has-requires c κs = search needs
 
 returns-2 : tie.Need-returns-2
-returns-2 c =     let a = c .before .before .before .before .before .before .before .args in
+returns-2 c = let a = c .before .before .before .before .before .before .before .args in
     let o = integrityOf (a .entries .now) (a .bytes .now) in
     step-yes (a .n / 2 ^ a .h % 2) (came o (num (peakAt (a .n) (a .h)))) (a .ok) (sym (c .before .before .before .before .side .ensures) ∙ c .before .before .before .if1 .left) (ap (came o) (sym (c .before .before .peak .ensures)) ∙ sym (c .before .has .ensures) ∙ c .if2 .taken)
 
 returns-3 : tie.Need-returns-3
-returns-3 c =     let a = c .before .before .before .before .before .before .before .args in
+returns-3 c = let a = c .before .before .before .before .before .before .before .args in
     let o = integrityOf (a .entries .now) (a .bytes .now) in
     step-no (a .n / 2 ^ a .h % 2) (came o (num (peakAt (a .n) (a .h)))) (a .ok) (sym (c .before .before .before .before .side .ensures) ∙ c .before .before .before .if1 .left) (ap (came o) (sym (c .before .before .peak .ensures)) ∙ sym (c .before .has .ensures) ∙ c .if2 .left)
 

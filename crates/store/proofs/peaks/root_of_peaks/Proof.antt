@@ -22,7 +22,7 @@ hash-from-requires : tie.Need-hash-from-requires
 hash-from-requires c κs = search needs
 
 returns : tie.Need-returns
-returns c =     let a = c .before .before .before .before .before .before .args in
+returns c = let a = c .before .before .before .before .before .before .args in
     let o = integrityOf (a .entries .now) (a .bytes .now) in
     let e : a .n ≡ 2 ^ a .top = omega (arith, c .before .if1 .taken, c .before .before .pow2 .ensures .0) in
     let f : c .before .before .pow2 .result - 1 ≡ bin (a .top) 0 = omega arith in

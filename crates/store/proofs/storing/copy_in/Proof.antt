@@ -35,7 +35,7 @@ loop-less : tie.Need-loop-less Inv-loop μ-loop
 loop-less c = omega arith
 
 loop-again : tie.Need-loop-again Inv-loop μ-loop
-loop-again c =     let l = c .before .before in
+loop-again c = let l = c .before .before in
     let a = l .before .args in (
       omega arith,
       simp length-set (omega arith),
@@ -49,7 +49,7 @@ same-length c = omega arith
 
 returns : tie.Need-returns Inv-loop μ-loop
 unfolding copied
-returns c =     let a = c .before .before .args in
+returns c = let a = c .before .before .args in
     let e : c .before .loop .j ≡ length (a .src .now) = omega arith in
     c .before .loop .inv .2 ∙ ap (paste (a .dst .now) (a .at) (a .src .now)) e
 

@@ -26,7 +26,7 @@ abbrev μ-loop : tie.MeasureT-loop
 
 loop-holds : tie.Need-loop-holds Inv-loop μ-loop
 unfolding climb
-loop-holds c =     let a = c .before .before .before .before .args in
+loop-holds c = let a = c .before .before .before .before .args in
     let o = integrityOf (a .entries .now) (a .bytes .now) in
     (omega arith, path-none putHash (λ h. climb sha256 (gotBy o) (bytesOf (a .v .words)) (a .c) h (above h (a .c))) (gotBy o) (a .c) (a .hashes .now), path-none mark (λ h. climb sha256 (gotBy o) (bytesOf (a .v .words)) (a .c) h (above h (a .c))) (gotBy o) (a .c) (a .trusted .now), refl)
 
@@ -40,7 +40,7 @@ loop-less : tie.Need-loop-less Inv-loop μ-loop
 loop-less c = omega arith
 
 loop-again : tie.Need-loop-again Inv-loop μ-loop
-loop-again c =     let a = c .before .before .before .before .before .before .before .before .before .before .before .before .before .args in
+loop-again c = let a = c .before .before .before .before .before .before .before .before .before .before .before .before .before .args in
     let o = integrityOf (a .entries .now) (a .bytes .now) in
     let l = c .before .before .before .before .before .before .before .before .loop in
     let e = c .before .before .before .before .put-step .ensures in (
@@ -54,19 +54,19 @@ loop-again c =     let a = c .before .before .before .before .before .before .be
     )
 
 same-length : tie.Need-same-length Inv-loop μ-loop
-same-length c =     let a = c .before .before .before .before .before .before .args in
+same-length c = let a = c .before .before .before .before .before .before .args in
     let o = integrityOf (a .entries .now) (a .bytes .now) in
     let l = c .before .loop in
     ap length (l .inv .1) ∙ length-path putHash length-putHash (λ h. climb sha256 (gotBy o) (bytesOf (a .v .words)) (a .c) h (above h (a .c))) (gotBy o) (a .c) (l .h) (a .hashes .now)
 
 same-length-2 : tie.Need-same-length-2 Inv-loop μ-loop
-same-length-2 c =     let a = c .before .before .before .before .before .before .args in
+same-length-2 c = let a = c .before .before .before .before .before .before .args in
     let o = integrityOf (a .entries .now) (a .bytes .now) in
     let l = c .before .loop in
     ap length (l .inv .2) ∙ length-path mark length-mark (λ h. climb sha256 (gotBy o) (bytesOf (a .v .words)) (a .c) h (above h (a .c))) (gotBy o) (a .c) (l .h) (a .trusted .now)
 
 returns : tie.Need-returns Inv-loop μ-loop
-returns c =     let a = c .before .before .before .before .before .before .args in
+returns c = let a = c .before .before .before .before .before .before .args in
     let o = integrityOf (a .entries .now) (a .bytes .now) in
     let l = c .before .loop in
     let e : l .h ≡ a .t = omega arith in

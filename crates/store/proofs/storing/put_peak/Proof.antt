@@ -31,7 +31,7 @@ same-length-2 : tie.Need-same-length-2
 same-length-2 c = search needs
 
 returns : tie.Need-returns
-returns c =     let a = c .before .before .before .before .before .before .before .before .before .before .before .before .before .before .before .args in
+returns c = let a = c .before .before .before .before .before .before .before .before .before .before .before .before .before .before .before .args in
     let o = integrityOf (a .entries .now) (a .bytes .now) in
     let b : a .n / 2 ^ a .h % 2 ≡ 1 = sym (c .before .before .before .before .before .before .before .before .before .before .side .ensures) ∙ c .before .before .before .before .before .before .before .before .before .if1 .taken in
     let t = c .before .before .before .before .trust .ensures in
@@ -39,7 +39,7 @@ returns c =     let a = c .before .before .before .before .before .before .befor
     (put-one putHash (a .hashes .now) _ (t .0) (c .before .before .before .before .before .before .before .before .peak .ensures) v b, put-one mark (a .trusted .now) _ (t .1) (c .before .before .before .before .before .before .before .before .peak .ensures) v b)
 
 returns-2 : tie.Need-returns-2
-returns-2 c =     let a = c .before .before .before .before .before .before .args in
+returns-2 c = let a = c .before .before .before .before .before .before .args in
     let o = integrityOf (a .entries .now) (a .bytes .now) in
     let d : a .n / 2 ^ a .h % 2 ≢ 1 = λ q. c .if1 .left (c .before .side .ensures ∙ q) in
     (put-none putHash (a .hashes .now) _ (gotBy o (a .h) (above (suc (a .h)) (a .n))) _ d, put-none mark (a .trusted .now) _ (gotBy o (a .h) (above (suc (a .h)) (a .n))) _ d)

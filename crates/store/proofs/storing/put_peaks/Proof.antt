@@ -19,7 +19,7 @@ abbrev μ-loop : tie.MeasureT-loop
 μ-loop hashes₀ trusted₀ entries bytes n top h₀ hashes trusted h = suc top - h
 
 loop-holds : tie.Need-loop-holds Inv-loop μ-loop
-loop-holds c =     let a = c .before .before .before .before .args in
+loop-holds c = let a = c .before .before .before .before .args in
     let o = integrityOf (a .entries .now) (a .bytes .now) in
     (omega arith, peaks-none putHash (gotBy o) (a .n) (a .hashes .now), peaks-none mark (gotBy o) (a .n) (a .trusted .now))
 
@@ -33,26 +33,26 @@ loop-less : tie.Need-loop-less Inv-loop μ-loop
 loop-less c = omega arith
 
 loop-again : tie.Need-loop-again Inv-loop μ-loop
-loop-again c =     let a = c .before .before .before .before .before .before .before .before .before .before .before .before .before .args in
+loop-again c = let a = c .before .before .before .before .before .before .before .before .before .before .before .before .before .args in
     let o = integrityOf (a .entries .now) (a .bytes .now) in
     let l = c .before .before .before .before .before .before .before .before .loop in
     let e = c .before .before .before .before .put-peak .ensures in
     (omega arith, peaks-more putHash (gotBy o) (a .n) (a .hashes .now) (l .h) (e .0) (l .inv .1), peaks-more mark (gotBy o) (a .n) (a .trusted .now) (l .h) (e .1) (l .inv .2))
 
 same-length : tie.Need-same-length Inv-loop μ-loop
-same-length c =     let a = c .before .before .before .before .before .before .args in
+same-length c = let a = c .before .before .before .before .before .before .args in
     let o = integrityOf (a .entries .now) (a .bytes .now) in
     let l = c .before .loop in
     ap length (l .inv .1) ∙ length-peaks putHash length-putHash (gotBy o) (a .n) (l .h) (a .hashes .now)
 
 same-length-2 : tie.Need-same-length-2 Inv-loop μ-loop
-same-length-2 c =     let a = c .before .before .before .before .before .before .args in
+same-length-2 c = let a = c .before .before .before .before .before .before .args in
     let o = integrityOf (a .entries .now) (a .bytes .now) in
     let l = c .before .loop in
     ap length (l .inv .2) ∙ length-peaks mark length-mark (gotBy o) (a .n) (l .h) (a .trusted .now)
 
 returns : tie.Need-returns Inv-loop μ-loop
-returns c =     let a = c .before .before .before .before .before .before .args in
+returns c = let a = c .before .before .before .before .before .before .args in
     let o = integrityOf (a .entries .now) (a .bytes .now) in
     let l = c .before .loop in
     let e : l .h ≡ suc (a .top) = omega arith in

@@ -35,7 +35,7 @@ same-length-2 : tie.Need-same-length-2
 same-length-2 c = search needs
 
 returns : tie.Need-returns
-returns c =     let a = c .before .before .before .before .before .before .before .before .before .before .before .before .before .before .before .before .before .before .before .before .before .before .args in
+returns c = let a = c .before .before .before .before .before .before .before .before .before .before .before .before .before .before .before .before .before .before .before .before .before .before .args in
     let o = integrityOf (a .entries .now) (a .bytes .now) in
     let u = c .before .before .before .before .before .before .before .before .before .before .before .before .before .before .trust .ensures in
     let w = c .before .before .before .before .before .trust2 .ensures in

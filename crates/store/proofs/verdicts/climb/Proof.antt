@@ -33,10 +33,9 @@ loop-less : tie.Need-loop-less Inv-loop μ-loop
 loop-less c = omega arith
 
 loop-again : tie.Need-loop-again Inv-loop μ-loop
-loop-again c =     let a = c .before .before .before .before .before .args in
+loop-again c = let a = c .before .before .before .before .before .args in
     let o = integrityOf (a .entries .now) (a .bytes .now) in
-    let l = c .before .before .loop in
-    (
+    let l = c .before .before .loop in (
       omega arith,
       rw (add-one (l .h))
           (c .step .ensures
@@ -45,7 +44,7 @@ loop-again c =     let a = c .before .before .before .before .before .args in
     )
 
 returns : tie.Need-returns Inv-loop μ-loop
-returns c =     let a = c .before .before .before .before .args in
+returns c = let a = c .before .before .before .before .args in
     let o = integrityOf (a .entries .now) (a .bytes .now) in
     let l = c .before .loop in
     let e : l .h ≡ a .t = omega arith in

@@ -28,19 +28,19 @@ before-leaf-requires : tie.Need-before-leaf-requires
 before-leaf-requires c κs = search needs
 
 returns : tie.Need-returns
-returns c =     let a = c .before .before .before .before .before .before .before .before .before .before .before .args in
+returns c = let a = c .before .before .before .before .before .before .before .before .before .before .before .args in
     let o = integrityOf (a .entries .now) (a .bytes .now) in
     (c .before-leaf .ensures ∙ judge-missing (a .n) (bytesOf (a .root .words)) (a .hashes .now) (a .trusted .now) (a .c) (a .chunk .now) o _ _ _ (c .before .before .before .before .before .levels .ensures .0) (c .before .before .before .before .all-trusted .ensures) (c .before .before .before .reach .ensures .0) _ (c .before .before .complete .ensures) (not-true _ (c .before .if1 .taken)), leaf-missing _ _ _ (c .before-leaf .ensures))
 
 rooted-requires : tie.Need-rooted-requires
-rooted-requires c κs =     let a = c .before .before .before .before .before .before .before .before .before .before .args in
+rooted-requires c κs = let a = c .before .before .before .before .before .before .before .before .before .before .args in
     (c .before .before .before .before .levels .ensures .1, rw (c .before .before .before .before .levels .ensures .0) (levels-holds (a .n)))
 
 before-leaf-requires-2 : tie.Need-before-leaf-requires-2
 before-leaf-requires-2 c κs = search needs
 
 returns-2 : tie.Need-returns-2
-returns-2 c =     let a = c .before .before .before .before .before .before .before .before .before .before .before .before .before .args in
+returns-2 c = let a = c .before .before .before .before .before .before .before .before .before .before .before .before .before .args in
     let o = integrityOf (a .entries .now) (a .bytes .now) in
     (c .before-leaf2 .ensures ∙ judge-peaks (a .n) (bytesOf (a .root .words)) (a .hashes .now) (a .trusted .now) (a .c) (a .chunk .now) o _ _ _ (c .before .before .before .before .before .before .before .levels .ensures .0) (c .before .before .before .before .before .before .all-trusted .ensures) (c .before .before .before .before .before .reach .ensures .0) _ (c .before .before .before .before .complete .ensures) _ (c .before .before .rooted .ensures) (not-false _ (c .before .before .before .if1 .left)) (not-true _ (c .before .if2 .taken)), leaf-peaks _ _ _ (c .before-leaf2 .ensures))
 
@@ -54,12 +54,12 @@ before-leaf-requires-3 : tie.Need-before-leaf-requires-3
 before-leaf-requires-3 c κs = search needs
 
 returns-3 : tie.Need-returns-3
-returns-3 c =     let a = c .before .before .before .before .before .before .before .before .before .before .before .before .before .before .before .before .args in
+returns-3 c = let a = c .before .before .before .before .before .before .before .before .before .before .before .before .before .before .before .before .args in
     let o = integrityOf (a .entries .now) (a .bytes .now) in
     (c .before-leaf3 .ensures ∙ judge-climb (a .n) (bytesOf (a .root .words)) (a .hashes .now) (a .trusted .now) (a .c) (a .chunk .now) o _ _ _ (c .before .before .before .before .before .before .before .before .before .before .levels .ensures .0) (c .before .before .before .before .before .before .before .before .before .all-trusted .ensures) (c .before .before .before .before .before .before .before .before .reach .ensures .0) _ (c .before .before .before .before .before .before .before .complete .ensures) _ (c .before .before .before .before .before .rooted .ensures) (not-false _ (c .before .before .before .before .before .before .if1 .left)) _ (c .before .before .before .sha256 .ensures) _ (c .before .before .met .ensures) (not-false _ (c .before .before .before .before .if2 .left)) (not-true _ (c .before .if3 .taken)), leaf-climb _ _ _ (c .before-leaf3 .ensures))
 
 returns-4 : tie.Need-returns-4
-returns-4 c =     let a = c .before .before .before .before .before .before .before .before .before .before .before .before .before .before .before .args in
+returns-4 c = let a = c .before .before .before .before .before .before .before .before .before .before .before .before .before .before .before .args in
     let o = integrityOf (a .entries .now) (a .bytes .now) in
     (judge-fits (a .n) (bytesOf (a .root .words)) (a .hashes .now) (a .trusted .now) (a .c) (a .chunk .now) o _ _ _ (c .before .before .before .before .before .before .before .before .before .levels .ensures .0) (c .before .before .before .before .before .before .before .before .all-trusted .ensures) (c .before .before .before .before .before .before .before .reach .ensures .0) _ (c .before .before .before .before .before .before .complete .ensures) _ (c .before .before .before .before .rooted .ensures) (not-false _ (c .before .before .before .before .before .if1 .left)) _ (c .before .before .sha256 .ensures) _ (c .before .met .ensures) (not-false _ (c .before .before .before .if2 .left)) (not-false _ (c .if3 .left)), c .before .before .sha256 .ensures)
 

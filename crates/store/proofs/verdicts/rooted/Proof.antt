@@ -19,7 +19,7 @@ same-requires : tie.Need-same-requires
 same-requires c κs = search needs
 
 returns-2 : tie.Need-returns-2
-returns-2 c =     let a = c .before .before .before .before .before .before .args in
+returns-2 c = let a = c .before .before .before .before .before .before .args in
     let o = integrityOf (a .entries .now) (a .bytes .now) in
     rw (c .before .before .if1 .left) (c .same .ensures ∙ ap (λ (x : List ℕ). same x (bytesOf (a .root .words))) (c .before .root-of-peaks .ensures))
 

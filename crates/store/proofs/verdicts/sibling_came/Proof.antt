@@ -15,12 +15,12 @@ has-requires : tie.Need-has-requires
 has-requires c κs = search needs
 
 returns : tie.Need-returns
-returns c =     let a = c .before .before .before .before .before .args in
+returns c = let a = c .before .before .before .before .before .args in
     let o = integrityOf (a .entries .now) (a .bytes .now) in
     ap (λ (t : Bool). pick t (a .ok) false) (sym (ap (came o) (sym (c .before .before .sibling .ensures)) ∙ sym (c .before .has .ensures) ∙ c .if1 .taken))
 
 returns-2 : tie.Need-returns-2
-returns-2 c =     let a = c .before .before .before .before .before .args in
+returns-2 c = let a = c .before .before .before .before .before .args in
     let o = integrityOf (a .entries .now) (a .bytes .now) in
     ap (λ (t : Bool). pick t (a .ok) false) (sym (ap (came o) (sym (c .before .before .sibling .ensures)) ∙ sym (c .before .has .ensures) ∙ c .if1 .left))
 

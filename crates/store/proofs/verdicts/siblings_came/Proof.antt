@@ -17,7 +17,7 @@ abbrev μ-loop : tie.MeasureT-loop
 μ-loop entries bytes c t ok₀ h₀ ok h = t - h
 
 loop-holds : tie.Need-loop-holds Inv-loop μ-loop
-loop-holds c =     let a = c .before .before .args in
+loop-holds c = let a = c .before .before .args in
     let o = integrityOf (a .entries .now) (a .bytes .now) in
     (omega arith, sibs-none (cameIn o) (a .c))
 
@@ -31,12 +31,12 @@ loop-less : tie.Need-loop-less Inv-loop μ-loop
 loop-less c = omega arith
 
 loop-again : tie.Need-loop-again Inv-loop μ-loop
-loop-again c =     let a = c .before .before .before .before .before .args in
+loop-again c = let a = c .before .before .before .before .before .args in
     let o = integrityOf (a .entries .now) (a .bytes .now) in
     (omega arith, sibs-more (cameIn o) (a .c) (c .before .before .loop .h) _ _ (c .sibling-came .ensures) (c .before .before .loop .inv .1))
 
 returns : tie.Need-returns Inv-loop μ-loop
-returns c =     let a = c .before .before .before .before .args in
+returns c = let a = c .before .before .before .before .args in
     let o = integrityOf (a .entries .now) (a .bytes .now) in
     let e : c .before .loop .h ≡ a .t = omega arith in
     c .before .loop .inv .1 ∙ ap (λ (x : ℕ). every (cameIn o) (siblings (a .c) x (above x (a .c)))) e

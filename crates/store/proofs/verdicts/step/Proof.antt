@@ -25,7 +25,7 @@ parent-requires : tie.Need-parent-requires
 parent-requires c κs = search needs
 
 returns : tie.Need-returns
-returns c =     let a = c .before .before .before .before .before .before .before .args in
+returns c = let a = c .before .before .before .before .before .before .before .args in
     let o = integrityOf (a .entries .now) (a .bytes .now) in
     let e : a .c / 2 ^ a .h % 2 ≡ 0 = sym (c .before .before .side .ensures) ∙ c .before .if1 .taken in
     c .parent .ensures ∙ ap (λ (x : List ℕ). sha256 (bytesOf (a .acc .words) ++ x)) (c .before .before .before .get .ensures ∙ ap (gotAt o) (c .before .before .before .before .sibling .ensures))
@@ -35,7 +35,7 @@ parent-requires-2 : tie.Need-parent-requires-2
 parent-requires-2 c κs = search needs
 
 returns-2 : tie.Need-returns-2
-returns-2 c =     let a = c .before .before .before .before .before .before .before .args in
+returns-2 c = let a = c .before .before .before .before .before .before .before .args in
     let o = integrityOf (a .entries .now) (a .bytes .now) in
     let e : a .c / 2 ^ a .h % 2 ≡ 1 = right (a .c / 2 ^ a .h) (λ q. c .before .if1 .left (c .before .before .side .ensures ∙ q)) in
     c .parent2 .ensures ∙ ap (λ (x : List ℕ). sha256 (x ++ bytesOf (a .acc .words))) (c .before .before .before .get .ensures ∙ ap (gotAt o) (c .before .before .before .before .sibling .ensures))

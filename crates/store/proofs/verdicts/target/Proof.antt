@@ -19,7 +19,7 @@ read-requires : tie.Need-read-requires
 read-requires c κs = search needs
 
 returns : tie.Need-returns
-returns c =     let a = c .before .before .before .before .before .before .args in
+returns c = let a = c .before .before .before .before .before .before .args in
     let o = integrityOf (a .entries .now) (a .bytes .now) in
     c .read .ensures ∙ ap (hashIn (a .hashes .now)) (c .before .before .node .ensures) ∙ ap (λ (t : Bool). countedHash t (a .n) (a .hashes .now) o (a .t) (above (a .t) (a .c))) (sym (c .before .if1 .taken))
 
@@ -30,7 +30,7 @@ get-requires : tie.Need-get-requires
 get-requires c κs = search needs
 
 returns-2 : tie.Need-returns-2
-returns-2 c =     let a = c .before .before .before .before .before .before .before .before .args in
+returns-2 c = let a = c .before .before .before .before .before .before .before .before .args in
     let o = integrityOf (a .entries .now) (a .bytes .now) in
     c .get .ensures ∙ ap (gotAt o) (c .before .before .before .before .node .ensures)
     ∙ counted-got (a .opened) (isPeak (a .n) (a .t) (above (a .t) (a .c))) _ _ (c .before .before .before .if1 .left) (sym (c .before .before .is-peak .ensures) ∙ c .before .if2 .taken)
@@ -39,7 +39,7 @@ read-requires-2 : tie.Need-read-requires-2
 read-requires-2 c κs = search needs
 
 returns-3 : tie.Need-returns-3
-returns-3 c =     let a = c .before .before .before .before .before .before .before .before .args in
+returns-3 c = let a = c .before .before .before .before .before .before .before .before .args in
     let o = integrityOf (a .entries .now) (a .bytes .now) in
     c .read2 .ensures ∙ ap (hashIn (a .hashes .now)) (c .before .before .before .before .node .ensures)
     ∙ counted-old (a .opened) (isPeak (a .n) (a .t) (above (a .t) (a .c))) _ _ (c .before .before .before .if1 .left) (sym (c .before .before .is-peak .ensures) ∙ c .before .if2 .left)
