@@ -221,10 +221,6 @@ leaf-hash s N h k z n l = tree-chunk s k (omega (arith, leaf-in N h k z l)) ∙ 
 pub less : (N h : ℕ) → N / 2 ^ h ≤ N
 less N h = omega (arith, above-in h N, mul-le-mul-left (N / 2 ^ h) (pow-pos h))
 
-pub positive : (h : ℕ) → h ≢ 0 → 1 ≤ h
-positive zero d = absurd (d refl)
-positive (suc h) d = omega arith
-
 combined-is : (N : ℕ) (held : ℕ → ℕ → List ℕ) → given sha256 filler N held (levels N) 0 ≡ combined sha256 filler N held
 unfolding combined
 combined-is N held = refl

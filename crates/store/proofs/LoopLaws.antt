@@ -6,17 +6,16 @@ use mathlib.Core.List.{List, [], _∷_, _++_}
 use Prim.Native.Nat.{ℕ, zero, suc, _+_, _-_, _/_, _%_, _^_, _≤_, _<_}
 use native.Mathlib.Numerals.{add-one}
 use native.Mathlib.Omega.{arith}
-use borrow.Author.Tests.{le-leb, lt-leb, eq-eqb, ne-eqb}
-use lib.Dec.{ltb, eqb}
+use borrow.Author.Tests.{eq-eqb, ne-eqb}
+use lib.Dec.{eqb}
 use Rattle.tree.specs.Pick.{pick}
 use Rattle.tree.specs.Node.{Node, above}
 use Rattle.tree.specs.Pack.{levels}
 use Rattle.tree.specs.Peaks.{peaks, siblings}
 use Rattle.tree.specs.Tree.{given}
-use Rattle.tree.specs.State.{isPeak}
 use Rattle.tree.specs.Verdicts.{every, reachFrom}
 use Rattle.tree.specs.Steps.{peakAt, siblingAt, peaksBelow}
-use Rattle.tree.proofs.NodeLaws.{down-above, parent-above}
+use Rattle.tree.proofs.NodeLaws.{down-above}
 use Rattle.tree.proofs.PeakLaws.{peaks-bits}
 use Rattle.tree.proofs.TreeLaws.{given-whole}
 
@@ -76,14 +75,6 @@ unfolding reachFrom
 reach-end f zero h l = refl
 reach-end f (suc n) h l = absurd (omega arith)
 
--- ---- a peak of n
-
-pub peak-no : (n c h : ℕ) → n < above h c + 2 ^ h → false ≡ isPeak n h (above h c)
-peak-no n c h l = rw (lt-leb (above h c + 2 ^ h) n l)
-
-pub peak-if : (n c h : ℕ) → above h c + 2 ^ h ≤ n → ltb n (above (suc h) c + 2 ^ suc h) ≡ isPeak n h (above h c)
-peak-if n c h l = rw (le-leb (above h c + 2 ^ h) n l, parent-above h c)
-
 -- ---- the one peak of a power of two
 
 pub given-one : (H : List ℕ → List ℕ) (Z : List ℕ) (N : ℕ) (held : ℕ → ℕ → List ℕ) (t : ℕ) → N ≡ 2 ^ t → given H Z N held t 0 ≡ held t 0
@@ -122,8 +113,8 @@ right q d = omega arith
 
 -- ---- both tests, or one
 
-pub there-yes : (p s r q : Bool) → q ≡ true → q ≡ p → r ≡ s → r ≡ pick p s false
-there-yes p s r q e f g = rw (← f, e) g
+pub complete-yes : (p s r q : Bool) → q ≡ true → q ≡ p → r ≡ s → r ≡ pick p s false
+complete-yes p s r q e f g = rw (← f, e) g
 
-pub there-no : (p s q : Bool) → q ≡ false → q ≡ p → false ≡ pick p s false
-there-no p s q e f = rw (← f, e)
+pub complete-no : (p s q : Bool) → q ≡ false → q ≡ p → false ≡ pick p s false
+complete-no p s q e f = rw (← f, e)

@@ -85,10 +85,6 @@ pub first-bin : (h k : ℕ) → first (bin h (k * 2 ^ h)) ≡ k * 2 ^ h
 unfolding first
 first-bin h k = rw height-bin (omega (arith, pow-pos h))
 
-pub last-bin : (h k : ℕ) → last (bin h (k * 2 ^ h)) ≡ k * 2 ^ h + 2 ^ h - 1
-unfolding last
-last-bin h k = rw (height-bin, first-bin)
-
 -- ---- every number is a node's
 
 pub pow-low : (d b : ℕ) → 2 ^ lowOnes d b ≤ b + 1

@@ -9,13 +9,12 @@ use borrow.Author.Tests.{lt-ltb, le-ltb, le-leb, lt-leb, eq-eqb, ne-eqb}
 use lib.Dec.{leb, ltb, eqb}
 use lib.Pow.{pow-pos}
 use Rattle.tree.specs.Pick.{pick}
-use Rattle.tree.specs.Bin.{bin}
 use Rattle.tree.specs.Node.{Node, node, above}
 use Rattle.tree.specs.Pack.{levels}
 use Rattle.tree.specs.Peaks.{peaksFrom, peaks, peakFrom, peakOf}
-use Rattle.tree.specs.Tree.{given, combined}
+use Rattle.tree.specs.Tree.{given}
 use Rattle.tree.specs.Steps.{folded, peaksBelow}
-use Rattle.tree.proofs.NodeLaws.{split, above-in, above-twice, above-left, above-right, above-inside, above-top, above-unique}
+use Rattle.tree.proofs.NodeLaws.{split, above-in, above-twice, above-left, above-right, above-top, above-unique}
 use Rattle.tree.proofs.PackLaws.{levels-holds}
 use Rattle.tree.proofs.TreeLaws.{given-empty, given-whole, given-mixed}
 
@@ -159,11 +158,6 @@ module _ (H : List ℕ → List ℕ) (Z : List ℕ) (N : ℕ) (held : ℕ → �
   pub folded-start : given H Z N held zero (above zero N) ≡ Z
   folded-start = given-empty H Z N held zero (above zero N) (omega (arith, above-in zero N))
 
-  -- where N is no power of two
-  pub folded-end : N < 2 ^ levels N → given H Z N held (levels N) (above (levels N) N) ≡ combined H Z N held
-  unfolding combined
-  folded-end l = ap (given H Z N held (levels N)) (above-top (levels N) N l)
-
 -- the three ways of a step
 module _ (H : List ℕ → List ℕ) (Z : List ℕ) (N : ℕ) (held : ℕ → ℕ → List ℕ) (h : ℕ) (acc : List ℕ) where
   pub folded-bit : N / 2 ^ h % 2 ≡ 1 → folded H Z N held h acc ≡ H (held h (above (suc h) N) ++ acc)
@@ -174,7 +168,3 @@ module _ (H : List ℕ → List ℕ) (Z : List ℕ) (N : ℕ) (held : ℕ → �
 
   pub folded-some : N / 2 ^ h % 2 ≢ 1 → above h N ≢ N → folded H Z N held h acc ≡ H (acc ++ Z)
   folded-some b e = rw (ne-eqb (N / 2 ^ h % 2) 1 b, ne-eqb (above h N) N e)
-
--- N's peak of height h stands within the first 2 ^ t nodes' numbers
-pub peak-inside : (t h n : ℕ) → h < t → n < 2 ^ t → bin h (above (suc h) n) < 2 ^ suc t
-peak-inside t h n l u = omega (arith, above-inside t (suc h) n l u, pow-pos h)

@@ -1,5 +1,5 @@
 use Rattle.tree.specs.Peaks.{before}
-use Rattle.store.proofs.LoopLaws.{there-yes, there-no}
+use Rattle.store.proofs.LoopLaws.{complete-yes, complete-no}
 use borrow.Author.Needs.{needs}
 use Rattle.store.proofs.verdicts.complete.Statement.{statement}
 use Rattle.store.proofs.verdicts.complete.Tie as tie
@@ -17,10 +17,10 @@ siblings-came-requires-2 : tie.Need-siblings-came-requires-2
 siblings-came-requires-2 c κs = search needs
 
 returns-2 : tie.Need-returns-2
-returns-2 c = rw (c .before .before .before .if1 .left) (there-yes _ _ _ _ (c .before .if2 .taken) (c .before .before .all-came .ensures) (c .siblings-came2 .ensures))
+returns-2 c = rw (c .before .before .before .if1 .left) (complete-yes _ _ _ _ (c .before .if2 .taken) (c .before .before .all-came .ensures) (c .siblings-came2 .ensures))
 
 returns-3 : tie.Need-returns-3
-returns-3 c = rw (c .before .before .if1 .left) (there-no _ _ _ (c .if2 .left) (c .before .all-came .ensures))
+returns-3 c = rw (c .before .before .if1 .left) (complete-no _ _ _ (c .if2 .left) (c .before .all-came .ensures))
 
 pub complete-spec : {M : Type 1} → statement M
 complete-spec =
