@@ -18,23 +18,23 @@ use Rattle.tree.specs.Pack.{chunkSize, chunks, size, levels}
 use Rattle.tree.specs.Peaks.{peaks}
 use Rattle.tree.specs.Tree.{climb}
 use Rattle.tree.specs.State.{State, isPeak, onPath, adopted, hung, Sound}
-use Rattle.tree.specs.Verdicts.{every, opened, counted, verdict, afterBy, after}
+use Rattle.tree.specs.Verdicts.{every, peaksTrusted, counted, verdict, afterBy, after}
 use Rattle.tree.specs.declared.verdict.Verdict.{Verdict}
 use Rattle.tree.specs.declared.verdict.Verdict.the-variants.{Fits, Missing, WrongPeaks, WrongClimb}
-use Rattle.tree.proofs.NodeLaws.{split, other-inside}
-use Rattle.tree.proofs.PackLaws.{levels-holds}
-use Rattle.tree.proofs.SoundLaws.{sound-agree}
-use Rattle.tree.proofs.TakeLaws.{after-sound}
-use Rattle.store.specs.Room.{filler, hashIn, putHash}
+use Rattle.store.specs.Room.{filler, Digest, hashIn, putHash}
 use Rattle.store.specs.Integrity.{Integrity, message}
 use Rattle.store.specs.Rooms.{Rooms, stateOf, SoundRooms, trustedIn, gotBy}
 use Rattle.store.specs.Storing.{Put, mark, putPeaks, putAll, copied, stored, storeSpec, roomVerdict, roomsBy}
-use Rattle.store.proofs.RoomLaws.{Digest, digest-hash, length-putHash, hash-same, hash-other}
+use Rattle.store.proofs.RoomLaws.{digest-hash, length-putHash, hash-same, hash-other}
 use Rattle.store.proofs.IntegrityLaws.{digest-got}
 use Rattle.store.proofs.VerdictLaws.{verdict-sees, fits-within}
 use Rattle.store.proofs.CopyLaws.{copied-in, copied-out}
 use Rattle.store.proofs.StoringLaws.{own-inside, peak-within}
 use Rattle.store.proofs.WrittenLaws.{path-shows, room-peaks, peaks-show}
+use Rattle.tree.proofs.NodeLaws.{split, other-inside}
+use Rattle.tree.proofs.PackLaws.{levels-holds}
+use Rattle.tree.proofs.SoundLaws.{sound-agree}
+use Rattle.tree.proofs.TakeLaws.{after-sound}
 
 -- the rooms are large enough for chunk c of N, and it has its length
 pub record Fitting (L : ℕ) (w : Rooms) (N c : ℕ) (d : List ℕ) : Type 0 where
@@ -48,8 +48,8 @@ pub record Fitting (L : ℕ) (w : Rooms) (N c : ℕ) (d : List ℕ) : Type 0 whe
 
 -- two states agree on the pack of N chunks
 pub record Agrees (N : ℕ) (s t : State) : Type 0 where
-  pub nodes : (h a : ℕ) → above h a ≡ a → a + 2 ^ h ≤ N → (s .held h a ≡ t .held h a) × (s .trust h a ≡ t .trust h a)
-  pub chunks-are : (x : ℕ) → x < N → (s .has x ≡ t .has x) × (s .chunk x ≡ t .chunk x)
+  pub nodes : (h a : ℕ) → above h a ≡ a → a + 2 ^ h ≤ N → (s .hash h a ≡ t .hash h a) × (s .trust h a ≡ t .trust h a)
+  pub chunks-are : (x : ℕ) → x < N → (s .inMap x ≡ t .inMap x) × (s .chunk x ≡ t .chunk x)
 
 pick-same : (b : Bool) → pick b true true ≡ true
 pick-same true = refl
@@ -105,7 +105,7 @@ module _ (L : ℕ) (w : Rooms) (N c t : ℕ) (d : List ℕ) (o : Integrity) (R :
   abbrev hangs : State
   hangs = hung sha256 c t d (gotBy o) (pick trusts (stateOf L w) (adopted N (gotBy o) (stateOf L w)))
 
-  hash-agrees : (h a : ℕ) → above h a ≡ a → stateOf L (stored w N c t d o) .held h a ≡ hangs .held h a
+  hash-agrees : (h a : ℕ) → above h a ≡ a → stateOf L (stored w N c t d o) .hash h a ≡ hangs .hash h a
   unfolding stored
   hash-agrees h a e =
       all-show (List ℕ) putHash hashIn (λ v. v) (λ l. 8 * 2 ^ suc (levels N) ≤ length l) (2 ^ suc (levels N))
@@ -114,7 +114,7 @@ module _ (L : ℕ) (w : Rooms) (N c t : ℕ) (d : List ℕ) (o : Integrity) (R :
       ∙ ap (pick (onPath c t h a) (pick (eqb a (above h c)) (climb sha256 (gotBy o) (sha256 d) c h (above h c)) (gotBy o h a))) (go trusts)
     where
       go : (x : Bool) → pick x (hashIn (w .hashes) (bin h a)) (pick (isPeak N h a) (gotBy o h a) (hashIn (w .hashes) (bin h a)))
-          ≡ pick x (stateOf L w) (adopted N (gotBy o) (stateOf L w)) .held h a
+          ≡ pick x (stateOf L w) (adopted N (gotBy o) (stateOf L w)) .hash h a
       go true = refl
       go false = refl
 
@@ -131,7 +131,7 @@ module _ (L : ℕ) (w : Rooms) (N c t : ℕ) (d : List ℕ) (o : Integrity) (R :
       go true = refl
       go false = refl
 
-  has-agrees : (x : ℕ) → stateOf L (stored w N c t d o) .has x ≡ hangs .has x
+  has-agrees : (x : ℕ) → stateOf L (stored w N c t d o) .inMap x ≡ hangs .inMap x
   unfolding stored
   has-agrees x = cases (ℕ-discrete x c) ∙ ap (pick (eqb x c) true) (go trusts)
     where
@@ -139,7 +139,7 @@ module _ (L : ℕ) (w : Rooms) (N c t : ℕ) (d : List ℕ) (o : Integrity) (R :
       cases (yes q) = rw (eq-eqb x c q) (ap (bitAt (setBit (w .map) c)) q ∙ bitAt-set-same (w .map) c (let i = R .chunk-in in let j = R .map-in in omega arith))
       cases (no q) = rw (ne-eqb x c q) (bitAt-set-other (w .map) c x q)
 
-      go : (b : Bool) → bitAt (w .map) x ≡ pick b (stateOf L w) (adopted N (gotBy o) (stateOf L w)) .has x
+      go : (b : Bool) → bitAt (w .map) x ≡ pick b (stateOf L w) (adopted N (gotBy o) (stateOf L w)) .inMap x
       go true = refl
       go false = refl
 
@@ -185,7 +185,7 @@ module _ (L : ℕ) (w : Rooms) (N c : ℕ) (d r : List ℕ) (o : Integrity) (R :
   -- by the verdict the rooms hold what the theory says
   taken-agrees : (v : Verdict) → roomVerdict N r (w .hashes) (w .trusted) c d o ≡ v
       → Agrees N (afterBy sha256 filler N r (stateOf L w) c d (message o) v) (stateOf L (roomsBy v w (λ t. storeSpec w N c t d o)))
-  unfolding storeSpec counted opened
+  unfolding storeSpec counted peaksTrusted
   taken-agrees (Fits t) e = go (bitAt (w .map) c)
     where
       go : (x : Bool)

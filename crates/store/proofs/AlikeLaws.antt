@@ -1,21 +1,21 @@
 -- Each chunk in the map of a running store hangs, and two whole packs of one order are alike. Assumes nothing.
-use mathlib.Core.Path.{_≡_, refl, sym, ap, _∙_}
+use mathlib.Core.Path.{_≡_, refl}
 use mathlib.Core.Bool.{true}
 use mathlib.Core.List.{List, map}
-use Prim.Native.Nat.{ℕ, _*_, _/_, _%_, _≤_, _<_}
+use Prim.Native.Nat.{ℕ, _<_}
 use native.Mathlib.Omega.{arith}
-use lib.ListN.{length, take, drop, getD}
-use lib.Seq.{length-take-le, getD-drop, ext-getD, getD-take}
+use lib.ListN.{length}
 use Rattle.hash.proofs.Promise.{sha256, sha256-length}
 use Rattle.bits.proofs.Promise.{bitAt}
 use Rattle.tree.specs.Bin.{bin}
-use Rattle.tree.specs.Pack.{chunkSize, size}
+use Rattle.tree.specs.Pack.{chunkSize}
 use Rattle.tree.specs.State.{Sound}
-use Rattle.tree.specs.Walk.{Hangs, Compared, equal, clashing}
+use Rattle.tree.specs.Walk.{Hangs, Compared, equal, colliding}
 use Rattle.store.specs.Room.{filler}
-use Rattle.store.specs.Rooms.{Rooms, countOf, chunkIn, stateOf, SoundRooms}
-use Rattle.store.specs.Whole.{Running, HangsIn, Whole, Alike, same-bytes, collision}
+use Rattle.store.specs.Rooms.{Rooms, countOf, stateOf, SoundRooms}
+use Rattle.store.specs.Whole.{Running, HangsIn, Whole, Alike, same-bytes, collides}
 use Rattle.store.proofs.RoomLaws.{hash-length}
+use Rattle.tree.proofs.ChunkLaws.{parts-alike}
 use Rattle.tree.proofs.SoundLaws.{sound-hangs}
 use Rattle.tree.proofs.WalkLaws.{compare}
 
@@ -32,21 +32,6 @@ module _ (L : ℕ) (r : List ℕ) (w : Rooms) (R : Running L r w) where
   unfolding Whole
   whole-hangs W x l = sound-hangs sha256 filler (countOf L) r (stateOf L w) (sound-of (R .sound)) x l (W x l)
 
--- ---- a pack's bytes, chunk by chunk
-
--- byte i of a pack is byte i % S of its chunk i / S
-byte-of : (L : ℕ) (s : List ℕ) (i : ℕ) → i < L → getD (take L s) i 0 ≡ getD (chunkIn L s (i / chunkSize)) (i % chunkSize) 0
-byte-of L s i l =
-    getD-take L s i 0 l
-    ∙ sym (getD-take (size chunkSize L (i / chunkSize)) (drop (chunkSize * (i / chunkSize)) s) (i % chunkSize) 0 (omega arith)
-    ∙ getD-drop (chunkSize * (i / chunkSize)) s (i % chunkSize) 0 ∙ ap (λ (k : ℕ). getD s k 0) (omega arith))
-
-pub bytes-alike : (L : ℕ) (s t : List ℕ) → L ≤ length s → L ≤ length t → ((x : ℕ) → x < countOf L → chunkIn L s x ≡ chunkIn L t x) → take L s ≡ take L t
-bytes-alike L s t hs ht e =
-    ext-getD 0 (take L s) (take L t) (length-take-le L s hs ∙ sym (length-take-le L t ht))
-    (λ i l. let k : i < L = omega (arith, l, length-take-le L s hs) in
-    byte-of L s i k ∙ ap (λ (c : List ℕ). getD c (i % chunkSize) 0) (e (i / chunkSize) (omega arith)) ∙ sym (byte-of L t i k))
-
 -- ---- two whole packs
 
 filler-length : length filler ≡ 32
@@ -59,5 +44,5 @@ alike L r w v R S p q =
     (λ h a. hash-length (w .hashes) (bin h a)) (λ h a. hash-length (v .hashes) (bin h a)) (whole-hangs L r w R p) (whole-hangs L r v S q))
   where
     go : Compared sha256 filler (countOf L) (stateOf L w) (stateOf L v) → Alike L w v
-    go (equal e) = same-bytes (bytes-alike L (w .bytes) (v .bytes) (R .roomy .bytes-in) (S .roomy .bytes-in) e)
-    go (clashing c p q) = collision c p q
+    go (equal e) = same-bytes (parts-alike chunkSize L (omega arith) (w .bytes) (v .bytes) (R .roomy .bytes-in) (S .roomy .bytes-in) e)
+    go (colliding c p q) = collides c p q

@@ -1,22 +1,24 @@
 -- A store that was started or built is running, with an empty map or a full one. Assumes nothing.
 use mathlib.Core.Path.{_≡_, refl, sym, ap, _∙_}
+use mathlib.Core.Logic.{inr, _≢_}
 use mathlib.Core.Bool.{false, not}
 use mathlib.Core.List.{List, map}
 use Prim.Native.Nat.{ℕ, zero, suc, _*_, _≤_, _<_}
 use native.Mathlib.Omega.{arith}
 use lib.Dec.{eqb}
-use lib.ListN.{length}
-use lib.Seq.{length-paste}
+use lib.ListN.{length, take}
+use lib.Seq.{take-length, length-paste}
 use Rattle.bits.proofs.Promise.{bitAt, length-setBit, length-setRange, row-room}
 use Rattle.tree.specs.Pack.{levels, leafPlaces, rootNode}
-use Rattle.store.specs.Room.{putHash}
+use Rattle.store.specs.Room.{Digest, putHash}
 use Rattle.store.specs.Rooms.{Rooms, countOf}
 use Rattle.store.specs.Storing.{mark, copied}
 use Rattle.store.specs.Building.{clearRow, startRooms, treeOf, rootOf, putLevels, buildRooms}
-use Rattle.store.specs.Whole.{Roomy, Running, Whole}
+use Rattle.store.specs.Whole.{Roomy, SameSizes, Running, Whole}
 use Rattle.store.specs.Answers.{refuse, earlier, lengthAnswer, roomAnswer, orderAnswer}
 use Rattle.store.specs.Calls.{decide, roomsAnswer, startSpec, buildAnswer, buildSpec}
-use Rattle.store.proofs.RoomLaws.{Digest, length-putHash}
+use Rattle.store.proofs.RoomLaws.{length-putHash}
+use Rattle.store.proofs.CopyLaws.{copied-whole}
 use Rattle.store.proofs.StoringLaws.{length-mark}
 use Rattle.store.proofs.BuildingLaws.{length-levels}
 use Rattle.store.proofs.StartedLaws.{cleared, length-cleared, start-sound}
@@ -36,13 +38,6 @@ unfolding orderAnswer
 roomy-order L w e =
     roomy-is L w (both-zero (lengthAnswer L) (roomAnswer L (length (w .bytes)) (length (w .map)) (length (w .hashes)) (length (w .trusted))) e .1)
 
--- rooms of the same lengths
-pub record SameSizes (w v : Rooms) : Type 0 where
-  pub bytes-long : length (v .bytes) ≡ length (w .bytes)
-  pub map-long : length (v .map) ≡ length (w .map)
-  pub hashes-long : length (v .hashes) ≡ length (w .hashes)
-  pub trusted-long : length (v .trusted) ≡ length (w .trusted)
-
 pub roomy-sizes : (L : ℕ) (w v : Rooms) → SameSizes w v → Roomy L w → Roomy L v
 roomy-sizes L w v s R = record {
   bytes-in = omega (arith, s .bytes-long, R .bytes-in);
@@ -50,6 +45,19 @@ roomy-sizes L w v s R = record {
   hashes-in = omega (arith, s .hashes-long, R .hashes-in);
   trusted-in = omega (arith, s .trusted-long, R .trusted-in);
 }
+
+pub same-sizes : (w : Rooms) → SameSizes w w
+same-sizes w = record { bytes-long = refl; map-long = refl; hashes-long = refl; trusted-long = refl }
+
+-- ---- a call decided by its number
+
+decided-not : (n : ℕ) (w x : Rooms) → decide n w x .answer ≢ 0 → decide n w x .rooms ≡ w
+decided-not zero w x d = absurd (d refl)
+decided-not (suc n) w x d = refl
+
+decided-sizes : (n : ℕ) (w x : Rooms) → (n ≡ 0 → SameSizes w x) → SameSizes w (decide n w x .rooms)
+decided-sizes zero w x s = s refl
+decided-sizes (suc n) w x s = same-sizes w
 
 -- ---- starting
 
@@ -83,7 +91,15 @@ module _ (w : Rooms) (r : List ℕ) (L : ℕ) where
         sound = start-sound L w (countOf L) r refl D (omega (arith, R .hashes-in)) (omega (arith, row-room (w .trusted) (2 * leafPlaces (countOf L)) (R .trusted-in))) (row-room (w .map) (countOf L) (R .map-in));
       })
 
-  -- it has no chunk in its map, and its bytes are as they were
+  pub start-not-same : startSpec w r L .answer ≢ 0 → startSpec w r L .rooms ≡ w
+  unfolding startSpec
+  start-not-same = decided-not (roomsAnswer L w) w (startRooms w (countOf L) r)
+
+  pub start-same-sizes : SameSizes w (startSpec w r L .rooms)
+  unfolding startSpec
+  start-same-sizes = decided-sizes (roomsAnswer L w) w (startRooms w (countOf L) r) (λ e. start-sizes)
+
+  -- it has no chunk in its map
   pub start-empty : startSpec w r L .answer ≡ 0 → (x : ℕ) → x < countOf L → bitAt (startSpec w r L .rooms .map) x ≡ false
   unfolding startRooms
   start-empty e x l = ap (λ (v : Rooms). bitAt (v .map) x) (starts e .1) ∙ cleared (w .map) (countOf L) x l
@@ -134,6 +150,24 @@ module _ (w : Rooms) (L : ℕ) (s : List ℕ) where
         sound = build-sound w s (R .bytes-in) (omega (arith, R .hashes-in)) (omega (arith, row-room (w .trusted) (2 * leafPlaces (countOf (length s))) (R .trusted-in))) (row-room (w .map) (countOf (length s)) (R .map-in));
       } in
       (m .0, rw (b .1, ← (m .0)) G)
+
+  pub build-not-same : buildSpec w L s .answer ≢ 0 → buildSpec w L s .rooms ≡ w
+  unfolding buildSpec
+  build-not-same = decided-not answers w (buildRooms w s)
+
+  pub build-same-sizes : SameSizes w (buildSpec w L s .rooms)
+  unfolding buildSpec
+  build-same-sizes = decided-sizes answers w (buildRooms w s) (λ e. let m = build-means e in build-sizes (omega (arith, m .0, m .1 .bytes-in)))
+
+  -- it holds the content
+  pub build-bytes : buildSpec w L s .answer ≡ 0 → take L (buildSpec w L s .rooms .bytes) ≡ s
+  unfolding buildRooms
+  build-bytes e =
+      let b = builds e in
+      let m = build-means (b .0) in
+      ap (λ (v : Rooms). take L (v .bytes)) (b .1)
+      ∙ copied-whole (w .bytes) s (omega (arith, m .0, m .1 .bytes-in)) 0 L (inr (omega (arith, m .0)))
+      ∙ ap (λ (n : ℕ). take n s) (sym (m .0)) ∙ take-length s
 
   -- it has all chunks in its map
   pub build-whole : buildSpec w L s .answer ≡ 0 → Whole L (buildSpec w L s .rooms)

@@ -18,10 +18,6 @@ use Rattle.tree.specs.Node.{above}
 use Rattle.tree.specs.Pack.{chunkSize, size, levels}
 use Rattle.tree.specs.Tree.{tree, root}
 use Rattle.tree.specs.State.{built}
-use Rattle.tree.proofs.BeginLaws.{built-sound}
-use Rattle.tree.proofs.NodeLaws.{split, above-top}
-use Rattle.tree.proofs.PackLaws.{levels-holds, high-bound}
-use Rattle.tree.proofs.SoundLaws.{sound-agree}
 use Rattle.store.specs.Room.{filler, hashIn, putHash}
 use Rattle.store.specs.Rooms.{Rooms, countOf, chunkIn, stateOf, SoundRooms}
 use Rattle.store.specs.Storing.{mark}
@@ -32,6 +28,10 @@ use Rattle.store.proofs.WrittenLaws.{bin-eq}
 use Rattle.store.proofs.AgreeLaws.{Agrees}
 use Rattle.store.proofs.BuildingLaws.{tree-digest, length-levels, levels-same, filled-fits}
 use Rattle.store.proofs.StartedLaws.{length-cleared}
+use Rattle.tree.proofs.BeginLaws.{built-sound}
+use Rattle.tree.proofs.NodeLaws.{split, above-top}
+use Rattle.tree.proofs.PackLaws.{levels-holds, high-bound}
+use Rattle.tree.proofs.SoundLaws.{sound-agree}
 
 root-is : (s : List ℕ) → rootOf s ≡ treeOf s (levels (countOf (length s))) 0
 unfolding rootOf treeOf root
@@ -41,7 +41,7 @@ tree-is : (s : List ℕ) (h a : ℕ) → tree sha256 filler (countOf (length s))
 unfolding treeOf
 tree-is s h a = refl
 
-pub map-built : (s : List ℕ) (w : Rooms) (x : ℕ) → x < countOf (length s) → countOf (length s) ≤ length (w .map) * 32 → true ≡ stateOf (length s) (buildRooms w s) .has x
+pub map-built : (s : List ℕ) (w : Rooms) (x : ℕ) → x < countOf (length s) → countOf (length s) ≤ length (w .map) * 32 → true ≡ stateOf (length s) (buildRooms w s) .inMap x
 unfolding buildRooms
 map-built s w x i m =
     sym (bitAt-setRange-in (clearRow (w .map) (countOf (length s))) 0 (countOf (length s)) x (omega arith) (omega arith) (rw (length-cleared (w .map) (countOf (length s))) (omega arith)))
@@ -63,7 +63,7 @@ module _ (w : Rooms) (s : List ℕ) (bytes-in : length s ≤ length (w .bytes))
   node-bin : (h a : ℕ) → a + 2 ^ h ≤ countOf (length s) → bin h a < 2 ^ suc (levels (countOf (length s)))
   node-bin h a i = omega (arith, levels-holds (countOf (length s)), pow-pos h)
 
-  held-built : (h a : ℕ) → above h a ≡ a → a + 2 ^ h ≤ countOf (length s) → treeOf s h a ≡ stateOf (length s) (buildRooms w s) .held h a
+  held-built : (h a : ℕ) → above h a ≡ a → a + 2 ^ h ≤ countOf (length s) → treeOf s h a ≡ stateOf (length s) (buildRooms w s) .hash h a
   unfolding buildRooms
   held-built h a e i = go (ℕ-discrete (bin h a) b)
     where
@@ -119,7 +119,7 @@ module _ (w : Rooms) (s : List ℕ) (bytes-in : length s ≤ length (w .bytes))
       held-tree : (h a : ℕ) → tree sha256 filler (countOf (length s)) (chunkIn (length s) s) h a ≡ treeOf s h a
       held-tree h a = tree-is s h a
 
-      has-built : (x : ℕ) → x < countOf (length s) → true ≡ stateOf (length s) (buildRooms w s) .has x
+      has-built : (x : ℕ) → x < countOf (length s) → true ≡ stateOf (length s) (buildRooms w s) .inMap x
       has-built x i = map-built s w x i map-in
 
       chunk-built : (x : ℕ) → chunkIn (length s) s x ≡ stateOf (length s) (buildRooms w s) .chunk x

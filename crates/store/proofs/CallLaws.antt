@@ -9,10 +9,10 @@ use borrow.Author.Tests.{eqb-true}
 use lib.Dec.{eqb}
 use lib.ListN.{length}
 use Rattle.bits.proofs.Promise.{setBit}
-use Rattle.tree.specs.Pack.{chunkSize, size, leafPlaces, rootNode}
+use Rattle.tree.specs.Pack.{chunkSize, leafPlaces, rootNode}
 use Rattle.tree.specs.Verdicts.{number}
 use Rattle.tree.specs.declared.verdict.Verdict.{Verdict}
-use Rattle.tree.specs.declared.verdict.Verdict.the-variants.{Fits, Missing, WrongPeaks, WrongClimb}
+use Rattle.tree.specs.declared.verdict.Verdict.the-variants.{Fits}
 use Rattle.store.specs.Room.{filler, putHash}
 use Rattle.store.specs.Integrity.{Integrity}
 use Rattle.store.specs.Rooms.{Rooms, roomsOf, countOf}
@@ -21,6 +21,7 @@ use Rattle.store.specs.Building.{clearRow, startRooms, buildRooms}
 use Rattle.store.specs.Answers.{refuse, earlier, lengthAnswer, roomAnswer, orderAnswer, chunkAnswer}
 use Rattle.store.specs.Calls.{Out, outOf, decide, unless, roomsAnswer, startSpec, buildAnswer, buildSpec, foundRoot, settleSpec, takeSpec}
 use Rattle.store.proofs.AnswerLaws.{both-zero, room-facts, chunk-facts}
+use Rattle.tree.proofs.ChunkLaws.{chunk-inside}
 
 -- ---- a refusal, and none
 
@@ -99,17 +100,11 @@ module _ (w : Rooms) (r : List ℕ) (N c : ℕ) (d : List ℕ) (o : Integrity) (
   settle-by n w′ e f =
       ap₂ outOf (e ∙ ap number vo) (f ∙ ap (λ (x : Verdict). roomsBy x w (λ t. storeSpec w N c t d o)) vo)
 
-  pub settle-fits : (t : ℕ) (w′ : Rooms) → v ≡ Fits t → w′ ≡ storeSpec w N c t d o → outOf 0 w′ ≡ settleSpec w r N c d o
-  settle-fits t w′ e f = settle-by 0 w′ (ap number (sym e)) (f ∙ ap (λ (x : Verdict). roomsBy x w (λ k. storeSpec w N c k d o)) (sym e))
+  pub settle-fits : (n t : ℕ) (w′ : Rooms) → n ≡ number v → v ≡ Fits t → w′ ≡ storeSpec w N c t d o → outOf n w′ ≡ settleSpec w r N c d o
+  settle-fits n t w′ k e f = settle-by n w′ k (f ∙ ap (λ (x : Verdict). roomsBy x w (λ k. storeSpec w N c k d o)) (sym e))
 
-  pub settle-missing : v ≡ Missing → outOf 9 w ≡ settleSpec w r N c d o
-  settle-missing e = settle-by 9 w (ap number (sym e)) (ap (λ (x : Verdict). roomsBy x w (λ k. storeSpec w N c k d o)) (sym e))
-
-  pub settle-peaks : v ≡ WrongPeaks → outOf 10 w ≡ settleSpec w r N c d o
-  settle-peaks e = settle-by 10 w (ap number (sym e)) (ap (λ (x : Verdict). roomsBy x w (λ k. storeSpec w N c k d o)) (sym e))
-
-  pub settle-climb : v ≡ WrongClimb → outOf 10 w ≡ settleSpec w r N c d o
-  settle-climb e = settle-by 10 w (ap number (sym e)) (ap (λ (x : Verdict). roomsBy x w (λ k. storeSpec w N c k d o)) (sym e))
+  pub settle-refused : (n : ℕ) (u : Verdict) → n ≡ number v → v ≡ u → w ≡ roomsBy u w (λ t. storeSpec w N c t d o) → outOf n w ≡ settleSpec w r N c d o
+  settle-refused n u k e f = settle-by n w k (f ∙ ap (λ (x : Verdict). roomsBy x w (λ k. storeSpec w N c k d o)) (sym e))
 
 module _ (w : Rooms) (r : List ℕ) (L c : ℕ) (d : List ℕ) (o : Integrity) (k : ℕ) (ke : k ≡ earlier (roomsAnswer L w) (chunkAnswer L c (length d))) where
   pub take-refused : k ≢ 0 → outOf k w ≡ takeSpec w r L c d o
@@ -128,7 +123,4 @@ module _ (w : Rooms) (r : List ℕ) (L c : ℕ) (d : List ℕ) (o : Integrity) (
       let q = both-zero (lengthAnswer L) (roomAnswer L (length (w .bytes)) (length (w .map)) (length (w .hashes)) (length (w .trusted))) (p .0) in
       let f = room-facts L (length (w .bytes)) (length (w .map)) (length (w .hashes)) (length (w .trusted)) (q .1) in
       let g = chunk-facts L c (length d) (p .1) in
-      (omega (arith, ne, g .0), omega (arith, f .0, g .1, in-pack L c (g .0)))
-    where
-      in-pack : (L c : ℕ) → c < countOf L → chunkSize * c + size chunkSize L c ≤ L
-      in-pack L c l = omega arith
+      (omega (arith, ne, g .0), omega (arith, f .0, g .1, chunk-inside chunkSize L (omega arith) c (g .0)))

@@ -13,9 +13,9 @@ use lib.Seq.{take-length}
 use Rattle.hash.proofs.Promise.{bytesOf, words, words-length}
 use Rattle.tree.specs.Pick.{pick}
 use Rattle.tree.specs.Verdicts.{isThere, orElse}
-use Rattle.store.specs.Room.{filler}
+use Rattle.store.specs.Room.{filler, Digest}
 use Rattle.store.specs.Integrity.{Integrity, integrityOf, find, placeOr, hashFrom, hashFor, came, gotAt}
-use Rattle.store.proofs.RoomLaws.{Digest, digest-words, digest-filler}
+use Rattle.store.proofs.RoomLaws.{digest-words, digest-filler}
 
 -- one turn of the search, and its ends
 pub find-here : (es : List ℕ) (b n : ℕ) → 2 ≤ length es → getD es 0 0 ≡ b → getD es 1 0 ≡ placeOr (find es b) n

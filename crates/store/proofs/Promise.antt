@@ -6,42 +6,44 @@ use mathlib.Core.Bool.{true, false}
 use mathlib.Core.List.{List, map}
 use Prim.Native.Nat.{ℕ, _<_}
 use lib.Dec.{eqb}
-use lib.ListN.{length}
+use lib.ListN.{length, take}
 use Rattle.hash.proofs.Promise.{bytesOf}
 use Rattle.bits.proofs.Promise.{bitAt}
 use Rattle.tree.specs.Pick.{pick}
 use Rattle.tree.specs.Pack.{chunkSize, size}
-use Rattle.store.proofs.RoomLaws.{Digest, digest-words}
-use Rattle.store.proofs.BegunLaws.{start-running, start-empty, build-running, build-whole}
+use Rattle.store.proofs.RoomLaws.{digest-words}
+use Rattle.store.proofs.BegunLaws.{start-running, start-not-same, start-same-sizes, start-empty, build-running, build-not-same, build-same-sizes, build-bytes, build-whole}
 use Rattle.store.proofs.TakenLaws.{take-refused-same, take-means, take-sizes, take-running, take-map, take-bytes}
 use Rattle.store.proofs.AlikeLaws.{hangs, alike}
-pub use Rattle.store.specs.Room.{filler, hashIn}
+pub use Rattle.store.specs.Room.{filler, Digest, hashIn}
 pub use Rattle.store.specs.Integrity.{Integrity, integrityOf}
 pub use Rattle.store.specs.Rooms.{Rooms, roomsOf, countOf, chunkIn, stateOf, SoundRooms}
 pub use Rattle.store.specs.Building.{rootOf}
 pub use Rattle.store.specs.Answers.{refuse, earlier, lengthAnswer, roomAnswer, orderAnswer, chunkAnswer}
 pub use Rattle.store.specs.Calls.{Out, outOf, roomsAnswer, startSpec, buildSpec, foundRoot, takeSpec}
-pub use Rattle.store.specs.Whole.{Roomy, Running, HangsIn, Whole, Alike}
-pub use Rattle.store.proofs.BegunLaws.{SameSizes}
+pub use Rattle.store.specs.Whole.{Roomy, SameSizes, Running, HangsIn, Whole, Alike}
 
--- A root is 32 bytes, such as the words of an order's root stand for.
-pub Root : List ℕ → Type 0
-Root r = Digest r
-
-pub root-words : (u : List ℕ) → length u ≡ 8 → Root (bytesOf u)
-unfolding Root
+-- The words of an order's root stand for 32 bytes.
+pub root-words : (u : List ℕ) → length u ≡ 8 → Digest (bytesOf u)
 root-words = digest-words
 
 -- ---- starting
 
 -- A start that answers 0 leaves a running store under its order,
-pub started-running : (w : Rooms) (r : List ℕ) (L : ℕ) → Root r → startSpec w r L .answer ≡ 0 → Running L r (startSpec w r L .rooms)
-unfolding Root
+pub started-running : (w : Rooms) (r : List ℕ) (L : ℕ) → Digest r → startSpec w r L .answer ≡ 0 → Running L r (startSpec w r L .rooms)
 started-running = start-running
+
+-- in rooms of the same sizes,
+pub started-sizes : (w : Rooms) (r : List ℕ) (L : ℕ) → SameSizes w (startSpec w r L .rooms)
+started-sizes = start-same-sizes
 
 -- with no chunk in its map.
 pub started-empty : (w : Rooms) (r : List ℕ) (L : ℕ) → startSpec w r L .answer ≡ 0 → (x : ℕ) → x < countOf L → bitAt (startSpec w r L .rooms .map) x ≡ false
 started-empty = start-empty
+
+-- A refused start changes nothing.
+pub start-refused-same : (w : Rooms) (r : List ℕ) (L : ℕ) → startSpec w r L .answer ≢ 0 → startSpec w r L .rooms ≡ w
+start-refused-same = start-not-same
 
 -- ---- building
 
@@ -49,9 +51,21 @@ started-empty = start-empty
 pub built-running : (w : Rooms) (L : ℕ) (s : List ℕ) → buildSpec w L s .answer ≡ 0 → (length s ≡ L) × Running L (rootOf s) (buildSpec w L s .rooms)
 built-running = build-running
 
+-- its bytes are the content's,
+pub built-bytes : (w : Rooms) (L : ℕ) (s : List ℕ) → buildSpec w L s .answer ≡ 0 → take L (buildSpec w L s .rooms .bytes) ≡ s
+built-bytes = build-bytes
+
+-- its rooms have the sizes they had,
+pub built-sizes : (w : Rooms) (L : ℕ) (s : List ℕ) → SameSizes w (buildSpec w L s .rooms)
+built-sizes = build-same-sizes
+
 -- and all chunks are in its map.
 pub built-whole : (w : Rooms) (L : ℕ) (s : List ℕ) → buildSpec w L s .answer ≡ 0 → Whole L (buildSpec w L s .rooms)
 built-whole = build-whole
+
+-- A refused building changes nothing.
+pub build-refused-same : (w : Rooms) (L : ℕ) (s : List ℕ) → buildSpec w L s .answer ≢ 0 → buildSpec w L s .rooms ≡ w
+build-refused-same = build-not-same
 
 -- ---- taking
 

@@ -3,17 +3,17 @@ use mathlib.Core.Path.{_≡_, refl, sym, ap, ap₂, _∙_}
 use mathlib.Core.Logic.{_⊎_, inl, inr, _≢_}
 use mathlib.Core.Bool.{Bool, true, false}
 use mathlib.Core.List.{List, [], _∷_, _++_}
-use Prim.Native.Nat.{ℕ, zero, suc, _+_, _-_, _*_, _/_, _^_, _≤_, _<_}
+use Prim.Native.Nat.{ℕ, zero, suc, _+_, _*_, _/_, _≤_, _<_}
+use native.Mathlib.Numerals.{add-one, towards-suc}
 use native.Mathlib.Omega.{arith}
-use native.Mathlib.Numerals.{towards-suc, add-one}
 use borrow.Author.Tests.{lt-ltb, le-ltb}
 use lib.Dec.{ltb}
-use lib.ListN.{length, getD, set, drop, take, length-set, length-append, replicate}
-use lib.Seq.{append-snoc, getD-append-seam, sets, length-sets, getD-set-same, getD-set-other, take-length}
-use Rattle.hash.proofs.Promise.{sha256, bytesOf, words, Bytes, Words, sha256-length, sha256-bytes, bytes-length, bytes-below, words-length, words-bytes, bytes-words}
+use lib.ListN.{length, take, getD, set, length-set, replicate, length-append}
+use lib.Seq.{sets, length-sets, getD-set-same, getD-set-other, take-length, append-snoc, getD-append-seam}
+use Rattle.hash.proofs.Promise.{sha256, bytesOf, words, Words, sha256-length, sha256-bytes, bytes-length, bytes-below, words-length, words-bytes, bytes-words}
 use Rattle.tree.specs.Pick.{pick}
+use Rattle.store.specs.Room.{filler, Digest, wordsAt, holds, hashIn, putHash}
 use Rattle.tree.proofs.NodeLaws.{split}
-use Rattle.store.specs.Room.{filler, wordsAt, holds, hashIn, putHash}
 
 -- ---- words of a room
 
@@ -60,10 +60,6 @@ words-in-n : (n : ℕ) (vs l : List ℕ) (i : ℕ) → length vs ≡ n → i + n
 words-in-n n vs l i e h = rw (← e) (words-in vs l i (rw e h))
 
 -- ---- hashes
-
--- 32 bytes
-pub Digest : List ℕ → Type 0
-Digest v = Bytes v × (length v ≡ 32)
 
 pub digest-words : (w : List ℕ) → length w ≡ 8 → Digest (bytesOf w)
 unfolding Digest

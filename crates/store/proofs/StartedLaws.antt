@@ -17,17 +17,17 @@ use Rattle.tree.specs.Bin.{bin}
 use Rattle.tree.specs.Node.{above}
 use Rattle.tree.specs.Pack.{chunkSize, chunks, size, levels, leafPlaces, rootNode}
 use Rattle.tree.specs.State.{State, started}
+use Rattle.store.specs.Room.{filler, Digest, hashIn, putHash}
+use Rattle.store.specs.Rooms.{Rooms, roomsOf, stateOf, SoundRooms}
+use Rattle.store.specs.Storing.{mark}
+use Rattle.store.specs.Building.{clearRow, startRooms}
+use Rattle.store.proofs.RoomLaws.{hash-same, hash-other}
+use Rattle.store.proofs.WrittenLaws.{bin-eq}
+use Rattle.store.proofs.AgreeLaws.{Agrees}
 use Rattle.tree.proofs.BeginLaws.{started-sound}
 use Rattle.tree.proofs.NodeLaws.{above-top}
 use Rattle.tree.proofs.PackLaws.{levels-holds}
 use Rattle.tree.proofs.SoundLaws.{sound-agree}
-use Rattle.store.specs.Room.{filler, hashIn, putHash}
-use Rattle.store.specs.Rooms.{Rooms, roomsOf, stateOf, SoundRooms}
-use Rattle.store.specs.Storing.{mark}
-use Rattle.store.specs.Building.{clearRow, startRooms}
-use Rattle.store.proofs.RoomLaws.{Digest, hash-same, hash-other}
-use Rattle.store.proofs.WrittenLaws.{bin-eq}
-use Rattle.store.proofs.AgreeLaws.{Agrees}
 
 pub cleared : (ws : List ℕ) (n x : ℕ) → x < n → bitAt (clearRow ws n) x ≡ false
 cleared ws n x l = bitAt-clearWords-in ws 0 (rowWords n) x (omega arith) (omega (arith, row-words n))
@@ -48,14 +48,14 @@ module _ (L : ℕ) (w : Rooms) (N : ℕ) (r : List ℕ) (pack-is : N ≡ chunks 
   node-bin : (h a : ℕ) → a + 2 ^ h ≤ N → bin h a < 2 ^ suc (levels N)
   node-bin h a i = omega (arith, levels-holds N, pow-pos h)
 
-  abbrev onPath-state : State
-  onPath-state = started N r (λ h a. hashIn (w .hashes) (bin h a)) (λ x. take (size chunkSize L x) (drop (chunkSize * x) (w .bytes)))
+  abbrev started-state : State
+  started-state = started N r (λ h a. hashIn (w .hashes) (bin h a)) (λ x. take (size chunkSize L x) (drop (chunkSize * x) (w .bytes)))
 
-  root-held : (h a : ℕ) → (h ≡ levels N) × (a ≡ 0) → (onPath-state .held h a ≡ r) × (onPath-state .trust h a ≡ true)
+  root-held : (h a : ℕ) → (h ≡ levels N) × (a ≡ 0) → (started-state .hash h a ≡ r) × (started-state .trust h a ≡ true)
   root-held h a q = (rw (eq-eqb h (levels N) (q .0), eq-eqb a 0 (q .1)), rw (eq-eqb h (levels N) (q .0), eq-eqb a 0 (q .1)))
 
   start-node : (h a : ℕ) → above h a ≡ a → a + 2 ^ h ≤ N
-      → (onPath-state .held h a ≡ stateOf L (startRooms w N r) .held h a) × (onPath-state .trust h a ≡ stateOf L (startRooms w N r) .trust h a)
+      → (started-state .hash h a ≡ stateOf L (startRooms w N r) .hash h a) × (started-state .trust h a ≡ stateOf L (startRooms w N r) .trust h a)
   unfolding startRooms
   start-node h a e i = go (root-or-not N h a (ℕ-discrete h (levels N)) (ℕ-discrete a 0))
     where
@@ -66,7 +66,7 @@ module _ (L : ℕ) (w : Rooms) (N : ℕ) (r : List ℕ) (pack-is : N ≡ chunks 
       row = clearRow (w .trusted) (2 * 2 ^ levels N)
 
       go : ((h ≡ levels N) × (a ≡ 0)) ⊎ (pick (eqb h (levels N)) (eqb a 0) false ≡ false)
-          → (onPath-state .held h a ≡ hashIn (putHash (w .hashes) b r) (bin h a)) × (onPath-state .trust h a ≡ bitAt (setBit row b) (bin h a))
+          → (started-state .hash h a ≡ hashIn (putHash (w .hashes) b r) (bin h a)) × (started-state .trust h a ≡ bitAt (setBit row b) (bin h a))
       go (inl q) =
           let z : bin h a ≡ b = ap₂ bin (q .0) (q .1) in
           let k = root-held h a q in (
@@ -84,7 +84,7 @@ module _ (L : ℕ) (w : Rooms) (N : ℕ) (r : List ℕ) (pack-is : N ≡ chunks 
               let x : pick (eqb h (levels N)) (eqb a 0) false ≡ true = rw (eq-eqb h (levels N) (y .0), eq-eqb a 0 (y .1)) in
               true≢false (sym x ∙ q)
 
-  pub start-agrees : Agrees N onPath-state (stateOf L (startRooms w N r))
+  pub start-agrees : Agrees N started-state (stateOf L (startRooms w N r))
   unfolding startRooms
   start-agrees = record {
     nodes = start-node;
@@ -95,7 +95,7 @@ module _ (L : ℕ) (w : Rooms) (N : ℕ) (r : List ℕ) (pack-is : N ≡ chunks 
   unfolding SoundRooms
   start-sound =
       let G = start-agrees in
-      let U = sound-agree sha256 filler N r onPath-state (stateOf L (startRooms w N r)) (G .nodes) (G .chunks-are) (started-sound sha256 filler N r (λ h a. hashIn (w .hashes) (bin h a)) (λ x. take (size chunkSize L x) (drop (chunkSize * x) (w .bytes)))) in
+      let U = sound-agree sha256 filler N r started-state (stateOf L (startRooms w N r)) (G .nodes) (G .chunks-are) (started-sound sha256 filler N r (λ h a. hashIn (w .hashes) (bin h a)) (λ x. take (size chunkSize L x) (drop (chunkSize * x) (w .bytes)))) in
       rw (← pack-is) U
 
 -- ---- as the code does it

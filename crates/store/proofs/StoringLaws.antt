@@ -19,11 +19,11 @@ use Rattle.tree.specs.Pack.{chunkSize, chunks, levels}
 use Rattle.tree.specs.Peaks.{peaks}
 use Rattle.tree.specs.Tree.{climb}
 use Rattle.tree.specs.Verdicts.{got, every}
-use Rattle.tree.proofs.NodeLaws.{above-in, above-right, above-inside}
 use Rattle.store.specs.Room.{putHash}
 use Rattle.store.specs.Integrity.{Integrity}
 use Rattle.store.specs.Rooms.{Rooms, roomsOf, trustedIn, gotBy}
 use Rattle.store.specs.Storing.{Put, mark, putIf, putPeaks, putPath, putAll, copied, stored, storeSpec}
+use Rattle.tree.proofs.NodeLaws.{above-in, above-right, above-inside}
 
 -- one peak
 pub put-one : (put : Put) (l : List ℕ) {l′ : List ℕ} {b b′ : ℕ} {v v′ : List ℕ} (x : ℕ) → l′ ≡ put l b v → b ≡ b′ → v ≡ v′ → x ≡ 1 → l′ ≡ putIf put (eqb x 1) l b′ v′

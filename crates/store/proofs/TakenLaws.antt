@@ -22,7 +22,7 @@ use Rattle.store.specs.Room.{putHash}
 use Rattle.store.specs.Integrity.{Integrity}
 use Rattle.store.specs.Rooms.{Rooms, countOf, chunkIn, stateOf, SoundRooms, trustedIn, gotBy}
 use Rattle.store.specs.Storing.{mark, putAll, copied, stored, storeSpec, roomVerdict, roomsBy}
-use Rattle.store.specs.Whole.{Roomy, Running}
+use Rattle.store.specs.Whole.{Roomy, SameSizes, Running}
 use Rattle.store.specs.Answers.{earlier, chunkAnswer}
 use Rattle.store.specs.Calls.{outOf, unless, roomsAnswer, settleSpec, takeSpec}
 use Rattle.store.proofs.RoomLaws.{length-putHash}
@@ -30,7 +30,8 @@ use Rattle.store.proofs.VerdictLaws.{fits-within}
 use Rattle.store.proofs.StoringLaws.{length-path, length-open, length-mark}
 use Rattle.store.proofs.AgreeLaws.{Fitting, stored-agrees, taken-sound}
 use Rattle.store.proofs.AnswerLaws.{both-zero, chunk-facts}
-use Rattle.store.proofs.BegunLaws.{roomy-order, SameSizes, roomy-sizes}
+use Rattle.store.proofs.BegunLaws.{roomy-order, roomy-sizes, same-sizes}
+use Rattle.tree.proofs.ChunkLaws.{chunk-inside}
 
 -- ---- a refused chunk changes nothing, a taken one is stored
 
@@ -93,12 +94,9 @@ module _ (w : Rooms) (r : List ℕ) (L c : ℕ) (d : List ℕ) (o : Integrity) w
         hashes-in = omega (arith, R .hashes-in);
         trusted-in = omega (arith, row-room (w .trusted) (2 * leafPlaces (countOf L)) (R .trusted-in));
         map-in = row-room (w .map) (countOf L) (R .map-in);
-        bytes-in = in-room L c (length d) (length (w .bytes)) (m .1) (m .2) (R .bytes-in);
+        bytes-in = omega (arith, chunk-inside chunkSize L (omega arith) c (m .1), m .2, R .bytes-in);
         chunk-is = m .2;
       }
-    where
-      in-room : (L c n b : ℕ) → c < countOf L → n ≡ size chunkSize L c → L ≤ b → chunkSize * c + n ≤ b
-      in-room L c n b i e l = omega arith
 
   -- ---- soundness
 
@@ -122,22 +120,19 @@ module _ (w : Rooms) (r : List ℕ) (L c : ℕ) (d : List ℕ) (o : Integrity) w
     trusted-long = length-path mark length-mark _ (gotBy o) c t _ ∙ length-open mark length-mark (every (trustedIn (w .trusted)) (peaks (countOf L))) (gotBy o) (countOf L) (suc (levels (countOf L))) (w .trusted);
   }
 
-  same-sizes : SameSizes w w
-  same-sizes = record { bytes-long = refl; map-long = refl; hashes-long = refl; trusted-long = refl }
-
   store-sizes : (t : ℕ) → chunkSize * c + length d ≤ length (w .bytes) → SameSizes w (storeSpec w (countOf L) c t d o)
   unfolding storeSpec
   store-sizes t l = go (bitAt (w .map) c)
     where
       go : (b : Bool) → SameSizes w (pick b w (stored w (countOf L) c t d o))
-      go true = same-sizes
+      go true = same-sizes w
       go false = stored-sizes t l
 
   pub take-sizes : SameSizes w left
   take-sizes = go (ℕ-discrete (takeSpec w r L c d o .answer) 0)
     where
       go : Dec (takeSpec w r L c d o .answer ≡ 0) → SameSizes w left
-      go (no q) = rw (take-refused-same q) same-sizes
+      go (no q) = rw (take-refused-same q) (same-sizes w)
       go (yes e) = let t = taken e in rw (t .stored-so) (store-sizes (t .height) (fitting e .bytes-in))
 
   pub take-running : Running L r w → Running L r left
@@ -155,9 +150,9 @@ module _ (w : Rooms) (r : List ℕ) (L c : ℕ) (d : List ℕ) (o : Integrity) w
       held-too true e q = ap (bitAt (w .map)) (eqb-true x c q) ∙ e
       held-too false e q = refl
 
-      opened-so : (b : Bool) (s : State) → (pick b s (adopted (countOf L) (gotBy o) s) .has x ≡ s .has x) × (pick b s (adopted (countOf L) (gotBy o) s) .chunk x ≡ s .chunk x)
-      opened-so true s = (refl, refl)
-      opened-so false s = (refl, refl)
+      peaksTrusted-so : (b : Bool) (s : State) → (pick b s (adopted (countOf L) (gotBy o) s) .inMap x ≡ s .inMap x) × (pick b s (adopted (countOf L) (gotBy o) s) .chunk x ≡ s .chunk x)
+      peaksTrusted-so true s = (refl, refl)
+      peaksTrusted-so false s = (refl, refl)
 
       go : (b : Bool) → bitAt (w .map) c ≡ b
           → (bitAt (pick b w (stored w (countOf L) c t d o) .map) x ≡ pick (eqb x c) true (bitAt (w .map) x))
@@ -165,7 +160,7 @@ module _ (w : Rooms) (r : List ℕ) (L c : ℕ) (d : List ℕ) (o : Integrity) w
       go true e = (held-too (eqb x c) e refl, refl)
       go false e =
           let g = stored-agrees L w (countOf L) c t d o F h .chunks-are x l in
-          let k = opened-so (every (trustedIn (w .trusted)) (peaks (countOf L))) (stateOf L w) in (
+          let k = peaksTrusted-so (every (trustedIn (w .trusted)) (peaks (countOf L))) (stateOf L w) in (
             sym (g .0) ∙ ap (pick (eqb x c) true) (k .0),
             sym (g .1) ∙ ap (pick (eqb x c) d) (k .1),
           )

@@ -11,13 +11,13 @@ use Rattle.tree.specs.Pack.{levels}
 use Rattle.tree.specs.Peaks.{peaks, peakOf, siblings}
 use Rattle.tree.specs.Tree.{given, combined, climb}
 use Rattle.tree.specs.State.{adopted}
-use Rattle.tree.specs.Verdicts.{got, every, reachFrom, opened, counted, reached, complete, rooted, met, verdict}
+use Rattle.tree.specs.Verdicts.{got, every, reachFrom, peaksTrusted, counted, reached, complete, rooted, met, verdict}
 use Rattle.tree.specs.declared.verdict.Verdict.{Verdict}
 use Rattle.tree.specs.declared.verdict.Verdict.the-variants.{Fits, Missing, WrongPeaks, WrongClimb}
 use Rattle.store.specs.Room.{filler}
 use Rattle.store.specs.Integrity.{Integrity, message}
 use Rattle.store.specs.Rooms.{roomsOf, stateOf, trustedIn, cameIn, gotBy}
-use Rattle.store.specs.Steps.{countedBit, countedHash, LeafIs}
+use Rattle.store.specs.Steps.{countedBit, countedHash, leafFor}
 use Rattle.store.specs.Storing.{roomVerdict}
 use Rattle.tree.proofs.NodeLaws.{whole-below, above-aligned}
 use Rattle.tree.proofs.PackLaws.{high-bound}
@@ -48,30 +48,30 @@ module _ (L : ℕ) (bytes map : List ℕ) (N : ℕ) (r hashes trusted : List ℕ
   reached-is true = refl
   reached-is false = refl
 
-  target-is : (x : Bool) (h a : ℕ) → countedHash x N hashes o h a ≡ pick x (stateOf L (roomsOf bytes map hashes trusted)) (adopted N (got filler (message o)) (stateOf L (roomsOf bytes map hashes trusted))) .held h a
+  target-is : (x : Bool) (h a : ℕ) → countedHash x N hashes o h a ≡ pick x (stateOf L (roomsOf bytes map hashes trusted)) (adopted N (got filler (message o)) (stateOf L (roomsOf bytes map hashes trusted))) .hash h a
   target-is true h a = refl
   target-is false h a = refl
 
   module _ (bo : b ≡ every (trustedIn trusted) (peaks N)) (tr : t ≡ reachFrom (λ h. countedBit b N trusted h (above h c)) (suc (levels N)) 0) where
-    is-opened : b ≡ opened sha256 filler N r (stateOf L (roomsOf bytes map hashes trusted)) c d (message o)
-    unfolding opened
-    is-opened = bo
+    is-peaksTrusted : b ≡ peaksTrusted sha256 filler N r (stateOf L (roomsOf bytes map hashes trusted)) c d (message o)
+    unfolding peaksTrusted
+    is-peaksTrusted = bo
 
     is-reached : t ≡ reached sha256 filler N r (stateOf L (roomsOf bytes map hashes trusted)) c d (message o)
     unfolding reached counted
-    is-reached = tr ∙ reached-is b ∙ ap (λ (x : Bool). reachFrom (λ h. pick x (stateOf L (roomsOf bytes map hashes trusted)) (adopted N (got filler (message o)) (stateOf L (roomsOf bytes map hashes trusted))) .trust h (above h c)) (suc (levels N)) 0) is-opened
+    is-reached = tr ∙ reached-is b ∙ ap (λ (x : Bool). reachFrom (λ h. pick x (stateOf L (roomsOf bytes map hashes trusted)) (adopted N (got filler (message o)) (stateOf L (roomsOf bytes map hashes trusted))) .trust h (above h c)) (suc (levels N)) 0) is-peaksTrusted
 
     is-complete : pick (pick b true (every (cameIn o) (peaks N))) (every (cameIn o) (siblings c t (above t c))) false ≡ complete sha256 filler N r (stateOf L (roomsOf bytes map hashes trusted)) c d (message o)
     unfolding complete
-    is-complete = rw (is-opened, is-reached)
+    is-complete = rw (is-peaksTrusted, is-reached)
 
     is-rooted : pick b true (same (given sha256 filler N (gotBy o) (levels N) 0) r) ≡ rooted sha256 filler N r (stateOf L (roomsOf bytes map hashes trusted)) c d (message o)
     unfolding combined rooted
-    is-rooted = rw is-opened
+    is-rooted = rw is-peaksTrusted
 
     is-met : same (climb sha256 (gotBy o) (sha256 d) c t (above t c)) (countedHash b N hashes o t (above t c)) ≡ met sha256 filler N r (stateOf L (roomsOf bytes map hashes trusted)) c d (message o)
     unfolding counted met
-    is-met = rw (target-is b t (above t c), is-opened, is-reached)
+    is-met = rw (target-is b t (above t c), is-peaksTrusted, is-reached)
 
     module _ (u : Bool) (uo : u ≡ pick (pick b true (every (cameIn o) (peaks N))) (every (cameIn o) (siblings c t (above t c))) false) where
       pub at-missing : u ≡ false → Missing ≡ verdict sha256 filler N r (stateOf L (roomsOf bytes map hashes trusted)) c d (message o)
@@ -129,7 +129,7 @@ verdict-sees N r hashes trusted c d o L bytes map = in-rooms N r hashes trusted 
 is-counted : (N : ℕ) (r hashes trusted : List ℕ) (c : ℕ) (d : List ℕ) (o : Integrity)
     → reachFrom (λ h. countedBit (every (trustedIn trusted) (peaks N)) N trusted h (above h c)) (suc (levels N)) 0
     ≡ reachFrom (λ h. counted sha256 filler N r (stateOf 0 (roomsOf [] [] hashes trusted)) c d (message o) .trust h (above h c)) (suc (levels N)) 0
-unfolding counted opened
+unfolding counted peaksTrusted
 is-counted N r hashes trusted c d o = reached-is 0 [] [] N r hashes trusted c d o true 0 (every (trustedIn trusted) (peaks N))
 
 -- a chunk that fits hangs below a node of the tree
@@ -174,14 +174,8 @@ module _ (N : ℕ) (r hashes trusted : List ℕ) (c : ℕ) (d : List ℕ) (o : I
 
 -- ---- the leaf's hash that comes with a verdict
 
-pub leaf-missing : (v : Verdict) (x y : List ℕ) → v ≡ Missing → LeafIs v x y
-leaf-missing v x y e = rw e tt
+pub leaf-refused : (v u : Verdict) (x y : List ℕ) → v ≡ u → leafFor u y ≡ filler → x ≡ filler → x ≡ leafFor v y
+leaf-refused v u x y e f g = g ∙ sym f ∙ ap (λ (z : Verdict). leafFor z y) (sym e)
 
-pub leaf-peaks : (v : Verdict) (x y : List ℕ) → v ≡ WrongPeaks → LeafIs v x y
-leaf-peaks v x y e = rw e tt
-
-pub leaf-climb : (v : Verdict) (x y : List ℕ) → v ≡ WrongClimb → LeafIs v x y
-leaf-climb v x y e = rw e tt
-
-pub leaf-of : (v : Verdict) (t : ℕ) (x y : List ℕ) → v ≡ Fits t → LeafIs v x y → x ≡ y
-leaf-of v t x y e l = rw e at l
+pub leaf-fits : (v : Verdict) (t : ℕ) (x y : List ℕ) → v ≡ Fits t → x ≡ leafFor v y → x ≡ y
+leaf-fits v t x y e f = f ∙ ap (λ (z : Verdict). leafFor z y) e

@@ -1,4 +1,4 @@
--- The numbers that the calls on the rooms give back, in 01's order: 12, 11, 7, 8, 9, 10 (01, "Numbers given back").
+-- The numbers given back before any hash is looked at, in 01's order: 12, 11, 7, 8 (01, "Numbers given back").
 -- Assumes nothing.
 use Prim.Native.Nat.{ℕ, zero, suc, _*_}
 use mathlib.Core.Bool.{Bool, true, false, not}

@@ -1,15 +1,13 @@
 -- Starting a store in its rooms, and building a whole one from its content (01, "What a store works under"). Assumes nothing.
-use Prim.Native.Nat.{ℕ, zero, suc, _+_, _*_, _/_, _^_, _<_, _≤_}
-use mathlib.Core.Path.{_≡_}
+use Prim.Native.Nat.{ℕ, zero, suc, _*_, _/_, _^_}
 use mathlib.Core.List.{List}
 use lib.ListN.{length}
 use Rattle.bits.proofs.Promise.{setBit, setRange, clearWords, rowWords}
 use Rattle.hash.proofs.Promise.{sha256}
 use Rattle.tree.specs.Bin.{bin}
-use Rattle.tree.specs.Node.{above}
 use Rattle.tree.specs.Pack.{levels, leafPlaces, rootNode}
 use Rattle.tree.specs.Tree.{tree, root}
-use Rattle.store.specs.Room.{filler, hashIn, putHash}
+use Rattle.store.specs.Room.{filler, putHash}
 use Rattle.store.specs.Rooms.{Rooms, countOf, chunkIn}
 use Rattle.store.specs.Storing.{Put, mark, copied}
 
@@ -45,16 +43,15 @@ unfoldable pub putLevels : Put → (ℕ → ℕ → List ℕ) → ℕ → ℕ �
 putLevels put got N zero l = l
 putLevels put got N (suc h) l = putLevel put got h (N / 2 ^ h) (putLevels put got N h l)
 
--- The room has the hash of every such node.
-unfoldable pub Filled : List ℕ → (ℕ → ℕ → List ℕ) → ℕ → ℕ → Type 0
-Filled hashes got N k = (h a : ℕ) → h < k → above h a ≡ a → a + 2 ^ h ≤ N → hashIn hashes (bin h a) ≡ got h a
-
 -- Built: the content is copied, the N map bits are set, and the hashes of the root and of every node wholly inside the
 -- pack are written and trusted, no others; the rest is as after starting.
-unfoldable pub buildRooms : Rooms → List ℕ → Rooms
-buildRooms w s = record {
+abbrev pub builtOf : ℕ → Rooms → List ℕ → Rooms
+builtOf N w s = record {
   bytes = copied (w .bytes) 0 s;
-  map = setRange (clearRow (w .map) (countOf (length s))) 0 (countOf (length s));
-  hashes = putHash (putLevels putHash (treeOf s) (countOf (length s)) (suc (levels (countOf (length s)))) (w .hashes)) (rootNode (countOf (length s))) (rootOf s);
-  trusted = setBit (putLevels mark (treeOf s) (countOf (length s)) (suc (levels (countOf (length s)))) (clearRow (w .trusted) (2 * leafPlaces (countOf (length s))))) (rootNode (countOf (length s)));
+  map = setRange (clearRow (w .map) N) 0 N;
+  hashes = putHash (putLevels putHash (treeOf s) N (suc (levels N)) (w .hashes)) (rootNode N) (rootOf s);
+  trusted = setBit (putLevels mark (treeOf s) N (suc (levels N)) (clearRow (w .trusted) (2 * leafPlaces N))) (rootNode N);
 }
+
+unfoldable pub buildRooms : Rooms → List ℕ → Rooms
+buildRooms w s = builtOf (countOf (length s)) w s

@@ -9,7 +9,7 @@ use Rattle.store.specs.Room.{filler}
 use Rattle.store.specs.Integrity.{Integrity}
 use Rattle.store.specs.Rooms.{Rooms, countOf}
 use Rattle.store.specs.Storing.{storeSpec, roomVerdict, roomsBy}
-use Rattle.store.specs.Building.{startRooms, rootOf, buildRooms}
+use Rattle.store.specs.Building.{startRooms, buildRooms}
 use Rattle.store.specs.Answers.{refuse, earlier, lengthAnswer, roomAnswer, orderAnswer, chunkAnswer}
 
 -- What a call gives back, and the rooms that it leaves.

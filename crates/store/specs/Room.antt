@@ -1,17 +1,22 @@
 -- The hash room: eight words for each node, by its number (01, "What a store works under": 16 words of 32 bits for each
 -- leaf place of the tree), and the 32 bytes that they stand for. Assumes nothing.
 use Prim.Native.Nat.{ℕ, zero, suc, _*_, _/_}
+use mathlib.Core.Path.{_≡_}
 use mathlib.Core.Bool.{Bool}
 use mathlib.Core.List.{List, [], _∷_}
 use lib.Dec.{ltb}
 use lib.ListN.{length, getD, replicate}
 use lib.Seq.{sets}
-use Rattle.hash.proofs.Promise.{bytesOf, words}
+use Rattle.hash.proofs.Promise.{bytesOf, words, Bytes}
 use Rattle.tree.specs.Pick.{pick}
 
 -- The filler: 32 zero bytes.
 unfoldable pub filler : List ℕ
 filler = replicate 32 0
+
+-- A hash is 32 bytes.
+unfoldable pub Digest : List ℕ → Type 0
+Digest v = Bytes v × (length v ≡ 32)
 
 -- n words from place i on.
 unfoldable pub wordsAt : ℕ → List ℕ → ℕ → List ℕ

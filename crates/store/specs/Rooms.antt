@@ -1,16 +1,13 @@
 -- The rooms of a store (01, "What a store works under") and what they hold, node by node and chunk by chunk. Assumes nothing.
-use Prim.Native.Nat.{ℕ, _*_}
+use Prim.Native.Nat.{ℕ}
 use mathlib.Core.List.{List}
-use mathlib.Core.Path.{_≡_}
 use mathlib.Core.Bool.{Bool}
-use lib.ListN.{take, drop}
 use Rattle.bits.proofs.Promise.{bitAt}
 use Rattle.hash.proofs.Promise.{sha256}
-use Rattle.tree.specs.Pick.{pick}
 use Rattle.tree.specs.Bin.{bin}
 use Rattle.tree.specs.Node.{Node, num}
-use Rattle.tree.specs.Pack.{chunkSize, chunks, size}
-use Rattle.tree.specs.State.{State, Sound, isPeak}
+use Rattle.tree.specs.Pack.{chunkSize, chunks, part}
+use Rattle.tree.specs.State.{State, Sound}
 use Rattle.store.specs.Room.{filler, hashIn}
 use Rattle.store.specs.Integrity.{Integrity, came, gotAt}
 
@@ -30,14 +27,14 @@ countOf L = chunks chunkSize L
 
 -- The bytes of chunk x of a pack of L bytes.
 abbrev pub chunkIn : ℕ → List ℕ → ℕ → List ℕ
-chunkIn L s x = take (size chunkSize L x) (drop (chunkSize * x) s)
+chunkIn L s x = part chunkSize L s x
 
 -- What the rooms hold of such a pack.
 abbrev pub stateOf : ℕ → Rooms → State
 stateOf L w = record {
-  held = λ h a. hashIn (w .hashes) (bin h a);
+  hash = λ h a. hashIn (w .hashes) (bin h a);
   trust = λ h a. bitAt (w .trusted) (bin h a);
-  has = λ x. bitAt (w .map) x;
+  inMap = λ x. bitAt (w .map) x;
   chunk = λ x. chunkIn L (w .bytes) x;
 }
 

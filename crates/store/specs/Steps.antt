@@ -1,15 +1,16 @@
--- What the code of a verdict computes on its way, in the rooms' words; no paper has these. Assumes nothing.
-use Prim.Native.Nat.{ℕ}
+-- What the code computes on its way to a verdict or through a pack, in the rooms' words; no paper has these. Assumes nothing.
+use Prim.Native.Nat.{ℕ, _+_, _^_, _<_, _≤_}
 use mathlib.Core.Path.{_≡_}
 use mathlib.Core.List.{List}
 use mathlib.Core.Bool.{Bool, true, false}
 use Rattle.bits.proofs.Promise.{bitAt}
 use Rattle.tree.specs.Pick.{pick}
 use Rattle.tree.specs.Bin.{bin}
+use Rattle.tree.specs.Node.{above}
 use Rattle.tree.specs.State.{isPeak}
 use Rattle.tree.specs.declared.verdict.Verdict.{Verdict}
 use Rattle.tree.specs.declared.verdict.Verdict.the-variants.{Fits, Missing, WrongPeaks, WrongClimb}
-use Rattle.store.specs.Room.{hashIn}
+use Rattle.store.specs.Room.{filler, hashIn}
 use Rattle.store.specs.Integrity.{Integrity, gotAt}
 
 -- Node b's hash: of those that came, or of the room.
@@ -22,16 +23,20 @@ sourceBy t hashes o h a = source t hashes o (bin h a)
 
 -- Trusted, with the peaks counted as trusted where they aren't yet.
 abbrev pub countedBit : Bool → ℕ → List ℕ → ℕ → ℕ → Bool
-countedBit opened N trusted h a = pick opened (bitAt trusted (bin h a)) (pick (isPeak N h a) true (bitAt trusted (bin h a)))
+countedBit peaksTrusted N trusted h a = pick peaksTrusted (bitAt trusted (bin h a)) (pick (isPeak N h a) true (bitAt trusted (bin h a)))
 
 -- And the hash that then counts.
 abbrev pub countedHash : Bool → ℕ → List ℕ → Integrity → ℕ → ℕ → List ℕ
-countedHash opened N hashes o h a =
-    pick opened (hashIn hashes (bin h a)) (pick (isPeak N h a) (gotAt o (bin h a)) (hashIn hashes (bin h a)))
+countedHash peaksTrusted N hashes o h a =
+    pick peaksTrusted (hashIn hashes (bin h a)) (pick (isPeak N h a) (gotAt o (bin h a)) (hashIn hashes (bin h a)))
 
--- With a verdict that the chunk fits comes its hash.
-abbrev pub LeafIs : Verdict → List ℕ → List ℕ → Type 0
-LeafIs (Fits t) x y = x ≡ y
-LeafIs Missing x y = Unit {0}
-LeafIs WrongPeaks x y = Unit {0}
-LeafIs WrongClimb x y = Unit {0}
+-- Before the nodes of height k are hashed, the room has the hash of every lower node inside 0..N-1.
+unfoldable pub Filled : List ℕ → (ℕ → ℕ → List ℕ) → ℕ → ℕ → Type 0
+Filled hashes got N k = (h a : ℕ) → h < k → above h a ≡ a → a + 2 ^ h ≤ N → hashIn hashes (bin h a) ≡ got h a
+
+-- With a verdict that the chunk fits comes its hash, with any other the filler.
+abbrev pub leafFor : Verdict → List ℕ → List ℕ
+leafFor (Fits t) x = x
+leafFor Missing x = filler
+leafFor WrongPeaks x = filler
+leafFor WrongClimb x = filler

@@ -1,5 +1,5 @@
 -- What storing a chunk that fits writes to the rooms (01, "Taking a chunk"). Assumes nothing.
-use Prim.Native.Nat.{ℕ, zero, suc, _+_, _*_, _^_}
+use Prim.Native.Nat.{ℕ, zero, suc, _*_}
 use mathlib.Core.Bool.{Bool, true, false}
 use mathlib.Core.List.{List, []}
 use lib.Seq.{paste}
@@ -8,10 +8,10 @@ use Rattle.bits.proofs.Promise.{bitAt, setBit}
 use Rattle.hash.proofs.Promise.{sha256}
 use Rattle.tree.specs.Pick.{pick}
 use Rattle.tree.specs.Bin.{bin}
-use Rattle.tree.specs.Node.{above, other, num}
+use Rattle.tree.specs.Node.{above, other}
 use Rattle.tree.specs.Pack.{chunkSize, levels}
 use Rattle.tree.specs.Peaks.{peaks}
-use Rattle.tree.specs.Steps.{peakBit, peakAt}
+use Rattle.tree.specs.Steps.{peakBit}
 use Rattle.tree.specs.Tree.{climb}
 use Rattle.tree.specs.Verdicts.{every, verdict}
 use Rattle.tree.specs.declared.verdict.Verdict.{Verdict}
@@ -46,14 +46,14 @@ putPath put own got c (suc h) l =
 
 -- The peaks where they weren't trusted, then the leaf, the climbed nodes and the siblings below the trusted node of height t.
 unfoldable pub putAll : Put → Bool → ℕ → ℕ → ℕ → List ℕ → Integrity → List ℕ → List ℕ
-putAll put opened N c t d o l =
-    putPath put (λ h. climb sha256 (gotBy o) (sha256 d) c h (above h c)) (gotBy o) c t (pick opened l (putPeaks put (gotBy o) N (suc (levels N)) l))
+putAll put peaksTrusted N c t d o l =
+    putPath put (λ h. climb sha256 (gotBy o) (sha256 d) c h (above h c)) (gotBy o) c t (pick peaksTrusted l (putPeaks put (gotBy o) N (suc (levels N)) l))
 
 -- The elements of s in l's place from index at on.
 unfoldable pub copied : List ℕ → ℕ → List ℕ → List ℕ
 copied l at s = paste l at s (length s)
 
--- Chunk c with the bytes d, hung below the trusted node of height t.
+-- Chunk c with the bytes d, hung from the trusted node of height t, which is its own leaf where t is 0.
 unfoldable pub stored : Rooms → ℕ → ℕ → ℕ → List ℕ → Integrity → Rooms
 stored w N c t d o = record {
   bytes = copied (w .bytes) (chunkSize * c) d;

@@ -8,7 +8,7 @@ use lib.ListN.{length, take}
 use Rattle.bits.proofs.Promise.{bitAt, rowWords}
 use Rattle.hash.proofs.Promise.{sha256}
 use Rattle.tree.specs.Pack.{leafPlaces}
-use Rattle.tree.specs.Walk.{Hangs, Lowest, Clash}
+use Rattle.tree.specs.Walk.{Hangs, Lowest, Collision}
 use Rattle.store.specs.Room.{filler}
 use Rattle.store.specs.Rooms.{Rooms, countOf, stateOf, SoundRooms}
 
@@ -18,6 +18,13 @@ pub record Roomy (L : ℕ) (w : Rooms) : Type 0 where
   pub map-in : rowWords (countOf L) ≤ length (w .map)
   pub hashes-in : 16 * leafPlaces (countOf L) ≤ length (w .hashes)
   pub trusted-in : rowWords (2 * leafPlaces (countOf L)) ≤ length (w .trusted)
+
+-- Rooms of the same lengths.
+pub record SameSizes (w v : Rooms) : Type 0 where
+  pub bytes-long : length (v .bytes) ≡ length (w .bytes)
+  pub map-long : length (v .map) ≡ length (w .map)
+  pub hashes-long : length (v .hashes) ≡ length (w .hashes)
+  pub trusted-long : length (v .trusted) ≡ length (w .trusted)
 
 -- What holds of a store under root r and length L from its start or its building on.
 pub record Running (L : ℕ) (r : List ℕ) (w : Rooms) : Type 0 where
@@ -36,4 +43,4 @@ Whole L w = (x : ℕ) → x < countOf L → bitAt (w .map) x ≡ true
 -- different strings, hashed at one place of both trees to one SHA-256 value.
 pub data Alike (L : ℕ) (w v : Rooms) : Type 0 where
   same-bytes : take L (w .bytes) ≡ take L (v .bytes) → Alike L w v
-  collision : (c : ℕ) → Lowest (countOf L) (stateOf L w) (stateOf L v) c → Clash sha256 filler (countOf L) (stateOf L w) (stateOf L v) c → Alike L w v
+  collides : (c : ℕ) → Lowest (countOf L) (stateOf L w) (stateOf L v) c → Collision sha256 filler (countOf L) (stateOf L w) (stateOf L v) c → Alike L w v

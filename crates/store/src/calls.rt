@@ -89,7 +89,7 @@ pub fn build(
     }
 }
 
-// What would become of chunk c that came with these hashes; nothing is written.
+// The verdict on chunk c with the hashes that came, once 12, 11, 7 and 8 are ruled out; nothing is written.
 pub fn verdict(
     order: Order,
     hashes: &[u32],
@@ -126,6 +126,7 @@ fn settle(
     let judged = verdicts::judge(hashes, trusted, root, n, c, chunk, entries, bytes);
     let v = judged.verdict;
     let leaf = judged.leaf;
+    let answer = tree::verdict::number(v);
     match v {
         Verdict::Fits(t) => {
             storing::store(
@@ -141,11 +142,11 @@ fn settle(
                 entries,
                 bytes,
             );
-            0
+            answer
         }
-        Verdict::Missing => 9,
-        Verdict::WrongPeaks => 10,
-        Verdict::WrongClimb => 10,
+        Verdict::Missing => answer,
+        Verdict::WrongPeaks => answer,
+        Verdict::WrongClimb => answer,
     }
 }
 

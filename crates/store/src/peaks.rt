@@ -2,17 +2,15 @@
 ghost use mathlib.Core.Path.{_≡_};
 ghost use Prim.Native.Nat.{_≤_, _<_, _^_};
 ghost use mathlib.Core.Bool.{false};
-ghost use Rattle.bits.proofs.Promise.{bitAt};
 ghost use Rattle.hash.proofs.Promise.{bytesOf, sha256};
 ghost use Rattle.tree.specs.Pick.{pick};
-ghost use Rattle.tree.specs.Node.{num};
 ghost use Rattle.tree.specs.Pack.{levels};
 ghost use Rattle.tree.specs.Peaks.{peaks};
 ghost use Rattle.tree.specs.Steps.{peakBit, peakAt, folded};
 ghost use Rattle.tree.specs.Tree.{given};
 ghost use Rattle.tree.specs.Verdicts.{every};
 ghost use Rattle.store.specs.Room.{filler};
-ghost use Rattle.store.specs.Integrity.{integrityOf, came};
+ghost use Rattle.store.specs.Integrity.{integrityOf};
 ghost use Rattle.store.specs.Rooms.{trustedIn, cameIn};
 ghost use Rattle.store.specs.Steps.{source, sourceBy};
 use crate::integrity;
@@ -80,10 +78,10 @@ pub fn all_came(entries: &[u64], bytes: &[u8], n: u32, top: u32) -> bool
 }
 
 // Node b's hash: of those that came, or of the room.
-fn hash_from(from: bool, hashes: &[u32], entries: &[u64], bytes: &[u8], b: u64) -> HashValue
-    ensures { λ r. ⌜ bytesOf (r .words) ≡ source from (now (hashes .entry)) (integrityOf (now (entries .entry)) (now (bytes .entry))) b ⌝ }
+fn hash_from(came: bool, hashes: &[u32], entries: &[u64], bytes: &[u8], b: u64) -> HashValue
+    ensures { λ r. ⌜ bytesOf (r .words) ≡ source came (now (hashes .entry)) (integrityOf (now (entries .entry)) (now (bytes .entry))) b ⌝ }
 {
-    if from {
+    if came {
         return integrity::get(entries, bytes, b);
     }
     room::read(hashes, b)
@@ -91,7 +89,7 @@ fn hash_from(from: bool, hashes: &[u32], entries: &[u64], bytes: &[u8], b: u64) 
 
 // One step of combining the peaks of n, from height h to the next: fillers go by place.
 fn fold(
-    from: bool,
+    came: bool,
     hashes: &[u32],
     entries: &[u64],
     bytes: &[u8],
@@ -100,11 +98,11 @@ fn fold(
     acc: HashValue,
 ) -> HashValue
     requires { ⌜ h < 59 ⌝ }
-    ensures { λ r. ⌜ bytesOf (r .words) ≡ folded sha256 filler n (sourceBy from (now (hashes .entry)) (integrityOf (now (entries .entry)) (now (bytes .entry)))) h (bytesOf (acc .words)) ⌝ }
+    ensures { λ r. ⌜ bytesOf (r .words) ≡ folded sha256 filler n (sourceBy came (now (hashes .entry)) (integrityOf (now (entries .entry)) (now (bytes .entry)))) h (bytesOf (acc .words)) ⌝ }
 {
     if tree::peaks::side(n, h) == 1 {
         let b = tree::peaks::peak(n, h);
-        let p = hash_from(from, hashes, entries, bytes, b);
+        let p = hash_from(came, hashes, entries, bytes, b);
         return node::parent(p, acc);
     }
     if tree::peaks::above(n, h) == n as u64 {
@@ -115,14 +113,14 @@ fn fold(
 }
 
 // The peaks of n combined with fillers, where n is no power of two.
-fn combine(from: bool, hashes: &[u32], entries: &[u64], bytes: &[u8], n: u32, top: u32) -> HashValue
+fn combine(came: bool, hashes: &[u32], entries: &[u64], bytes: &[u8], n: u32, top: u32) -> HashValue
     requires { ⌜ (top ≤ 32) × (n < 2 ^ top) ⌝ }
-    ensures { λ r. ⌜ bytesOf (r .words) ≡ given sha256 filler n (sourceBy from (now (hashes .entry)) (integrityOf (now (entries .entry)) (now (bytes .entry)))) top 0 ⌝ }
+    ensures { λ r. ⌜ bytesOf (r .words) ≡ given sha256 filler n (sourceBy came (now (hashes .entry)) (integrityOf (now (entries .entry)) (now (bytes .entry)))) top 0 ⌝ }
 {
     let mut acc = value::zero();
     let mut h = 0u32;
     while h < top {
-        acc = fold(from, hashes, entries, bytes, n, h, acc);
+        acc = fold(came, hashes, entries, bytes, n, h, acc);
         h = h + 1;
     }
     acc
@@ -130,7 +128,7 @@ fn combine(from: bool, hashes: &[u32], entries: &[u64], bytes: &[u8], n: u32, to
 
 // The root that the peaks of n give, those that came or those in the room: where n is a power of two it is the one peak.
 pub fn root_of_peaks(
-    from: bool,
+    came: bool,
     hashes: &[u32],
     entries: &[u64],
     bytes: &[u8],
@@ -138,11 +136,11 @@ pub fn root_of_peaks(
     top: u32,
 ) -> HashValue
     requires { ⌜ (top ≤ 32) × (n ≤ 2 ^ top) ⌝ }
-    ensures { λ r. ⌜ bytesOf (r .words) ≡ given sha256 filler n (sourceBy from (now (hashes .entry)) (integrityOf (now (entries .entry)) (now (bytes .entry)))) top 0 ⌝ }
+    ensures { λ r. ⌜ bytesOf (r .words) ≡ given sha256 filler n (sourceBy came (now (hashes .entry)) (integrityOf (now (entries .entry)) (now (bytes .entry)))) top 0 ⌝ }
 {
     let w = tree::bin::pow2(top);
     if n as u64 == w {
-        return hash_from(from, hashes, entries, bytes, w - 1);
+        return hash_from(came, hashes, entries, bytes, w - 1);
     }
-    combine(from, hashes, entries, bytes, n, top)
+    combine(came, hashes, entries, bytes, n, top)
 }

@@ -67,7 +67,7 @@ fn put_peaks(
 }
 
 // The peaks, where they aren't trusted yet.
-fn put_opening(
+fn put_new_peaks(
     hashes: &mut [u32],
     trusted: &mut [u32],
     entries: &[u64],
@@ -147,7 +147,7 @@ fn put(
     let top = tree::pack::levels(n);
     copy_in(chunks, CHUNK_SIZE as usize * i, chunk);
     bits::set(map, i);
-    put_opening(hashes, trusted, entries, bytes, n, top);
+    put_new_peaks(hashes, trusted, entries, bytes, n, top);
     put_path(hashes, trusted, entries, bytes, c, t, leaf);
 }
 

@@ -13,7 +13,7 @@ ghost use Rattle.tree.specs.Verdicts.{every, reachFrom};
 ghost use Rattle.store.specs.Room.{filler};
 ghost use Rattle.store.specs.Integrity.{integrityOf};
 ghost use Rattle.store.specs.Rooms.{cameIn, gotBy};
-ghost use Rattle.store.specs.Steps.{countedBit, countedHash, LeafIs};
+ghost use Rattle.store.specs.Steps.{countedBit, countedHash, leafFor};
 ghost use Rattle.store.specs.Storing.{roomVerdict};
 use crate::integrity;
 use crate::peaks;
@@ -24,7 +24,7 @@ use hash::value;
 use hash::value::HashValue;
 use tree::verdict::Verdict;
 
-// A verdict, and the chunk's hash, which storing needs again; the filler where the verdict fell before it was made.
+// A verdict, and with one that the chunk fits its hash, which storing needs again; with any other the filler.
 pub struct Judged {
     pub verdict: Verdict,
     pub leaf: HashValue,
@@ -191,9 +191,9 @@ fn met(
     value::same(x, y)
 }
 
-// A verdict that needed no chunk hash.
-fn before_leaf(v: Verdict) -> Judged
-    ensures { λ r. ⌜ r .verdict ≡ v ⌝ }
+// A verdict that refuses the chunk.
+fn refused(v: Verdict) -> Judged
+    ensures { λ r. ⌜ (r .verdict ≡ v) × (bytesOf (r .leaf .words) ≡ filler) ⌝ }
 {
     Judged {
         verdict: v,
@@ -212,20 +212,20 @@ pub fn judge(
     entries: &[u64],
     bytes: &[u8],
 ) -> Judged
-    ensures { λ r. ⌜ (r .verdict ≡ roomVerdict n (bytesOf (root .words)) (now (hashes .entry)) (now (trusted .entry)) c (now (chunk .entry)) (integrityOf (now (entries .entry)) (now (bytes .entry)))) × LeafIs (r .verdict) (bytesOf (r .leaf .words)) (sha256 (now (chunk .entry))) ⌝ }
+    ensures { λ r. ⌜ (r .verdict ≡ roomVerdict n (bytesOf (root .words)) (now (hashes .entry)) (now (trusted .entry)) c (now (chunk .entry)) (integrityOf (now (entries .entry)) (now (bytes .entry)))) × (bytesOf (r .leaf .words) ≡ leafFor (r .verdict) (sha256 (now (chunk .entry)))) ⌝ }
 {
     let top = tree::pack::levels(n);
     let opened = peaks::all_trusted(trusted, n, top);
     let t = reach(trusted, opened, n, c, top);
     if !complete(entries, bytes, opened, n, c, top, t) {
-        return before_leaf(Verdict::Missing);
+        return refused(Verdict::Missing);
     }
     if !rooted(entries, bytes, hashes, opened, root, n, top) {
-        return before_leaf(Verdict::WrongPeaks);
+        return refused(Verdict::WrongPeaks);
     }
     let leaf = message::sha256(chunk);
     if !met(hashes, entries, bytes, opened, n, c, t, leaf) {
-        return before_leaf(Verdict::WrongClimb);
+        return refused(Verdict::WrongClimb);
     }
     Judged {
         verdict: Verdict::Fits(t),

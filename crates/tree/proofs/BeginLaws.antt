@@ -41,11 +41,11 @@ one-peak N h b w p =
         (e, omega (arith, levels-holds N))
 
 module _ (H : List ℕ → List ℕ) (Z : List ℕ) (N : ℕ) (r : List ℕ) (hashes : ℕ → ℕ → List ℕ) (bytes : ℕ → List ℕ) where
-  root-whole : 2 ^ levels N ≤ N → combined H Z N (started N r hashes bytes .held) ≡ r
+  root-whole : 2 ^ levels N ≤ N → combined H Z N (started N r hashes bytes .hash) ≡ r
   unfolding combined
   root-whole v =
-      let e : started N r hashes bytes .held (levels N) 0 ≡ r = rw (eq-eqb (levels N) (levels N) refl) in
-      given-whole H Z N (started N r hashes bytes .held) (levels N) 0 (omega arith) ∙ e
+      let e : started N r hashes bytes .hash (levels N) 0 ≡ r = rw (eq-eqb (levels N) (levels N) refl) in
+      given-whole H Z N (started N r hashes bytes .hash) (levels N) 0 (omega arith) ∙ e
 
   pub started-sound : Sound H Z N r (started N r hashes bytes)
   started-sound = record {
@@ -56,7 +56,7 @@ module _ (H : List ℕ → List ℕ) (Z : List ℕ) (N : ℕ) (r : List ℕ) (ha
   }
     where
       top : (k a : ℕ) → a + 2 ^ k ≤ N → (k ≡ levels N) × (a ≡ 0)
-          → ((h b : ℕ) → above h b ≡ b → isPeak N h b ≡ true → started N r hashes bytes .trust h b ≡ true) × (combined H Z N (started N r hashes bytes .held) ≡ r)
+          → ((h b : ℕ) → above h b ≡ b → isPeak N h b ≡ true → started N r hashes bytes .trust h b ≡ true) × (combined H Z N (started N r hashes bytes .hash) ≡ r)
       top k a w q =
           let v : 2 ^ levels N ≤ N = rw (q .0) at (let u : 2 ^ k ≤ N = omega arith in u) in (
             λ h b g p. let o = one-peak N h b v p in rw (eq-eqb h (levels N) (o .0), eq-eqb b 0 (o .1)),

@@ -26,7 +26,7 @@ climb-zero H sib v c a = refl
 module _ (H : List ℕ → List ℕ) (Z : List ℕ) (N : ℕ) (r : List ℕ) (s : State) (S : Sound H Z N r s)
     (c t : ℕ) (d : List ℕ) (msg : ℕ → ℕ → List ℕ)
     (inside : above t c + 2 ^ t ≤ N) (reach : s .trust t (above t c) ≡ true) (below : (k : ℕ) → k < t → s .trust k (above k c) ≡ false)
-    (hit : climb H msg (H d) c t (above t c) ≡ s .held t (above t c)) where
+    (hit : climb H msg (H d) c t (above t c) ≡ s .hash t (above t c)) where
   -- the children of a node above c below the trusted one are not trusted
   kids : (k : ℕ) → k < t → (s .trust k (above (suc k) c) ≡ false) × (s .trust k (above (suc k) c + 2 ^ k) ≡ false)
   kids k l = go (c / 2 ^ k % 2) refl (S .pair k (above (suc k) c) (above-aligned (suc k) c) (whole-below N c (suc k) t l inside))
@@ -80,10 +80,10 @@ module _ (H : List ℕ → List ℕ) (Z : List ℕ) (N : ℕ) (r : List ℕ) (s 
   onPath-off h a l = rw (le-ltb h t l)
 
   -- what is held on the way, and beside it
-  pub held-on : (k : ℕ) → k ≤ t → hung H c t d msg s .held k (above k c) ≡ climb H msg (H d) c k (above k c)
+  pub held-on : (k : ℕ) → k ≤ t → hung H c t d msg s .hash k (above k c) ≡ climb H msg (H d) c k (above k c)
   held-on k l = go (split (suc k) t)
     where
-      go : (k < t) ⊎ (t < suc k) → hung H c t d msg s .held k (above k c) ≡ climb H msg (H d) c k (above k c)
+      go : (k < t) ⊎ (t < suc k) → hung H c t d msg s .hash k (above k c) ≡ climb H msg (H d) c k (above k c)
       go (inl u) = rw (onPath-on k u, eq-eqb (above k c) (above k c) refl)
       go (inr u) = let e : t ≡ k = omega arith in rw (onPath-off k (above k c) (omega arith)) (rw e at (sym hit))
 
@@ -93,34 +93,34 @@ module _ (H : List ℕ → List ℕ) (Z : List ℕ) (N : ℕ) (r : List ℕ) (s 
   other-is-left : (k : ℕ) → c / 2 ^ k % 2 ≡ 1 → other c k (above (suc k) c) ≡ above (suc k) c
   other-is-left k e = omega (arith, other-right k c e, above-right k c e)
 
-  held-beside : (k : ℕ) → k < t → hung H c t d msg s .held k (other c k (above (suc k) c)) ≡ msg k (other c k (above (suc k) c))
+  held-beside : (k : ℕ) → k < t → hung H c t d msg s .hash k (other c k (above (suc k) c)) ≡ msg k (other c k (above (suc k) c))
   held-beside k l = go (c / 2 ^ k % 2) refl
     where
-      go : (x : ℕ) → c / 2 ^ k % 2 ≡ x → hung H c t d msg s .held k (other c k (above (suc k) c)) ≡ msg k (other c k (above (suc k) c))
+      go : (x : ℕ) → c / 2 ^ k % 2 ≡ x → hung H c t d msg s .hash k (other c k (above (suc k) c)) ≡ msg k (other c k (above (suc k) c))
       go zero e =
           rw (ap (onPath c t k) (other-is-right k e) ∙ onPath-kids k l .1, ne-eqb (other c k (above (suc k) c)) (above k c) (λ f. omega (arith, other-left k c e, pow-pos k)))
       go (suc x) e =
           rw (ap (onPath c t k) (other-is-left k (omega arith)) ∙ onPath-kids k l .0, ne-eqb (other c k (above (suc k) c)) (above k c) (λ f. omega (arith, other-right k c (omega arith), pow-pos k)))
 
   up-on : (k : ℕ) → k < t
-      → hung H c t d msg s .held (suc k) (above (suc k) c)
-      ≡ H (hung H c t d msg s .held k (above (suc k) c) ++ hung H c t d msg s .held k (above (suc k) c + 2 ^ k))
+      → hung H c t d msg s .hash (suc k) (above (suc k) c)
+      ≡ H (hung H c t d msg s .hash k (above (suc k) c) ++ hung H c t d msg s .hash k (above (suc k) c + 2 ^ k))
   up-on k l = held-on (suc k) l ∙ climb-suc H msg (H d) c k ∙ go (c / 2 ^ k % 2) refl
     where
       go : (x : ℕ) → c / 2 ^ k % 2 ≡ x
           → joined H c k (above (suc k) c) (climb H msg (H d) c k (above k c)) (msg k (other c k (above (suc k) c)))
-          ≡ H (hung H c t d msg s .held k (above (suc k) c) ++ hung H c t d msg s .held k (above (suc k) c + 2 ^ k))
+          ≡ H (hung H c t d msg s .hash k (above (suc k) c) ++ hung H c t d msg s .hash k (above (suc k) c + 2 ^ k))
       go zero e =
           joined-left H k c (climb H msg (H d) c k (above k c)) (msg k (other c k (above (suc k) c))) e
           ∙ ap₂ (λ (x y : List ℕ). H (x ++ y))
-          (sym (held-on k (omega arith)) ∙ ap (hung H c t d msg s .held k) (sym (above-left k c e)))
-          (sym (held-beside k l) ∙ ap (hung H c t d msg s .held k) (other-is-right k e))
+          (sym (held-on k (omega arith)) ∙ ap (hung H c t d msg s .hash k) (sym (above-left k c e)))
+          (sym (held-beside k l) ∙ ap (hung H c t d msg s .hash k) (other-is-right k e))
       go (suc x) e =
           let f : c / 2 ^ k % 2 ≡ 1 = omega arith in
           joined-right H k c (climb H msg (H d) c k (above k c)) (msg k (other c k (above (suc k) c))) f
           ∙ ap₂ (λ (x y : List ℕ). H (x ++ y))
-          (sym (held-beside k l) ∙ ap (hung H c t d msg s .held k) (other-is-left k f))
-          (sym (held-on k (omega arith)) ∙ ap (hung H c t d msg s .held k) (sym (above-right k c f)))
+          (sym (held-beside k l) ∙ ap (hung H c t d msg s .hash k) (other-is-left k f))
+          (sym (held-on k (omega arith)) ∙ ap (hung H c t d msg s .hash k) (sym (above-right k c f)))
 
   trust-on : (k : ℕ) → k ≤ t → hung H c t d msg s .trust k (above k c) ≡ true
   trust-on k l = go (split (suc k) t)
@@ -133,17 +133,17 @@ module _ (H : List ℕ → List ℕ) (Z : List ℕ) (N : ℕ) (r : List ℕ) (s 
   trust-kept : (h a : ℕ) → above h a ≡ a → s .trust h a ≡ true → hung H c t d msg s .trust h a ≡ true
   trust-kept h a e f = rw (trusted-off-path h a e f) f
 
-  pub held-kept : (h a : ℕ) → above h a ≡ a → s .trust h a ≡ true → hung H c t d msg s .held h a ≡ s .held h a
+  pub held-kept : (h a : ℕ) → above h a ≡ a → s .trust h a ≡ true → hung H c t d msg s .hash h a ≡ s .hash h a
   held-kept h a e f = rw (trusted-off-path h a e f)
 
   hung-up : (k a : ℕ) → above (suc k) a ≡ a → a + 2 ^ suc k ≤ N → hung H c t d msg s .trust k a ≡ true
       → (hung H c t d msg s .trust (suc k) a ≡ true)
-      × (hung H c t d msg s .held (suc k) a ≡ H (hung H c t d msg s .held k a ++ hung H c t d msg s .held k (a + 2 ^ k)))
+      × (hung H c t d msg s .hash (suc k) a ≡ H (hung H c t d msg s .hash k a ++ hung H c t d msg s .hash k (a + 2 ^ k)))
   hung-up k a e w f = go (either (onPath c t k a))
     where
       Goal : ℕ → Type 0
       Goal x = (hung H c t d msg s .trust (suc k) x ≡ true)
-          × (hung H c t d msg s .held (suc k) x ≡ H (hung H c t d msg s .held k x ++ hung H c t d msg s .held k (x + 2 ^ k)))
+          × (hung H c t d msg s .hash (suc k) x ≡ H (hung H c t d msg s .hash k x ++ hung H c t d msg s .hash k (x + 2 ^ k)))
 
       go : (onPath c t k a ≡ true) ⊎ (onPath c t k a ≡ false) → Goal a
       go (inl b) =
@@ -160,12 +160,12 @@ module _ (H : List ℕ → List ℕ) (Z : List ℕ) (N : ℕ) (r : List ℕ) (s 
                 ∙ ap₂ (λ (x y : List ℕ). H (x ++ y)) (sym (held-kept k a (aligned-left k a e) o)) (sym (held-kept k (a + 2 ^ k) (aligned-right k a e) o′)),
           )
 
-  hung-leaf : (x : ℕ) → x < N → hung H c t d msg s .has x ≡ true
-      → (hung H c t d msg s .trust zero x ≡ true) × (hung H c t d msg s .held zero x ≡ H (hung H c t d msg s .chunk x))
+  hung-leaf : (x : ℕ) → x < N → hung H c t d msg s .inMap x ≡ true
+      → (hung H c t d msg s .trust zero x ≡ true) × (hung H c t d msg s .hash zero x ≡ H (hung H c t d msg s .chunk x))
   hung-leaf x l f = go (either (eqb x c))
     where
       Goal : ℕ → Type 0
-      Goal y = (hung H c t d msg s .trust zero y ≡ true) × (hung H c t d msg s .held zero y ≡ H (hung H c t d msg s .chunk y))
+      Goal y = (hung H c t d msg s .trust zero y ≡ true) × (hung H c t d msg s .hash zero y ≡ H (hung H c t d msg s .chunk y))
 
       go : (eqb x c ≡ true) ⊎ (eqb x c ≡ false) → Goal x
       go (inl b) =
@@ -173,29 +173,29 @@ module _ (H : List ℕ → List ℕ) (Z : List ℕ) (N : ℕ) (r : List ℕ) (s 
           let n : hung H c t d msg s .chunk c ≡ d = rw (eq-eqb c c refl) in
           subst Goal (sym (eqb-true x c b)) (
             ap (hung H c t d msg s .trust zero) (sym z) ∙ trust-on zero (omega arith),
-            ap (hung H c t d msg s .held zero) (sym z) ∙ held-on zero (omega arith) ∙ climb-zero H msg (H d) c (above zero c) ∙ ap H (sym n),
+            ap (hung H c t d msg s .hash zero) (sym z) ∙ held-on zero (omega arith) ∙ climb-zero H msg (H d) c (above zero c) ∙ ap H (sym n),
           )
       go (inr b) =
-          let o : s .has x ≡ true = rw b at f in
+          let o : s .inMap x ≡ true = rw b at f in
           let u = S .leaf x l o in
           let n : hung H c t d msg s .chunk x ≡ s .chunk x = rw b in
           (trust-kept zero x (above-zero x) (u .0), held-kept zero x (above-zero x) (u .0) ∙ u .1 ∙ ap H (sym n))
 
   hung-top : (k a : ℕ) → above k a ≡ a → a + 2 ^ k ≤ N → hung H c t d msg s .trust k a ≡ true
-      → ((h b : ℕ) → above h b ≡ b → isPeak N h b ≡ true → hung H c t d msg s .trust h b ≡ true) × (combined H Z N (hung H c t d msg s .held) ≡ r)
+      → ((h b : ℕ) → above h b ≡ b → isPeak N h b ≡ true → hung H c t d msg s .trust h b ≡ true) × (combined H Z N (hung H c t d msg s .hash) ≡ r)
   hung-top k a e w f = go (either (onPath c t k a))
     where
       Old : Type 0
-      Old = ((h b : ℕ) → above h b ≡ b → isPeak N h b ≡ true → s .trust h b ≡ true) × (combined H Z N (s .held) ≡ r)
+      Old = ((h b : ℕ) → above h b ≡ b → isPeak N h b ≡ true → s .trust h b ≡ true) × (combined H Z N (s .hash) ≡ r)
 
-      old : Old → ((h b : ℕ) → above h b ≡ b → isPeak N h b ≡ true → hung H c t d msg s .trust h b ≡ true) × (combined H Z N (hung H c t d msg s .held) ≡ r)
+      old : Old → ((h b : ℕ) → above h b ≡ b → isPeak N h b ≡ true → hung H c t d msg s .trust h b ≡ true) × (combined H Z N (hung H c t d msg s .hash) ≡ r)
       old o = (
         λ h b g p. trust-kept h b g (o .0 h b g p),
-        combined-peaks H Z N (hung H c t d msg s .held) (s .held) (λ h b g p. held-kept h b g (o .0 h b g p)) ∙ o .1,
+        combined-peaks H Z N (hung H c t d msg s .hash) (s .hash) (λ h b g p. held-kept h b g (o .0 h b g p)) ∙ o .1,
       )
 
       go : (onPath c t k a ≡ true) ⊎ (onPath c t k a ≡ false)
-          → ((h b : ℕ) → above h b ≡ b → isPeak N h b ≡ true → hung H c t d msg s .trust h b ≡ true) × (combined H Z N (hung H c t d msg s .held) ≡ r)
+          → ((h b : ℕ) → above h b ≡ b → isPeak N h b ≡ true → hung H c t d msg s .trust h b ≡ true) × (combined H Z N (hung H c t d msg s .hash) ≡ r)
       go (inl b) = old (S .top t (above t c) (above-aligned t c) inside reach)
       go (inr b) = let o : s .trust k a ≡ true = rw b at f in old (S .top k a e w o)
 
@@ -230,6 +230,6 @@ module _ (H : List ℕ → List ℕ) (Z : List ℕ) (N : ℕ) (r : List ℕ) (s 
     leaf = λ x l f. absurd (none zero x (above-zero x) (omega arith) (S .leaf x l f .0));
     top = λ k a e w f. (
       λ h b g p. rw p,
-      combined-peaks H Z N (adopted N msg s .held) msg (λ h b g p. rw p) ∙ root,
+      combined-peaks H Z N (adopted N msg s .hash) msg (λ h b g p. rw p) ∙ root,
     );
   }

@@ -4,6 +4,7 @@ pub mod RangeLaws
 pub mod NodeLaws
 pub mod KinLaws
 pub mod PackLaws
+pub mod ChunkLaws
 pub mod TreeLaws
 pub mod PeakLaws
 pub mod PeakTests
@@ -15,4 +16,5 @@ pub mod WalkLaws
 pub mod SentLaws
 pub mod StepLaws
 pub mod TrueLaws
+pub mod NeededLaws
 pub mod Tried

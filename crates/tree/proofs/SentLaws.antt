@@ -7,7 +7,7 @@ use Prim.Native.Nat.{ℕ, zero, suc, _+_, _/_, _^_, _≤_, _<_}
 use native.Mathlib.Nat.{mul-le-mul-right, le-div-iff-mul-le}
 use native.Mathlib.Omega.{arith}
 use native.Mathlib.Decide.{le-ind}
-use borrow.Author.Tests.{lt-ltb, le-ltb, le-leb, lt-leb, eq-eqb, ne-eqb}
+use borrow.Author.Tests.{lt-ltb, le-ltb, le-leb, lt-leb, eq-eqb, ne-eqb, leb-true}
 use lib.Dec.{leb, ltb}
 use lib.Pow.{pow-pos}
 use Rattle.tree.specs.Pick.{pick}
@@ -173,3 +173,45 @@ sent-is N c = go (split N c)
     go : (N ≤ c) ⊎ (c < N) → sent N c ≡ sentBelow N c (suc (levels N))
     go (inl l) = sent-outside N c l
     go (inr l) = sent-inside N c l
+
+-- ---- sorted, and each node once
+
+-- m comes after n: lower, or of the same height and further right
+abbrev pub Later : Node → Node → Type 0
+Later n m = (m .high < n .high) ⊎ ((m .high ≡ n .high) × (n .from < m .from))
+
+abbrev pub AllLater : Node → List Node → Type 0
+AllLater n [] = Unit {0}
+AllLater n (m ∷ ms) = Later n m × AllLater n ms
+
+-- each node comes before all behind it, so none is there twice
+abbrev pub Sorted : List Node → Type 0
+Sorted [] = Unit {0}
+Sorted (n ∷ ns) = AllLater n ns × Sorted ns
+
+below-later : (n : Node) (ns : List Node) → Below (n .high) ns → AllLater n ns
+below-later n [] b = tt
+below-later n (m ∷ ms) b = (inl (b .0), below-later n ms (b .1))
+
+sorted-below : (N c h : ℕ) → Sorted (sentBelow N c h)
+unfolding sentBelow
+sorted-below N c zero = tt
+sorted-below N c (suc h) = go (leb (above (suc h) c + 2 ^ suc h) N) refl (peakBit N h) (sorted-below N c h)
+  where
+    rest : List Node
+    rest = sentBelow N c h
+
+    low : (n : Node) → n .high ≡ h → AllLater n rest
+    low n e = below-later n rest (rw e (sent-below N c h))
+
+    go : (t : Bool) → leb (above (suc h) c + 2 ^ suc h) N ≡ t → (p : Bool) → Sorted rest
+        → Sorted (pick t (siblingAt c h ∷ []) [] ++ (pick p (peakAt N h ∷ []) [] ++ rest))
+    go true e true S =
+        let w = sibling-left N c h (leb-true (above (suc h) c + 2 ^ suc h) N e) in
+        ((inr (refl, w), low (siblingAt c h) refl), (low (peakAt N h) refl, S))
+    go true e false S = (low (siblingAt c h) refl, S)
+    go false e true S = (low (peakAt N h) refl, S)
+    go false e false S = S
+
+pub sent-sorted : (N c : ℕ) → Sorted (sent N c)
+sent-sorted N c = rw (sent-is N c) (sorted-below N c (suc (levels N)))

@@ -68,19 +68,19 @@ module _ (H : List ℕ → List ℕ) (Z : List ℕ) (N : ℕ) (r : List ℕ) (s 
       go zero e = ap (s .trust k) (above-left k x e) ∙ f
       go (suc y) e = S .pair k (above (suc k) x) (above-aligned (suc k) x) w ∙ ap (s .trust k) (above-right k x (omega arith)) ∙ f
 
-  trusted-up : (x : ℕ) → x < N → s .has x ≡ true → (k : ℕ) → above k x + 2 ^ k ≤ N → s .trust k (above k x) ≡ true
+  trusted-up : (x : ℕ) → x < N → s .inMap x ≡ true → (k : ℕ) → above k x + 2 ^ k ≤ N → s .trust k (above k x) ≡ true
   trusted-up x l f zero w = ap (s .trust zero) (above-zero x) ∙ S .leaf x l f .0
   trusted-up x l f (suc k) w =
       S .up k (above (suc k) x) (above-aligned (suc k) x) w (left-trusted x k w (trusted-up x l f k (whole-down N x k w))) .0
 
   -- both children of the node above x at height k + 1
-  kids-trusted : (x : ℕ) → x < N → s .has x ≡ true → (k : ℕ) → above (suc k) x + 2 ^ suc k ≤ N
+  kids-trusted : (x : ℕ) → x < N → s .inMap x ≡ true → (k : ℕ) → above (suc k) x + 2 ^ suc k ≤ N
       → (s .trust k (above (suc k) x) ≡ true) × (s .trust k (above (suc k) x + 2 ^ k) ≡ true)
   kids-trusted x l f k w =
       let t = left-trusted x k w (trusted-up x l f k (whole-down N x k w)) in
       (t, sym (S .pair k (above (suc k) x) (above-aligned (suc k) x) w) ∙ t)
 
-  pub sound-hangs : (x : ℕ) → x < N → s .has x ≡ true → Hangs H Z N r s x
+  pub sound-hangs : (x : ℕ) → x < N → s .inMap x ≡ true → Hangs H Z N r s x
   sound-hangs x l f =
       let t = S .top zero x (above-zero x) (omega arith) (S .leaf x l f .0) in
       record {
@@ -96,8 +96,8 @@ module _ (H : List ℕ → List ℕ) (Z : List ℕ) (N : ℕ) (r : List ℕ) (s 
 -- ---- a store sound at the nodes within 0..N-1 is sound, whatever it says elsewhere
 
 pub sound-agree : (H : List ℕ → List ℕ) (Z : List ℕ) (N : ℕ) (r : List ℕ) (s t : State)
-    → ((h a : ℕ) → above h a ≡ a → a + 2 ^ h ≤ N → (s .held h a ≡ t .held h a) × (s .trust h a ≡ t .trust h a))
-    → ((x : ℕ) → x < N → (s .has x ≡ t .has x) × (s .chunk x ≡ t .chunk x))
+    → ((h a : ℕ) → above h a ≡ a → a + 2 ^ h ≤ N → (s .hash h a ≡ t .hash h a) × (s .trust h a ≡ t .trust h a))
+    → ((x : ℕ) → x < N → (s .inMap x ≡ t .inMap x) × (s .chunk x ≡ t .chunk x))
     → Sound H Z N r s → Sound H Z N r t
 sound-agree H Z N r s t n c S = record {
   pair = λ k a e w.
@@ -115,7 +115,7 @@ sound-agree H Z N r s t n c S = record {
   top = λ k a e w f.
       let u = S .top k a e w (n k a e w .1 ∙ f) in (
         λ h b g p. sym (n h b g (inside h b p) .1) ∙ u .0 h b g p,
-        combined-peaks H Z N (t .held) (s .held) (λ h b g p. sym (n h b g (inside h b p) .0)) ∙ u .1,
+        combined-peaks H Z N (t .hash) (s .hash) (λ h b g p. sym (n h b g (inside h b p) .0)) ∙ u .1,
       );
 }
   where

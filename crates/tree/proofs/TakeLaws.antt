@@ -12,7 +12,7 @@ use Rattle.tree.specs.Pack.{levels}
 use Rattle.tree.specs.Peaks.{peaks, peakOf}
 use Rattle.tree.specs.Tree.{combined, climb}
 use Rattle.tree.specs.State.{State, adopted, hung, AllPeaks, Sound}
-use Rattle.tree.specs.Verdicts.{Message, got, every, reachFrom, opened, counted, reached, complete, rooted, met, verdict, afterBy, after}
+use Rattle.tree.specs.Verdicts.{Message, got, every, reachFrom, peaksTrusted, counted, reached, complete, rooted, met, verdict, afterBy, after}
 use Rattle.tree.specs.declared.verdict.Verdict.{Verdict}
 use Rattle.tree.specs.declared.verdict.Verdict.the-variants.{Fits, Missing, WrongPeaks, WrongClimb}
 use Rattle.tree.proofs.NodeLaws.{split, whole-below, above-aligned}
@@ -59,7 +59,7 @@ module _ (H : List ℕ → List ℕ) (Z : List ℕ) (N : ℕ) (r : List ℕ) (s 
       (omega arith) (omega (arith, high-bound N p (omega arith)))
 
   hang-sound : (d : List ℕ) (msg : ℕ → ℕ → List ℕ) (t : ℕ) → t ≡ reachFrom (λ h. s .trust h (above h c)) (suc (levels N)) 0
-      → climb H msg (H d) c t (above t c) ≡ s .held t (above t c) → Sound H Z N r (hung H c t d msg s)
+      → climb H msg (H d) c t (above t c) ≡ s .hash t (above t c) → Sound H Z N r (hung H c t d msg s)
   hang-sound d msg t e hit =
       let R = rw (← e) at reach in
       let k = peak-of N c l in
@@ -74,19 +74,19 @@ pub record FitsMeans (H : List ℕ → List ℕ) (Z : List ℕ) (N : ℕ) (r : L
   pub complete-is : complete H Z N r s c d m ≡ true
   pub rooted-is : rooted H Z N r s c d m ≡ true
   pub reached-is : t ≡ reachFrom (λ h. counted H Z N r s c d m .trust h (above h c)) (suc (levels N)) 0
-  pub met-is : climb H (got Z m) (H d) c t (above t c) ≡ counted H Z N r s c d m .held t (above t c)
+  pub met-is : climb H (got Z m) (H d) c t (above t c) ≡ counted H Z N r s c d m .hash t (above t c)
 
 pub fits-means : (H : List ℕ → List ℕ) (Z : List ℕ) (N : ℕ) (r : List ℕ) (s : State) (c : ℕ) (d : List ℕ) (m : Message) (t : ℕ) → verdict H Z N r s c d m ≡ Fits t
     → FitsMeans H Z N r s c d m t
 unfolding verdict met reached
 fits-means H Z N r s c d m t =
-    go (complete H Z N r s c d m) (rooted H Z N r s c d m) (same (climb H (got Z m) (H d) c u (above u c)) (counted H Z N r s c d m .held u (above u c))) u refl refl refl refl
+    go (complete H Z N r s c d m) (rooted H Z N r s c d m) (same (climb H (got Z m) (H d) c u (above u c)) (counted H Z N r s c d m .hash u (above u c))) u refl refl refl refl
   where
     u : ℕ
     u = reachFrom (λ h. counted H Z N r s c d m .trust h (above h c)) (suc (levels N)) 0
 
     go : (x y z : Bool) (h : ℕ) → complete H Z N r s c d m ≡ x → rooted H Z N r s c d m ≡ y
-        → same (climb H (got Z m) (H d) c u (above u c)) (counted H Z N r s c d m .held u (above u c)) ≡ z → u ≡ h
+        → same (climb H (got Z m) (H d) c u (above u c)) (counted H Z N r s c d m .hash u (above u c)) ≡ z → u ≡ h
         → pick x (pick y (pick z (Fits h) WrongClimb) WrongPeaks) Missing ≡ Fits t → FitsMeans H Z N r s c d m t
     go false y z h p q i k e = absurd (let w : _≡_ {A = ℕ} 0 1 = cc in omega arith)
     go true false z h p q i k e = absurd (let w : _≡_ {A = ℕ} 0 1 = cc in omega arith)
@@ -98,13 +98,13 @@ fits-means H Z N r s c d m t =
           complete-is = p;
           rooted-is = q;
           reached-is = sym g;
-          met-is = rw g at (same-is (climb H (got Z m) (H d) c u (above u c)) (counted H Z N r s c d m .held u (above u c)) i);
+          met-is = rw g at (same-is (climb H (got Z m) (H d) c u (above u c)) (counted H Z N r s c d m .hash u (above u c)) i);
         }
 
 module _ (H : List ℕ → List ℕ) (Z : List ℕ) (N : ℕ) (r : List ℕ) (s : State) (S : Sound H Z N r s) (c : ℕ) (l : c < N) (d : List ℕ) (m : Message) where
   counted-ok : rooted H Z N r s c d m ≡ true
       → Sound H Z N r (counted H Z N r s c d m) × AllPeaks N (counted H Z N r s c d m)
-  unfolding counted opened rooted
+  unfolding counted peaksTrusted rooted
   counted-ok e = go (every (λ n. s .trust (n .high) (n .from)) (peaks N)) refl e
     where
       go : (b : Bool) → every (λ n. s .trust (n .high) (n .from)) (peaks N) ≡ b → pick b true (same (combined H Z N (got Z m)) r) ≡ true
@@ -133,7 +133,7 @@ module _ (H : List ℕ → List ℕ) (Z : List ℕ) (N : ℕ) (r : List ℕ) (s 
       held-or-not false t e = fits-hung t e
 
       go : (v : Verdict) → verdict H Z N r s c d m ≡ v → Sound H Z N r (afterBy H Z N r s c d m v)
-      go (Fits t) e = held-or-not (s .has c) t e
+      go (Fits t) e = held-or-not (s .inMap c) t e
       go Missing e = S
       go WrongPeaks e = S
       go WrongClimb e = S

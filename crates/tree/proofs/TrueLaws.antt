@@ -14,10 +14,10 @@ use Rattle.tree.specs.Pack.{levels}
 use Rattle.tree.specs.Peaks.{peaks, peakOf, siblings}
 use Rattle.tree.specs.Tree.{tree, root, combined, joined, climb}
 use Rattle.tree.specs.State.{State, isPeak, adopted}
-use Rattle.tree.specs.Verdicts.{Message, isThere, orElse, got, every, opened, counted, reached, complete, rooted, met, verdict}
+use Rattle.tree.specs.Verdicts.{Message, isThere, orElse, got, every, peaksTrusted, counted, reached, complete, rooted, met, verdict}
 use Rattle.tree.specs.Steps.{peakBit, peakAt, siblingAt, peaksBelow}
 use Rattle.tree.specs.declared.verdict.Verdict.the-variants.{Fits}
-use Rattle.tree.proofs.NodeLaws.{down-above, whole-below, above-aligned, aligned-left, aligned-right}
+use Rattle.tree.proofs.NodeLaws.{down-above, whole-below, above-aligned}
 use Rattle.tree.proofs.PackLaws.{high-bound}
 use Rattle.tree.proofs.TreeLaws.{combined-root, climb-true}
 use Rattle.tree.proofs.PeakLaws.{peaks-bits}
@@ -27,7 +27,7 @@ use Rattle.tree.proofs.TakeLaws.{Reached, reach-finds}
 
 -- ---- tests of every peak and of every sibling
 
-every-peaks : (f : Node → Bool) (N k : ℕ) → ((h : ℕ) → N / 2 ^ h % 2 ≡ 1 → f (peakAt N h) ≡ true) → every f (peaksBelow N k) ≡ true
+pub every-peaks : (f : Node → Bool) (N k : ℕ) → ((h : ℕ) → N / 2 ^ h % 2 ≡ 1 → f (peakAt N h) ≡ true) → every f (peaksBelow N k) ≡ true
 unfolding every peaksBelow
 every-peaks f N zero p = refl
 every-peaks f N (suc k) p = go (peakBit N k) refl (every-peaks f N k p)
@@ -36,24 +36,13 @@ every-peaks f N (suc k) p = go (peakBit N k) refl (every-peaks f N k p)
     go true e ih = rw (p k (eqb-true (N / 2 ^ k % 2) 1 e)) ih
     go false e ih = ih
 
-every-siblings : (f : Node → Bool) (c t : ℕ) → ((h : ℕ) → h < t → f (siblingAt c h) ≡ true) → every f (siblings c t (above t c)) ≡ true
+pub every-siblings : (f : Node → Bool) (c t : ℕ) → ((h : ℕ) → h < t → f (siblingAt c h) ≡ true) → every f (siblings c t (above t c)) ≡ true
 unfolding every siblings
 every-siblings f c zero p = refl
 every-siblings f c (suc t) p = rw (p t (omega arith), down-above t c) (every-siblings f c t (λ h l. p h (omega arith)))
 
--- a sibling below a node within 0..N-1 lies within it, too
-sibling-inside : (N c h : ℕ) → above (suc h) c + 2 ^ suc h ≤ N
-    → (above h (other c h (above (suc h) c)) ≡ other c h (above (suc h) c)) × (other c h (above (suc h) c) + 2 ^ h ≤ N)
-sibling-inside N c h w = go (ltb c (above (suc h) c + 2 ^ h))
-  where
-    go : (b : Bool)
-        → (above h (pick b (above (suc h) c + 2 ^ h) (above (suc h) c)) ≡ pick b (above (suc h) c + 2 ^ h) (above (suc h) c))
-        × (pick b (above (suc h) c + 2 ^ h) (above (suc h) c) + 2 ^ h ≤ N)
-    go true = (aligned-right h (above (suc h) c) (above-aligned (suc h) c), omega arith)
-    go false = (aligned-left h (above (suc h) c) (above-aligned (suc h) c), omega arith)
-
 -- the climb looks at the siblings on its way alone
-climb-agree : (H : List ℕ → List ℕ) (x y : ℕ → ℕ → List ℕ) (v : List ℕ) (c t : ℕ)
+pub climb-agree : (H : List ℕ → List ℕ) (x y : ℕ → ℕ → List ℕ) (v : List ℕ) (c t : ℕ)
     → ((h : ℕ) → h < t → x h (other c h (above (suc h) c)) ≡ y h (other c h (above (suc h) c)))
     → climb H x v c t (above t c) ≡ climb H y v c t (above t c)
 unfolding climb
@@ -67,13 +56,15 @@ climb-agree H x y v c (suc t) e =
 module _ (H : List ℕ → List ℕ) (Z : List ℕ) (N : ℕ) (chunk : ℕ → List ℕ) where
   -- every trusted node within 0..N-1 holds its true hash
   abbrev pub HoldsTrue : State → Type 0
-  HoldsTrue s = (h a : ℕ) → above h a ≡ a → a + 2 ^ h ≤ N → s .trust h a ≡ true → s .held h a ≡ tree H Z N chunk h a
+  HoldsTrue s = (h a : ℕ) → above h a ≡ a → a + 2 ^ h ≤ N → s .trust h a ≡ true → s .hash h a ≡ tree H Z N chunk h a
 
-  -- the true hash of every node within 0..N-1 came
-  abbrev pub BringsTrue : Message → Type 0
-  BringsTrue m = (h a : ℕ) → above h a ≡ a → a + 2 ^ h ≤ N → m h a ≡ some (tree H Z N chunk h a)
+  -- the true hashes of all peaks and of the siblings below chunk c's peak came: what goes out with the chunk
+  pub record BringsTrue (c : ℕ) (m : Message) : Type 0 where
+    pub at-peaks : (h a : ℕ) → above h a ≡ a → isPeak N h a ≡ true → m h a ≡ some (tree H Z N chunk h a)
+    pub at-siblings : (h : ℕ) → above (suc h) c + 2 ^ suc h ≤ N
+        → m h (other c h (above (suc h) c)) ≡ some (tree H Z N chunk h (other c h (above (suc h) c)))
 
-  module _ (s : State) (T : HoldsTrue s) (c : ℕ) (l : c < N) (m : Message) (B : BringsTrue m) where
+  module _ (s : State) (T : HoldsTrue s) (c : ℕ) (l : c < N) (m : Message) (B : BringsTrue c m) where
     abbrev r : List ℕ
     r = root H Z N chunk
 
@@ -83,24 +74,24 @@ module _ (H : List ℕ → List ℕ) (Z : List ℕ) (N : ℕ) (chunk : ℕ → L
     peak-in : (h b : ℕ) → isPeak N h b ≡ true → b + 2 ^ h ≤ N
     peak-in h b p = leb-true (b + 2 ^ h) N (both-true (leb (b + 2 ^ h) N) (ltb N (above (suc h) b + 2 ^ suc h)) p .0)
 
-    got-true : (h a : ℕ) → above h a ≡ a → a + 2 ^ h ≤ N → got Z m h a ≡ tree H Z N chunk h a
-    got-true h a e i = ap (orElse Z) (B h a e i)
+    peak-true : (h a : ℕ) → above h a ≡ a → isPeak N h a ≡ true → got Z m h a ≡ tree H Z N chunk h a
+    peak-true h a e p = ap (orElse Z) (B .at-peaks h a e p)
 
-    there-true : (h a : ℕ) → above h a ≡ a → a + 2 ^ h ≤ N → isThere (m h a) ≡ true
-    there-true h a e i = ap isThere (B h a e i)
+    sibling-true : (h : ℕ) → above (suc h) c + 2 ^ suc h ≤ N → got Z m h (other c h (above (suc h) c)) ≡ tree H Z N chunk h (other c h (above (suc h) c))
+    sibling-true h w = ap (orElse Z) (B .at-siblings h w)
 
     peaks-there : every (λ n. isThere (m (n .high) (n .from))) (peaks N) ≡ true
     peaks-there =
         rw peaks-bits
         (every-peaks (λ n. isThere (m (n .high) (n .from))) N (suc (levels N))
-        (λ h b. let p = bit-peak N h b in there-true h (above (suc h) N) (p .0) (peak-in h (above (suc h) N) (p .1))))
+        (λ h b. let p = bit-peak N h b in ap isThere (B .at-peaks h (above (suc h) N) (p .0) (p .1))))
 
     roots : rooted H Z N r s c d m ≡ true
     unfolding rooted
-    roots = go (opened H Z N r s c d m)
+    roots = go (peaksTrusted H Z N r s c d m)
       where
         gives : combined H Z N (got Z m) ≡ r
-        gives = combined-peaks H Z N (got Z m) (tree H Z N chunk) (λ h b e p. got-true h b e (peak-in h b p)) ∙ combined-root H Z N chunk
+        gives = combined-peaks H Z N (got Z m) (tree H Z N chunk) peak-true ∙ combined-root H Z N chunk
 
         go : (b : Bool) → pick b true (same (combined H Z N (got Z m)) r) ≡ true
         go true = refl
@@ -109,21 +100,21 @@ module _ (H : List ℕ → List ℕ) (Z : List ℕ) (N : ℕ) (chunk : ℕ → L
     -- with the peaks that came, every trusted node still holds its true hash, and the chunk's peak is trusted
     counted-true : HoldsTrue (counted H Z N r s c d m)
     unfolding counted
-    counted-true = go (opened H Z N r s c d m)
+    counted-true = go (peaksTrusted H Z N r s c d m)
       where
         adopted-true : HoldsTrue (adopted N (got Z m) s)
-        adopted-true h a e i f = at (isPeak N h a) f
+        adopted-true h a e i f = at (isPeak N h a) refl f
           where
-            at : (b : Bool) → pick b true (s .trust h a) ≡ true → pick b (got Z m h a) (s .held h a) ≡ tree H Z N chunk h a
-            at true f = got-true h a e i
-            at false f = T h a e i f
+            at : (b : Bool) → isPeak N h a ≡ b → pick b true (s .trust h a) ≡ true → pick b (got Z m h a) (s .hash h a) ≡ tree H Z N chunk h a
+            at true p f = peak-true h a e p
+            at false p f = T h a e i f
 
         go : (b : Bool) → HoldsTrue (pick b s (adopted N (got Z m) s))
         go true = T
         go false = adopted-true
 
     peak-trusted : counted H Z N r s c d m .trust (peakOf N c .high) (above (peakOf N c .high) c) ≡ true
-    unfolding counted opened
+    unfolding counted peaksTrusted
     peak-trusted = go (every (λ n. s .trust (n .high) (n .from)) (peaks N)) refl
       where
         go : (b : Bool) → every (λ n. s .trust (n .high) (n .from)) (peaks N) ≡ b
@@ -143,16 +134,15 @@ module _ (H : List ℕ → List ℕ) (Z : List ℕ) (N : ℕ) (chunk : ℕ → L
         let p = peakOf N c .high in
         whole-below N c (reached H Z N r s c d m) p (reach .within .1) (peak-in p (above p c) (peak-test N c l))
 
-    beside : (h : ℕ) → h < reached H Z N r s c d m
-        → (above h (other c h (above (suc h) c)) ≡ other c h (above (suc h) c)) × (other c h (above (suc h) c) + 2 ^ h ≤ N)
-    beside h u = sibling-inside N c h (whole-below N c (suc h) (reached H Z N r s c d m) u inside)
+    beside : (h : ℕ) → h < reached H Z N r s c d m → above (suc h) c + 2 ^ suc h ≤ N
+    beside h u = whole-below N c (suc h) (reached H Z N r s c d m) u inside
 
     completes : complete H Z N r s c d m ≡ true
     unfolding complete
     completes =
-        both (pick (opened H Z N r s c d m) true (every (λ n. isThere (m (n .high) (n .from))) (peaks N))) (every (λ n. isThere (m (n .high) (n .from))) (siblings c (reached H Z N r s c d m) (above (reached H Z N r s c d m) c)))
-        (go (opened H Z N r s c d m))
-        (every-siblings (λ n. isThere (m (n .high) (n .from))) c (reached H Z N r s c d m) (λ h u. let i = beside h u in there-true h (other c h (above (suc h) c)) (i .0) (i .1)))
+        both (pick (peaksTrusted H Z N r s c d m) true (every (λ n. isThere (m (n .high) (n .from))) (peaks N))) (every (λ n. isThere (m (n .high) (n .from))) (siblings c (reached H Z N r s c d m) (above (reached H Z N r s c d m) c)))
+        (go (peaksTrusted H Z N r s c d m))
+        (every-siblings (λ n. isThere (m (n .high) (n .from))) c (reached H Z N r s c d m) (λ h u. ap isThere (B .at-siblings h (beside h u))))
       where
         both : (x y : Bool) → x ≡ true → y ≡ true → pick x y false ≡ true
         both x y e f = rw (e, f)
@@ -166,8 +156,8 @@ module _ (H : List ℕ → List ℕ) (Z : List ℕ) (N : ℕ) (chunk : ℕ → L
     meets =
         let t = reached H Z N r s c d m in
         let climbs : climb H (got Z m) (H d) c t (above t c) ≡ tree H Z N chunk t (above t c) =
-        climb-agree H (got Z m) (tree H Z N chunk) (H d) c t (λ h u. let i = beside h u in got-true h (other c h (above (suc h) c)) (i .0) (i .1)) ∙ climb-true H Z N chunk c t l in
-        let holds : counted H Z N r s c d m .held t (above t c) ≡ tree H Z N chunk t (above t c) = counted-true t (above t c) (above-aligned t c) inside (reach .passes) in
+        climb-agree H (got Z m) (tree H Z N chunk) (H d) c t (λ h u. sibling-true h (beside h u)) ∙ climb-true H Z N chunk c t l in
+        let holds : counted H Z N r s c d m .hash t (above t c) ≡ tree H Z N chunk t (above t c) = counted-true t (above t c) (above-aligned t c) inside (reach .passes) in
         ap₂ same climbs holds ∙ same-refl (tree H Z N chunk t (above t c))
 
     -- The verdict on a true chunk with true hashes: it fits.

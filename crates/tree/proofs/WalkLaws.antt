@@ -15,7 +15,7 @@ use Rattle.tree.specs.Node.{Node, node, down, above}
 use Rattle.tree.specs.Pack.{levels}
 use Rattle.tree.specs.Tree.{given, combined}
 use Rattle.tree.specs.State.{State}
-use Rattle.tree.specs.Walk.{Hangs, string, walkFrom, walk, names, Clash, lowest, Compared, equal, clashing}
+use Rattle.tree.specs.Walk.{Hangs, string, walkFrom, walk, names, Collision, lowest, Compared, equal, colliding}
 use Rattle.tree.proofs.NodeLaws.{split, above-in, down-above, above-top, above-zero}
 use Rattle.tree.proofs.PackLaws.{levels-holds}
 use Rattle.tree.proofs.TreeLaws.{given-empty, given-whole, given-mixed}
@@ -46,22 +46,22 @@ module _ (H : List ℕ → List ℕ) (Z : List ℕ) (N W : ℕ) (zlen : length Z
       go (inr e) (inr w) = rw (given-mixed H Z N held h a e w) (hlen _)
 
 module _ (H : List ℕ → List ℕ) (Z : List ℕ) (N : ℕ) (r : List ℕ) where
-  pub given-string : (s : State) (c h : ℕ) → c < N → Hangs H Z N r s c → given H Z N (s .held) h (above h c) ≡ H (string H Z N s h (above h c))
+  pub given-string : (s : State) (c h : ℕ) → c < N → Hangs H Z N r s c → given H Z N (s .hash) h (above h c) ≡ H (string H Z N s h (above h c))
   unfolding string
   given-string s c zero l g =
-      rw above-zero (given-whole H Z N (s .held) zero c (omega arith) ∙ g .leaf)
+      rw above-zero (given-whole H Z N (s .hash) zero c (omega arith) ∙ g .leaf)
   given-string s c (suc h) l g = go (split (above (suc h) c + 2 ^ suc h) N)
     where
       go : (above (suc h) c + 2 ^ suc h ≤ N) ⊎ (N < above (suc h) c + 2 ^ suc h)
-          → given H Z N (s .held) (suc h) (above (suc h) c)
-          ≡ H (given H Z N (s .held) h (above (suc h) c) ++ given H Z N (s .held) h (above (suc h) c + 2 ^ h))
+          → given H Z N (s .hash) (suc h) (above (suc h) c)
+          ≡ H (given H Z N (s .hash) h (above (suc h) c) ++ given H Z N (s .hash) h (above (suc h) c + 2 ^ h))
       go (inl w) =
-          given-whole H Z N (s .held) (suc h) (above (suc h) c) w
+          given-whole H Z N (s .hash) (suc h) (above (suc h) c) w
           ∙ g .up h w
           ∙ ap₂ (λ (x y : List ℕ). H (x ++ y))
-          (sym (given-whole H Z N (s .held) h (above (suc h) c) (omega arith)))
-          (sym (given-whole H Z N (s .held) h (above (suc h) c + 2 ^ h) (omega arith)))
-      go (inr w) = given-mixed H Z N (s .held) h (above (suc h) c) (omega (arith, above-in (suc h) c)) w
+          (sym (given-whole H Z N (s .hash) h (above (suc h) c) (omega arith)))
+          (sym (given-whole H Z N (s .hash) h (above (suc h) c + 2 ^ h) (omega arith)))
+      go (inr w) = given-mixed H Z N (s .hash) h (above (suc h) c) (omega (arith, above-in (suc h) c)) w
 
 -- ---- the walk goes on where the strings are the same, and stops where they differ
 
@@ -82,26 +82,26 @@ module _ (H : List ℕ → List ℕ) (Z : List ℕ) (N : ℕ) (s t : State) (c a
 record Meets (H : List ℕ → List ℕ) (Z : List ℕ) (N : ℕ) (s t : State) (c : ℕ) (n : Node) : Type 0 where
   on-way : n .from ≡ above (n .high) c
   differ : string H Z N s (n .high) (n .from) ≢ string H Z N t (n .high) (n .from)
-  left : given H Z N (s .held) (n .high) (n .from) ≡ H (string H Z N s (n .high) (n .from))
-  right : given H Z N (t .held) (n .high) (n .from) ≡ H (string H Z N t (n .high) (n .from))
+  left : given H Z N (s .hash) (n .high) (n .from) ≡ H (string H Z N s (n .high) (n .from))
+  right : given H Z N (t .hash) (n .high) (n .from) ≡ H (string H Z N t (n .high) (n .from))
   agree : H (string H Z N s (n .high) (n .from)) ≡ H (string H Z N t (n .high) (n .from))
   within : n .high ≤ levels N
 
 module _ (H : List ℕ → List ℕ) (Z : List ℕ) (N W : ℕ) (zlen : length Z ≡ W) (hlen : (x : List ℕ) → length (H x) ≡ W)
-    (r : List ℕ) (s t : State) (slen : (h a : ℕ) → length (s .held h a) ≡ W) (tlen : (h a : ℕ) → length (t .held h a) ≡ W)
+    (r : List ℕ) (s t : State) (slen : (h a : ℕ) → length (s .hash h a) ≡ W) (tlen : (h a : ℕ) → length (t .hash h a) ≡ W)
     (c : ℕ) (l : c < N) (gs : Hangs H Z N r s c) (gt : Hangs H Z N r t c) (d : s .chunk c ≢ t .chunk c) where
   -- equal strings are made of equal hashes
   parts : (h a : ℕ) → string H Z N s (suc h) a ≡ string H Z N t (suc h) a
-      → (given H Z N (s .held) h a ≡ given H Z N (t .held) h a) × (given H Z N (s .held) h (a + 2 ^ h) ≡ given H Z N (t .held) h (a + 2 ^ h))
+      → (given H Z N (s .hash) h a ≡ given H Z N (t .hash) h a) × (given H Z N (s .hash) h (a + 2 ^ h) ≡ given H Z N (t .hash) h (a + 2 ^ h))
   unfolding string
   parts h a e =
-      append-parts W _ _ _ _ (given-length H Z N W zlen hlen (s .held) slen h a) (given-length H Z N W zlen hlen (t .held) tlen h a) e
+      append-parts W _ _ _ _ (given-length H Z N W zlen hlen (s .hash) slen h a) (given-length H Z N W zlen hlen (t .hash) tlen h a) e
 
-  at-down : (h a : ℕ) → (given H Z N (s .held) h a ≡ given H Z N (t .held) h a) × (given H Z N (s .held) h (a + 2 ^ h) ≡ given H Z N (t .held) h (a + 2 ^ h))
-      → given H Z N (s .held) h (down c h a) ≡ given H Z N (t .held) h (down c h a)
+  at-down : (h a : ℕ) → (given H Z N (s .hash) h a ≡ given H Z N (t .hash) h a) × (given H Z N (s .hash) h (a + 2 ^ h) ≡ given H Z N (t .hash) h (a + 2 ^ h))
+      → given H Z N (s .hash) h (down c h a) ≡ given H Z N (t .hash) h (down c h a)
   at-down h a p = go (ltb c (a + 2 ^ h))
     where
-      go : (b : Bool) → given H Z N (s .held) h (pick b a (a + 2 ^ h)) ≡ given H Z N (t .held) h (pick b a (a + 2 ^ h))
+      go : (b : Bool) → given H Z N (s .hash) h (pick b a (a + 2 ^ h)) ≡ given H Z N (t .hash) h (pick b a (a + 2 ^ h))
       go true = p .0
       go false = p .1
 
@@ -109,7 +109,7 @@ module _ (H : List ℕ → List ℕ) (Z : List ℕ) (N W : ℕ) (zlen : length Z
   unfolding string
   leaf-string u = ap (u .chunk) (above-zero c)
 
-  meets-from : (h : ℕ) → h ≤ levels N → given H Z N (s .held) h (above h c) ≡ given H Z N (t .held) h (above h c)
+  meets-from : (h : ℕ) → h ≤ levels N → given H Z N (s .hash) h (above h c) ≡ given H Z N (t .hash) h (above h c)
       → Meets H Z N s t c (walkFrom H Z N s t c h (above h c))
   meets-from zero w e =
       rw (walk-leaf H Z N s t c (above zero c))
@@ -130,7 +130,7 @@ module _ (H : List ℕ → List ℕ) (Z : List ℕ) (N W : ℕ) (zlen : length Z
       T = string H Z N t (suc h) (above (suc h) c)
 
       go : (b : Bool) → same S T ≡ b
-          → (given H Z N (s .held) h (above h c) ≡ given H Z N (t .held) h (above h c) → Meets H Z N s t c (walkFrom H Z N s t c h (above h c)))
+          → (given H Z N (s .hash) h (above h c) ≡ given H Z N (t .hash) h (above h c) → Meets H Z N s t c (walkFrom H Z N s t c h (above h c)))
           → Meets H Z N s t c (walkFrom H Z N s t c (suc h) (above (suc h) c))
       go true f ih =
           rw (walk-on H Z N s t c (above (suc h) c) h f, down-above h c)
@@ -182,9 +182,9 @@ module _ (H : List ℕ → List ℕ) (Z : List ℕ) (N : ℕ) (s t : State) (c :
       rw z at (first-from (levels N) k)
 
 module _ (H : List ℕ → List ℕ) (Z : List ℕ) (N W : ℕ) (zlen : length Z ≡ W) (hlen : (x : List ℕ) → length (H x) ≡ W)
-    (r : List ℕ) (s t : State) (slen : (h a : ℕ) → length (s .held h a) ≡ W) (tlen : (h a : ℕ) → length (t .held h a) ≡ W)
+    (r : List ℕ) (s t : State) (slen : (h a : ℕ) → length (s .hash h a) ≡ W) (tlen : (h a : ℕ) → length (t .hash h a) ≡ W)
     (c : ℕ) (l : c < N) (gs : Hangs H Z N r s c) (gt : Hangs H Z N r t c) (d : s .chunk c ≢ t .chunk c) where
-  pub clash : Clash H Z N s t c
+  pub clash : Collision H Z N s t c
   unfolding names
   clash =
       let m = meets H Z N W zlen hlen r s t slen tlen c l gs gt d in
@@ -239,7 +239,7 @@ lowest-says s t (suc d) i = go (same (s .chunk i) (t .chunk i)) refl (lowest s t
 
 -- Two stores under one root in which every chunk hangs.
 pub compare : (H : List ℕ → List ℕ) (Z : List ℕ) (N W : ℕ) → length Z ≡ W → ((x : List ℕ) → length (H x) ≡ W)
-    → (r : List ℕ) (s t : State) → ((h a : ℕ) → length (s .held h a) ≡ W) → ((h a : ℕ) → length (t .held h a) ≡ W)
+    → (r : List ℕ) (s t : State) → ((h a : ℕ) → length (s .hash h a) ≡ W) → ((h a : ℕ) → length (t .hash h a) ≡ W)
     → ((c : ℕ) → c < N → Hangs H Z N r s c) → ((c : ℕ) → c < N → Hangs H Z N r t c) → Compared H Z N s t
 compare H Z N W zlen hlen r s t slen tlen gs gt = go (lowest s t N 0) refl (lowest-says s t N 0)
   where
@@ -247,5 +247,5 @@ compare H Z N W zlen hlen r s t slen tlen gs gt = go (lowest s t N 0) refl (lowe
     go none e g = equal (λ k l. g k (omega arith) (omega arith))
     go (some c) e g =
         let l : c < N = omega (arith, g .in-range) in
-        clashing c (record { found = e; in-pack = l; below = λ k u. g .under k (omega arith) u; differs = g .unlike })
+        colliding c (record { found = e; in-pack = l; below = λ k u. g .under k (omega arith) u; differs = g .unlike })
         (clash H Z N W zlen hlen r s t slen tlen c l (gs c l) (gt c l) (g .unlike))

@@ -1,7 +1,9 @@
 -- A pack of L bytes in chunks of S, and the least tree over its N chunks (01, "What a store works under" and "Nodes and
--- the tree"). The sizes and limits of the yard profile stand here alone. Assumes nothing.
+-- the tree"). The yard profile's chunk size and length limit stand here alone. Assumes nothing.
 use Prim.Native.Nat.{ℕ, zero, suc, _+_, _-_, _*_, _/_, _^_, min}
+use mathlib.Core.List.{List}
 use lib.Dec.{leb}
+use lib.ListN.{take, drop}
 use Rattle.tree.specs.Bin.{bin}
 use Rattle.tree.specs.Pick.{pick}
 
@@ -19,6 +21,10 @@ chunks S L = (L + (S - 1)) / S
 -- The size of chunk i: 0 past the end.
 abbrev pub size : ℕ → ℕ → ℕ → ℕ
 size S L i = min S (L - S * i)
+
+-- The bytes of chunk i of a pack s.
+abbrev pub part : ℕ → ℕ → List ℕ → ℕ → List ℕ
+part S L s i = take (size S L i) (drop (S * i) s)
 
 -- The height of the least tree with at least N leaves, found among the heights up to d.
 unfoldable pub least : ℕ → ℕ → ℕ

@@ -12,9 +12,9 @@ use Rattle.tree.specs.Tree.{tree, combined, climb}
 
 -- The hash of each node and whether it is trusted; whether each chunk is in the map, and its bytes.
 pub record State : Type 0 where
-  pub held : ℕ → ℕ → List ℕ
+  pub hash : ℕ → ℕ → List ℕ
   pub trust : ℕ → ℕ → Bool
-  pub has : ℕ → Bool
+  pub inMap : ℕ → Bool
   pub chunk : ℕ → List ℕ
 
 -- (h, a) is the root.
@@ -32,27 +32,27 @@ onPath c t h a = pick (ltb h t) (eqb (above (suc h) a) (above (suc h) c)) false
 -- Started in rooms with any contents: the root alone is trusted, and holds the order's hash.
 abbrev pub started : ℕ → List ℕ → (ℕ → ℕ → List ℕ) → (ℕ → List ℕ) → State
 started N r hashes bytes = record {
-  held = λ h a. pick (isRoot N h a) r (hashes h a);
+  hash = λ h a. pick (isRoot N h a) r (hashes h a);
   trust = λ h a. isRoot N h a;
-  has = λ x. false;
+  inMap = λ x. false;
   chunk = bytes;
 }
 
 -- Built from all chunks: the root and the nodes within 0..N-1 are trusted.
 abbrev pub built : (List ℕ → List ℕ) → List ℕ → ℕ → (ℕ → List ℕ) → State
 built H Z N chunk = record {
-  held = tree H Z N chunk;
+  hash = tree H Z N chunk;
   trust = λ h a. pick (leb (a + 2 ^ h) N) true (isRoot N h a);
-  has = λ x. ltb x N;
+  inMap = λ x. ltb x N;
   chunk = chunk;
 }
 
 -- The peaks that came count as trusted.
 abbrev pub adopted : ℕ → (ℕ → ℕ → List ℕ) → State → State
 adopted N came s = record {
-  held = λ h a. pick (isPeak N h a) (came h a) (s .held h a);
+  hash = λ h a. pick (isPeak N h a) (came h a) (s .hash h a);
   trust = λ h a. pick (isPeak N h a) true (s .trust h a);
-  has = s .has;
+  inMap = s .inMap;
   chunk = s .chunk;
 }
 
@@ -60,9 +60,9 @@ adopted N came s = record {
 -- written and become trusted.
 abbrev pub hung : (List ℕ → List ℕ) → ℕ → ℕ → List ℕ → (ℕ → ℕ → List ℕ) → State → State
 hung H c t d came s = record {
-  held = λ h a. pick (onPath c t h a) (pick (eqb a (above h c)) (climb H came (H d) c h (above h c)) (came h a)) (s .held h a);
+  hash = λ h a. pick (onPath c t h a) (pick (eqb a (above h c)) (climb H came (H d) c h (above h c)) (came h a)) (s .hash h a);
   trust = λ h a. pick (onPath c t h a) true (s .trust h a);
-  has = λ x. pick (eqb x c) true (s .has x);
+  inMap = λ x. pick (eqb x c) true (s .inMap x);
   chunk = λ x. pick (eqb x c) d (s .chunk x);
 }
 
@@ -76,8 +76,8 @@ pub record Sound (H : List ℕ → List ℕ) (Z : List ℕ) (N : ℕ) (r : List 
   pub pair : (k a : ℕ) → above (suc k) a ≡ a → a + 2 ^ suc k ≤ N → s .trust k a ≡ s .trust k (a + 2 ^ k)
   -- Their parent is trusted with them, and holds their hash.
   pub up : (k a : ℕ) → above (suc k) a ≡ a → a + 2 ^ suc k ≤ N → s .trust k a ≡ true
-      → (s .trust (suc k) a ≡ true) × (s .held (suc k) a ≡ H (s .held k a ++ s .held k (a + 2 ^ k)))
+      → (s .trust (suc k) a ≡ true) × (s .hash (suc k) a ≡ H (s .hash k a ++ s .hash k (a + 2 ^ k)))
   -- A chunk in the map is its trusted leaf's.
-  pub leaf : (x : ℕ) → x < N → s .has x ≡ true → (s .trust zero x ≡ true) × (s .held zero x ≡ H (s .chunk x))
+  pub leaf : (x : ℕ) → x < N → s .inMap x ≡ true → (s .trust zero x ≡ true) × (s .hash zero x ≡ H (s .chunk x))
   -- Where a node within 0..N-1 is trusted, the peaks are, and give the root.
-  pub top : (k a : ℕ) → above k a ≡ a → a + 2 ^ k ≤ N → s .trust k a ≡ true → AllPeaks N s × (combined H Z N (s .held) ≡ r)
+  pub top : (k a : ℕ) → above k a ≡ a → a + 2 ^ k ≤ N → s .trust k a ≡ true → AllPeaks N s × (combined H Z N (s .hash) ≡ r)

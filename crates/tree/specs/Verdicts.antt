@@ -41,12 +41,12 @@ reachFrom f (suc d) h = pick (f h) h (reachFrom f d (suc h))
 
 module _ (H : List ℕ → List ℕ) (Z : List ℕ) (N : ℕ) (r : List ℕ) (s : State) (c : ℕ) (d : List ℕ) (m : Message) where
   -- The peaks are trusted already.
-  unfoldable pub opened : Bool
-  opened = every (λ n. s .trust (n .high) (n .from)) (peaks N)
+  unfoldable pub peaksTrusted : Bool
+  peaksTrusted = every (λ n. s .trust (n .high) (n .from)) (peaks N)
 
   -- For the climb, peaks that came count as trusted where they aren't yet.
   unfoldable pub counted : State
-  counted = pick opened s (adopted N (got Z m) s)
+  counted = pick peaksTrusted s (adopted N (got Z m) s)
 
   -- The height of the first trusted node at or above the leaf.
   unfoldable pub reached : ℕ
@@ -55,17 +55,17 @@ module _ (H : List ℕ → List ℕ) (Z : List ℕ) (N : ℕ) (r : List ℕ) (s 
   -- Each hash that is needed came: the peaks if they aren't trusted yet, and the sibling at each step below that node.
   unfoldable pub complete : Bool
   complete =
-      pick (pick opened true (every (λ n. isThere (m (n .high) (n .from))) (peaks N)))
+      pick (pick peaksTrusted true (every (λ n. isThere (m (n .high) (n .from))) (peaks N)))
       (every (λ n. isThere (m (n .high) (n .from))) (siblings c reached (above reached c)))
       false
 
   -- The peaks combine, with fillers, to the root.
   unfoldable pub rooted : Bool
-  rooted = pick opened true (same (combined H Z N (got Z m)) r)
+  rooted = pick peaksTrusted true (same (combined H Z N (got Z m)) r)
 
   -- The climb gives that node's hash.
   unfoldable pub met : Bool
-  met = same (climb H (got Z m) (H d) c reached (above reached c)) (counted .held reached (above reached c))
+  met = same (climb H (got Z m) (H d) c reached (above reached c)) (counted .hash reached (above reached c))
 
   -- Every needed hash must be there before any value is judged.
   unfoldable pub verdict : Verdict
@@ -73,7 +73,7 @@ module _ (H : List ℕ → List ℕ) (Z : List ℕ) (N : ℕ) (r : List ℕ) (s 
 
   -- The store afterwards: a chunk that fits is hung, one that is already held changes nothing, and so does any other verdict.
   abbrev pub afterBy : Verdict → State
-  afterBy (Fits t) = pick (s .has c) s (hung H c t d (got Z m) counted)
+  afterBy (Fits t) = pick (s .inMap c) s (hung H c t d (got Z m) counted)
   afterBy Missing = s
   afterBy WrongPeaks = s
   afterBy WrongClimb = s

@@ -23,23 +23,23 @@ module _ (H : List ℕ → List ℕ) (Z : List ℕ) (N : ℕ) where
     -- all peaks are held
     pub peaks-held : AllPeaks N s
     -- and combine, with fillers, to the root,
-    pub top : combined H Z N (s .held) ≡ r
+    pub top : combined H Z N (s .hash) ≡ r
     -- its hash is its held leaf's,
     pub leaf-held : s .trust zero c ≡ true
-    pub leaf : s .held zero c ≡ H (s .chunk c)
+    pub leaf : s .hash zero c ≡ H (s .chunk c)
     -- and each node above that up to its peak is held
     pub up-held : (k : ℕ) → above (suc k) c + 2 ^ suc k ≤ N → s .trust (suc k) (above (suc k) c) ≡ true
     -- and the hash of its two held children.
     pub kids-held : (k : ℕ) → above (suc k) c + 2 ^ suc k ≤ N
         → (s .trust k (above (suc k) c) ≡ true) × (s .trust k (above (suc k) c + 2 ^ k) ≡ true)
     pub up : (k : ℕ) → above (suc k) c + 2 ^ suc k ≤ N
-        → s .held (suc k) (above (suc k) c) ≡ H (s .held k (above (suc k) c) ++ s .held k (above (suc k) c + 2 ^ k))
+        → s .hash (suc k) (above (suc k) c) ≡ H (s .hash k (above (suc k) c) ++ s .hash k (above (suc k) c + 2 ^ k))
 
   -- A node's string is its two children's hashes, left then right, at a leaf the chunk; hashes above the peaks are what
   -- held peaks and fillers give.
   unfoldable pub string : State → ℕ → ℕ → List ℕ
   string s zero a = s .chunk a
-  string s (suc h) a = given H Z N (s .held) h a ++ given H Z N (s .held) h (a + 2 ^ h)
+  string s (suc h) a = given H Z N (s .hash) h a ++ given H Z N (s .hash) h (a + 2 ^ h)
 
   -- From (h, a) down to chunk c, the first node where the strings differ.
   unfoldable pub walkFrom : State → State → ℕ → ℕ → ℕ → Node
@@ -59,12 +59,12 @@ module _ (H : List ℕ → List ℕ) (Z : List ℕ) (N : ℕ) where
 
   -- Two different strings with one hash, hashed at one place of both trees: where the walk to chunk c ends. At every node
   -- above it on the way the strings are the same.
-  pub record Clash (s t : State) (c : ℕ) : Type 0 where
+  pub record Collision (s t : State) (c : ℕ) : Type 0 where
     pub on-way : walk s t c .from ≡ above (walk s t c .high) c
     pub in-tree : walk s t c .high ≤ levels N
     pub differ : names s t c .here ≢ names s t c .there
-    pub hashed-here : given H Z N (s .held) (walk s t c .high) (walk s t c .from) ≡ H (names s t c .here)
-    pub hashed-there : given H Z N (t .held) (walk s t c .high) (walk s t c .from) ≡ H (names s t c .there)
+    pub hashed-here : given H Z N (s .hash) (walk s t c .high) (walk s t c .from) ≡ H (names s t c .here)
+    pub hashed-there : given H Z N (t .hash) (walk s t c .high) (walk s t c .from) ≡ H (names s t c .there)
     pub one-value : H (names s t c .here) ≡ H (names s t c .there)
     pub first : (k : ℕ) → walk s t c .high < k → k ≤ levels N → string s k (above k c) ≡ string t k (above k c)
 
@@ -83,4 +83,4 @@ pub record Lowest (N : ℕ) (s t : State) (c : ℕ) : Type 0 where
 -- Two stores compared: all chunks are the same, or the walk to the lowest that differs names a collision.
 pub data Compared (H : List ℕ → List ℕ) (Z : List ℕ) (N : ℕ) (s t : State) : Type 0 where
   equal : ((k : ℕ) → k < N → s .chunk k ≡ t .chunk k) → Compared H Z N s t
-  clashing : (c : ℕ) → Lowest N s t c → Clash H Z N s t c → Compared H Z N s t
+  colliding : (c : ℕ) → Lowest N s t c → Collision H Z N s t c → Compared H Z N s t

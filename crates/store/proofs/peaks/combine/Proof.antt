@@ -17,10 +17,10 @@ use Rattle.store.proofs.peaks.combine.Statement.{statement}
 use Rattle.store.proofs.peaks.combine.Tie as tie
 
 abbrev Inv-loop : tie.InvT-loop
-Inv-loop from hashes entries bytes n top acc₀ h₀ acc h = (h ≤ top) × (bytesOf (acc .words) ≡ given sha256 filler n (sourceBy from hashes (integrityOf entries bytes)) h (above h n))
+Inv-loop came hashes entries bytes n top acc₀ h₀ acc h = (h ≤ top) × (bytesOf (acc .words) ≡ given sha256 filler n (sourceBy came hashes (integrityOf entries bytes)) h (above h n))
 
 abbrev μ-loop : tie.MeasureT-loop
-μ-loop from hashes entries bytes n top acc₀ h₀ acc h = top - h
+μ-loop came hashes entries bytes n top acc₀ h₀ acc h = top - h
 
 zero-requires : tie.Need-zero-requires Inv-loop μ-loop
 zero-requires c κs = search needs
@@ -29,7 +29,7 @@ loop-holds : tie.Need-loop-holds Inv-loop μ-loop
 unfolding filler
 loop-holds c = let a = c .before .before .before .before .args in
     let o = integrityOf (a .entries .now) (a .bytes .now) in
-    (omega arith, c .zero .ensures ∙ sym (folded-start sha256 filler (a .n) (sourceBy (a .from) (a .hashes .now) o)))
+    (omega arith, c .zero .ensures ∙ sym (folded-start sha256 filler (a .n) (sourceBy (a .came) (a .hashes .now) o)))
 
 fold-requires : tie.Need-fold-requires Inv-loop μ-loop
 fold-requires c κs = omega arith
@@ -46,7 +46,7 @@ loop-again c = let a = c .before .before .before .before .before .before .before
     let l = c .before .before .loop in (
       omega arith,
       rw (add-one (l .h))
-          (c .fold .ensures ∙ ap (folded sha256 filler (a .n) (sourceBy (a .from) (a .hashes .now) o) (l .h)) (l .inv .1) ∙ folded-given sha256 filler (a .n) (sourceBy (a .from) (a .hashes .now) o) (l .h)),
+          (c .fold .ensures ∙ ap (folded sha256 filler (a .n) (sourceBy (a .came) (a .hashes .now) o) (l .h)) (l .inv .1) ∙ folded-given sha256 filler (a .n) (sourceBy (a .came) (a .hashes .now) o) (l .h)),
     )
 
 returns : tie.Need-returns Inv-loop μ-loop
@@ -54,8 +54,8 @@ returns c = let a = c .before .before .before .before .before .before .args in
     let o = integrityOf (a .entries .now) (a .bytes .now) in
     let l = c .before .loop in
     let e : l .h ≡ a .top = omega arith in
-    l .inv .1 ∙ ap (λ (x : ℕ). given sha256 filler (a .n) (sourceBy (a .from) (a .hashes .now) o) x (above x (a .n))) e
-    ∙ ap (given sha256 filler (a .n) (sourceBy (a .from) (a .hashes .now) o) (a .top)) (above-top (a .top) (a .n) (omega arith))
+    l .inv .1 ∙ ap (λ (x : ℕ). given sha256 filler (a .n) (sourceBy (a .came) (a .hashes .now) o) x (above x (a .n))) e
+    ∙ ap (given sha256 filler (a .n) (sourceBy (a .came) (a .hashes .now) o) (a .top)) (above-top (a .top) (a .n) (omega arith))
 
 pub combine-spec : {M : Type 1} → statement M
 combine-spec =

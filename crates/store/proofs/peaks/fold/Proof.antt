@@ -29,8 +29,8 @@ returns c = let a = c .before .before .before .before .before .before .before .b
     let o = integrityOf (a .entries .now) (a .bytes .now) in
     let e : a .n / 2 ^ a .h % 2 ≡ 1 = sym (c .before .before .before .before .side .ensures) ∙ c .before .before .before .if1 .taken in
     c .parent .ensures
-    ∙ ap (λ (x : List ℕ). sha256 (x ++ bytesOf (a .acc .words))) (c .before .hash-from .ensures ∙ ap (source (a .from) (a .hashes .now) o) (c .before .before .peak .ensures))
-    ∙ sym (folded-bit sha256 filler (a .n) (sourceBy (a .from) (a .hashes .now) o) (a .h) (bytesOf (a .acc .words)) e)
+    ∙ ap (λ (x : List ℕ). sha256 (x ++ bytesOf (a .acc .words))) (c .before .hash-from .ensures ∙ ap (source (a .came) (a .hashes .now) o) (c .before .before .peak .ensures))
+    ∙ sym (folded-bit sha256 filler (a .n) (sourceBy (a .came) (a .hashes .now) o) (a .h) (bytesOf (a .acc .words)) e)
 
 above-requires : tie.Need-above-requires
 above-requires c κs = search needs
@@ -38,7 +38,7 @@ above-requires c κs = search needs
 returns-2 : tie.Need-returns-2
 returns-2 c = let a = c .before .before .before .before .before .before .before .args in
     let o = integrityOf (a .entries .now) (a .bytes .now) in
-    sym (folded-none sha256 filler (a .n) (sourceBy (a .from) (a .hashes .now) o) (a .h) (bytesOf (a .acc .words)) (λ q. c .before .before .if1 .left (c .before .before .before .side .ensures ∙ q)) (sym (c .before .above .ensures .0) ∙ c .if2 .taken))
+    sym (folded-none sha256 filler (a .n) (sourceBy (a .came) (a .hashes .now) o) (a .h) (bytesOf (a .acc .words)) (λ q. c .before .before .if1 .left (c .before .before .before .side .ensures ∙ q)) (sym (c .before .above .ensures .0) ∙ c .if2 .taken))
 
 zero-requires : tie.Need-zero-requires
 zero-requires c κs = search needs
@@ -51,7 +51,7 @@ unfolding filler
 returns-3 c = let a = c .before .before .before .before .before .before .before .before .before .args in
     let o = integrityOf (a .entries .now) (a .bytes .now) in
     c .parent2 .ensures ∙ ap (λ (x : List ℕ). sha256 (bytesOf (a .acc .words) ++ x)) (c .before .zero .ensures)
-    ∙ sym (folded-some sha256 filler (a .n) (sourceBy (a .from) (a .hashes .now) o) (a .h) (bytesOf (a .acc .words)) (λ q. c .before .before .before .before .if1 .left (c .before .before .before .before .before .side .ensures ∙ q)) (λ q. c .before .before .if2 .left (c .before .before .before .above .ensures .0 ∙ q)))
+    ∙ sym (folded-some sha256 filler (a .n) (sourceBy (a .came) (a .hashes .now) o) (a .h) (bytesOf (a .acc .words)) (λ q. c .before .before .before .before .if1 .left (c .before .before .before .before .before .side .ensures ∙ q)) (λ q. c .before .before .if2 .left (c .before .before .before .above .ensures .0 ∙ q)))
 
 pub fold-spec : {M : Type 1} → statement M
 fold-spec =

@@ -26,7 +26,7 @@ returns c = let a = c .before .before .before .before .before .before .args in
     let o = integrityOf (a .entries .now) (a .bytes .now) in
     let e : a .n ≡ 2 ^ a .top = omega (arith, c .before .if1 .taken, c .before .before .pow2 .ensures .0) in
     let f : c .before .before .pow2 .result - 1 ≡ bin (a .top) 0 = omega arith in
-    c .hash-from .ensures ∙ ap (source (a .from) (a .hashes .now) o) f ∙ sym (given-one sha256 filler (a .n) (sourceBy (a .from) (a .hashes .now) o) (a .top) e)
+    c .hash-from .ensures ∙ ap (source (a .came) (a .hashes .now) o) f ∙ sym (given-one sha256 filler (a .n) (sourceBy (a .came) (a .hashes .now) o) (a .top) e)
 
 combine-requires : tie.Need-combine-requires
 combine-requires c κs = search needs

@@ -24,8 +24,8 @@ copy-in-requires c κs = search needs
 set-requires : tie.Need-set-requires
 set-requires c κs = search needs
 
-put-opening-requires : tie.Need-put-opening-requires
-put-opening-requires c κs = search needs
+put-new-peaks-requires : tie.Need-put-new-peaks-requires
+put-new-peaks-requires c κs = search needs
 
 put-path-requires : tie.Need-put-path-requires
 put-path-requires c κs = search needs
@@ -46,7 +46,7 @@ returns : tie.Need-returns
 returns c = let a = c .before .before .before .before .before .before .before .before .before .before .before .before .before .before .before .before .before .before .before .before .before .before .before .before .before .before .before .before .before .before .args in
     let o = integrityOf (a .entries .now) (a .bytes .now) in
     stored-is (a .chunks .now) (a .map .now) (a .hashes .now) (a .trusted .now) (a .n) (a .c) (a .t) (a .chunk .now) o (bytesOf (a .leaf .words))
-    (c .before .before .before .before .before .before .before .before .before .before .before .before .before .before .before .before .before .before .before .before .copy-in .ensures) (c .before .before .before .before .before .before .before .before .before .before .before .before .before .before .before .before .set .ensures) (c .before .before .before .before .before .before .before .before .before .before .before .before .before .before .before .before .before .before .before .before .before .before .levels .ensures .0) (c .before .before .before .before .before .before .before .before .before .before .before .before .before .before .before .before .before .before .before .before .before .before .before .before .before .before .before .before .before .before .pre .2) (c .before .before .before .before .before .before .before .before .before .before .before .put-opening .ensures) (c .before .before .before .before .put-path .ensures)
+    (c .before .before .before .before .before .before .before .before .before .before .before .before .before .before .before .before .before .before .before .before .copy-in .ensures) (c .before .before .before .before .before .before .before .before .before .before .before .before .before .before .before .before .set .ensures) (c .before .before .before .before .before .before .before .before .before .before .before .before .before .before .before .before .before .before .before .before .before .before .levels .ensures .0) (c .before .before .before .before .before .before .before .before .before .before .before .before .before .before .before .before .before .before .before .before .before .before .before .before .before .before .before .before .before .before .pre .2) (c .before .before .before .before .before .before .before .before .before .before .before .put-new-peaks .ensures) (c .before .before .before .before .put-path .ensures)
 
 pub put-spec : {M : Type 1} → statement M
 put-spec =
@@ -57,7 +57,7 @@ put-spec =
     mul-copy-in
     copy-in-requires
     set-requires
-    put-opening-requires
+    put-new-peaks-requires
     put-path-requires
     same-length
     same-length-2

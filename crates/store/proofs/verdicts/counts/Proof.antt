@@ -4,7 +4,6 @@ use Rattle.tree.specs.Bin.{bin}
 use Rattle.tree.specs.Node.{node, above}
 use Rattle.tree.specs.Peaks.{before}
 use Rattle.tree.specs.State.{isPeak}
-use Rattle.tree.specs.Verdicts.{opened}
 use Rattle.store.proofs.LoopLaws.{counted-yes, counted-open, counted-peak}
 use borrow.Author.Needs.{needs}
 use Rattle.store.proofs.verdicts.counts.Statement.{statement}

@@ -4,7 +4,7 @@ use native.Mathlib.Numerals.{add-one}
 use native.Mathlib.Omega.{arith}
 use Rattle.tree.specs.Node.{above}
 use Rattle.tree.specs.Peaks.{before}
-use Rattle.tree.specs.Verdicts.{reachFrom, opened}
+use Rattle.tree.specs.Verdicts.{reachFrom}
 use Rattle.store.specs.Steps.{countedBit}
 use Rattle.store.proofs.LoopLaws.{reach-here, reach-next, reach-end}
 use Rattle.store.proofs.verdicts.reach.Statement.{statement}

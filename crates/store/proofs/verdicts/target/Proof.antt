@@ -3,7 +3,6 @@ use mathlib.Core.Bool.{Bool}
 use Rattle.tree.specs.Node.{node, above}
 use Rattle.tree.specs.Peaks.{before}
 use Rattle.tree.specs.State.{isPeak}
-use Rattle.tree.specs.Verdicts.{opened}
 use Rattle.store.specs.Room.{hashIn}
 use Rattle.store.specs.Integrity.{integrityOf, gotAt}
 use Rattle.store.specs.Steps.{countedHash}

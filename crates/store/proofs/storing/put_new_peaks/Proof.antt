@@ -7,8 +7,8 @@ use Rattle.store.specs.Rooms.{gotBy}
 use Rattle.store.specs.Storing.{mark, putPeaks}
 use Rattle.store.proofs.StoringLaws.{open-no, open-yes}
 use borrow.Author.Needs.{needs}
-use Rattle.store.proofs.storing.put_opening.Statement.{statement}
-use Rattle.store.proofs.storing.put_opening.Tie as tie
+use Rattle.store.proofs.storing.put_new_peaks.Statement.{statement}
+use Rattle.store.proofs.storing.put_new_peaks.Tie as tie
 
 all-trusted-requires : tie.Need-all-trusted-requires
 all-trusted-requires c κs = search needs
@@ -39,8 +39,8 @@ returns-2 c = let a = c .before .before .before .before .before .before .before 
     let f = not-false _ (c .if1 .left) in
     (open-yes (a .hashes .now) (putPeaks putHash (gotBy o) (a .n) (suc (a .top)) (a .hashes .now)) e f, open-yes (a .trusted .now) (putPeaks mark (gotBy o) (a .n) (suc (a .top)) (a .trusted .now)) e f)
 
-pub put-opening-spec : {M : Type 1} → statement M
-put-opening-spec =
+pub put-new-peaks-spec : {M : Type 1} → statement M
+put-new-peaks-spec =
     tie.close
     (tie.spec
     all-trusted-requires
