@@ -19,10 +19,6 @@ use Rattle.tree.proofs.PackLaws.{levels-holds}
 use Rattle.tree.proofs.TreeLaws.{given-empty, given-whole, given-mixed}
 use Rattle.tree.proofs.PeakTests.{both-true}
 
-climb-zero : (H : List ℕ → List ℕ) (sib : ℕ → ℕ → List ℕ) (v : List ℕ) (c a : ℕ) → climb H sib v c zero a ≡ v
-unfolding climb
-climb-zero H sib v c a = refl
-
 -- ---- what the peaks give depends on the peaks alone
 
 module _ (H : List ℕ → List ℕ) (Z : List ℕ) (N : ℕ) (x y : ℕ → ℕ → List ℕ)

@@ -1,7 +1,7 @@
 -- Bin numbers (RFC 7574, 4.2; 01, "Nodes and the tree"): a node's height, and the chunks that it covers. Assumes nothing.
 use Prim.Native.Nat.{ℕ, zero, suc, _+_, _-_, _*_, _/_, _%_, _^_}
 
--- Above the digit d: one more one than t where d is set, and none where d is 0.
+-- One more than t where the digit d is 1, else 0.
 abbrev pub over : ℕ → ℕ → ℕ
 over zero t = zero
 over (suc d) t = suc t

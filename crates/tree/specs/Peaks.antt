@@ -16,7 +16,7 @@ peaksFrom N (suc h) a = pick (leb (a + 2 ^ h) N) (node h a ∷ peaksFrom N h (a 
 unfoldable pub peaks : ℕ → List Node
 peaks N = peaksFrom N (suc (levels N)) 0
 
--- The peak above chunk c.
+-- The peak above chunk c, for c below N.
 unfoldable pub peakFrom : ℕ → ℕ → ℕ → ℕ → Node
 peakFrom N c zero a = node 0 a
 peakFrom N c (suc h) a =

@@ -38,7 +38,7 @@ started N r hashes bytes = record {
   chunk = bytes;
 }
 
--- Built from all chunks: the root and the nodes within 0..N-1 are trusted.
+-- Built from all chunks: the root and the nodes within 0..N-1 are trusted; what others hold does not count.
 abbrev pub built : (List ℕ → List ℕ) → List ℕ → ℕ → (ℕ → List ℕ) → State
 built H Z N chunk = record {
   hash = tree H Z N chunk;
@@ -56,7 +56,7 @@ adopted N came s = record {
   chunk = s .chunk;
 }
 
--- Chunk c with the bytes d, hung below the trusted node of height t: the leaf, the climbed nodes and the siblings are
+-- Chunk c with the bytes d, hung from the trusted node of height t: the leaf, the climbed nodes and the siblings are
 -- written and become trusted.
 abbrev pub hung : (List ℕ → List ℕ) → ℕ → ℕ → List ℕ → (ℕ → ℕ → List ℕ) → State → State
 hung H c t d came s = record {

@@ -81,7 +81,7 @@ module _ (H : List ℕ → List ℕ) (Z : List ℕ) (N : ℕ) (r : List ℕ) (s 
   unfoldable pub after : State
   after = afterBy verdict
 
--- A verdict's number in 01's table.
+-- A verdict's number in 01's table, once 12, 11, 7 and 8 are ruled out.
 abbrev pub number : Verdict → ℕ
 number (Fits t) = 0
 number Missing = 9

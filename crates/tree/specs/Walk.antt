@@ -41,7 +41,7 @@ module _ (H : List ℕ → List ℕ) (Z : List ℕ) (N : ℕ) where
   string s zero a = s .chunk a
   string s (suc h) a = given H Z N (s .hash) h a ++ given H Z N (s .hash) h (a + 2 ^ h)
 
-  -- From (h, a) down to chunk c, the first node where the strings differ.
+  -- From (h, a) down to chunk c, the first node where the strings differ; the leaf if none above it does.
   unfoldable pub walkFrom : State → State → ℕ → ℕ → ℕ → Node
   walkFrom s t c zero a = node zero a
   walkFrom s t c (suc h) a = pick (same (string s (suc h) a) (string t (suc h) a)) (walkFrom s t c h (down c h a)) (node (suc h) a)

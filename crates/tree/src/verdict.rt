@@ -3,7 +3,7 @@ ghost use mathlib.Core.Path.{_≡_};
 ghost use Rattle.tree.specs.Verdicts.{number};
 
 pub enum Verdict {
-    // It hangs below the trusted node of this height.
+    // It hangs from the trusted node of this height, which may be its own leaf.
     Fits(u32),
     // A needed hash isn't there.
     Missing,
