@@ -1,25 +1,36 @@
-//! Links the static library of the proved code: `libhash_c.a` in the directory
-//! that the environment variable HASH_LIB_DIR names, or else in
+//! Links the static libraries of the proved code, which stand in the directory
+//! that the environment variable PROVED_LIB_DIR names, or else in
 //! `target/staticlib` of the repository.
 
-use std::path::PathBuf;
+use std::path::{Path, PathBuf};
+
+/// The crates that the libraries are made of. Each library exports the
+/// functions of its own crate alone, so that none clashes.
+const CRATES: [&str; 2] = ["hash_c", "store_c"];
 
 fn main() {
-    println!("cargo::rerun-if-env-changed=HASH_LIB_DIR");
+    println!("cargo::rerun-if-env-changed=PROVED_LIB_DIR");
     let package = std::env::var_os("CARGO_MANIFEST_DIR").expect("cargo sets CARGO_MANIFEST_DIR");
     let package = PathBuf::from(package);
-    let directory = match std::env::var_os("HASH_LIB_DIR") {
+    let directory = match std::env::var_os("PROVED_LIB_DIR") {
         Some(directory) => package.join(directory),
         None => package.join("../target/staticlib"),
     };
-    let archive = directory.join("libhash_c.a");
+    println!("cargo::rustc-link-search=native={}", directory.display());
+    for name in CRATES {
+        link(&directory, name);
+    }
+}
+
+/// Links a crate's library.
+fn link(directory: &Path, name: &str) {
+    let archive = directory.join(format!("lib{name}.a"));
     println!("cargo::rerun-if-changed={}", archive.display());
     if !archive.is_file() {
         panic!(
-            "{} is missing: run `rt staticlib hash_c` first",
+            "{} is missing: run `rt staticlib {name}` first",
             archive.display()
         );
     }
-    println!("cargo::rustc-link-search=native={}", directory.display());
-    println!("cargo::rustc-link-lib=static=hash_c");
+    println!("cargo::rustc-link-lib=static={name}");
 }

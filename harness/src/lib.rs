@@ -1,7 +1,14 @@
-//! The outside comparisons: the proved code, linked as a static library, beside
+//! The outside comparisons: the proved code, linked as static libraries, beside
 //! the independent implementation in `second`. The tests stand in `tests/`, the
-//! benchmark in `src/bin/hash_bench.rs`.
+//! benchmarks in `src/bin/`.
 
 #![deny(unsafe_code)]
 
+pub mod bench;
+pub mod beside;
+pub mod came;
+pub mod packs;
 pub mod proved;
+pub mod random;
+pub mod takes;
+pub mod words;

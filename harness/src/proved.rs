@@ -1,10 +1,13 @@
-//! The proved SHA-256, through the C functions of `libhash_c.a`.
+//! The proved SHA-256, through the C functions of `libhash_c.a`, and in
+//! [`store`] the proved chunk store.
 //!
 //! A proof holds only where the caller ensures what the function requires, and
 //! nothing at this boundary proves that a caller does. So each wrapper tests it
 //! and panics where it does not hold.
 
 #![allow(unsafe_code)]
+
+pub mod store;
 
 /// The eight words of a hash value.
 pub type Words = [u32; 8];

@@ -1,7 +1,9 @@
 //! The proved SHA-256 against `second`, and its words and bytes against the
 //! standard library's. No expected value comes from the proved code.
 
-use harness::proved::{self, Words};
+use harness::proved;
+use harness::random::Random;
+use harness::words::{digest, words};
 use second::sha256::{node, sha256, Digest};
 
 /// The longest message tried.
@@ -88,7 +90,7 @@ fn check_parent(case: &str, left: &Digest, right: &Digest) {
 
 #[test]
 fn parent_of_random_sides() {
-    let mut random = Random::new();
+    let mut random = Random::new(0);
     for case in 0..2000 {
         let (left, right) = (random.digest(), random.digest());
         check_parent(&format!("pair {case}"), &left, &right);
@@ -101,7 +103,7 @@ fn parent_of_special_sides() {
     check_parent("zeros", &zeros, &zeros);
     check_parent("ones", &ones, &ones);
     check_parent("zeros and ones", &zeros, &ones);
-    let mut random = Random::new();
+    let mut random = Random::new(0);
     for case in 0..200 {
         let side = random.digest();
         check_parent(&format!("equal sides {case}"), &side, &side);
@@ -113,10 +115,10 @@ fn parent_of_special_sides() {
 /// A hash value's bytes at every place of slices of several lengths.
 #[test]
 fn load_and_bytes() {
-    let mut random = Random::new();
+    let mut random = Random::new(0);
     for length in [32, 33, 63, 64, 65, 300] {
         for case in 0..20 {
-            let slice: Vec<u8> = (0..length).map(|_| random.next() as u8).collect();
+            let slice = random.bytes(length);
             for at in 0..=length - 32 {
                 let wanted: Digest = slice[at..at + 32].try_into().unwrap();
                 let got = proved::load(&slice, at);
@@ -131,7 +133,7 @@ fn load_and_bytes() {
 
 #[test]
 fn same_and_one_bit_apart() {
-    let mut random = Random::new();
+    let mut random = Random::new(0);
     let mut values = vec![[0; 8], [u32::MAX; 8]];
     values.extend((0..50).map(|_| words(&random.digest())));
     for value in values {
@@ -183,36 +185,4 @@ fn a_tail_longer_than_the_message() {
 #[should_panic(expected = "finish: the message is too long")]
 fn a_message_too_long() {
     proved::finish(&[0; 8], &[], 1 << 61);
-}
-
-/// The words of a digest, by the standard library alone.
-fn words(digest: &Digest) -> Words {
-    std::array::from_fn(|i| u32::from_be_bytes(digest[4 * i..4 * i + 4].try_into().unwrap()))
-}
-
-/// The digest of words, by the standard library alone.
-fn digest(words: &Words) -> Digest {
-    std::array::from_fn(|i| words[i / 4].to_be_bytes()[i % 4])
-}
-
-/// Pseudo-random numbers, the same in every run: Marsaglia's xorshift, with a
-/// multiplication at the end (xorshift64*).
-struct Random(u64);
-
-impl Random {
-    fn new() -> Self {
-        Random(0x9e37_79b9_7f4a_7c15)
-    }
-
-    /// The next number, of which the upper 32 bits are the better ones.
-    fn next(&mut self) -> u32 {
-        self.0 ^= self.0 >> 12;
-        self.0 ^= self.0 << 25;
-        self.0 ^= self.0 >> 27;
-        (self.0.wrapping_mul(0x2545_f491_4f6c_dd1d) >> 32) as u32
-    }
-
-    fn digest(&mut self) -> Digest {
-        digest(&std::array::from_fn(|_| self.next()))
-    }
 }

@@ -5,7 +5,9 @@
 //! the best batch of each, so that all of them meet the same machine. The
 //! numbers are printed; none decides anything.
 
+use harness::bench::machine;
 use harness::proved::{self, Words};
+use harness::words::words as words_of;
 use second::sha256::{node, sha256, Digest};
 use std::hint::black_box;
 use std::time::{Duration, Instant};
@@ -27,7 +29,10 @@ fn main() {
     let digests: Vec<[Digest; 2]> = (0..NODES as u32)
         .map(|i| [i, !i].map(|seed| sha256(&seed.to_be_bytes())))
         .collect();
-    let words: Vec<[Words; 2]> = digests.iter().map(|pair| pair.map(words_of)).collect();
+    let words: Vec<[Words; 2]> = digests
+        .iter()
+        .map(|pair| pair.each_ref().map(words_of))
+        .collect();
     let blocks: Vec<&[u8]> = digests.iter().map(|pair| pair.as_flattened()).collect();
 
     // All give the same digests, or their times say nothing.
@@ -41,7 +46,7 @@ fn main() {
     for (i, [left, right]) in digests.iter().enumerate() {
         let wanted = node(left, right);
         let got = proved::parent(&words[i][0], &words[i][1]);
-        assert_eq!(got, words_of(wanted), "proved, a node");
+        assert_eq!(got, words_of(&wanted), "proved, a node");
         if let Some(libcrypto) = &libcrypto {
             assert_eq!(libcrypto.sha256(blocks[i]), wanted, "libcrypto, a node");
         }
@@ -177,20 +182,6 @@ fn print_table(contenders: &[Contender]) {
         print!("{:>18.3}", other.nanoseconds() / ours.nanoseconds());
     }
     println!();
-}
-
-/// The machine's kind, as it names itself.
-fn machine() -> String {
-    let cpuinfo = std::fs::read_to_string("/proc/cpuinfo").unwrap_or_default();
-    cpuinfo
-        .lines()
-        .find_map(|line| line.strip_prefix("model name")?.split_once(": "))
-        .map_or("unknown".to_string(), |(_, name)| name.to_string())
-}
-
-/// The words of a digest.
-fn words_of(digest: Digest) -> Words {
-    std::array::from_fn(|i| u32::from_be_bytes(digest[4 * i..4 * i + 4].try_into().unwrap()))
 }
 
 /// OpenSSL's SHA-256, found at run time.

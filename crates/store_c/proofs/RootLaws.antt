@@ -1,0 +1,33 @@
+-- The test of the root's slice, and the root written. Assumes nothing.
+use mathlib.Core.Path.{_≡_, refl, ap, _∙_}
+use mathlib.Core.Logic.{_≢_}
+use mathlib.Core.List.{List}
+use Prim.Native.Nat.{ℕ, zero, suc}
+use native.Mathlib.Omega.{arith}
+use borrow.Author.Tests.{eq-eqb, ne-eqb}
+use lib.ListN.{length}
+use Rattle.store.specs.Room.{putHash}
+use Rattle.store.proofs.Promise.{Rooms, Out, outOf, foundRoot}
+use Rattle.store_c.specs.Root.{rooted, rootIn, rootPut}
+
+pub rooted-not : (root : List ℕ) (w : Rooms) (out : Out) → length root ≢ 8 → outOf 11 w ≡ rooted root w out
+unfolding rooted
+rooted-not root w out d = rw (ne-eqb (length root) 8 d)
+
+pub rooted-done : (root : List ℕ) (w : Rooms) {got out : Out} → length root ≡ 8 → got ≡ out → got ≡ rooted root w out
+unfolding rooted
+rooted-done root w e g = rw (eq-eqb (length root) 8 e, g)
+
+-- the same where the call f was given the bytes v of the root's words
+pub rooted-by : (f : List ℕ → Out) (root : List ℕ) (w : Rooms) {v : List ℕ} {got : Out}
+    → length root ≡ 8 → v ≡ rootIn root → got ≡ f v → got ≡ rooted root w (f (rootIn root))
+rooted-by f root w e v g = rooted-done root w e (g ∙ ap f v)
+
+pub put-not : (n : ℕ) (root found : List ℕ) → n ≢ 0 → root ≡ rootPut n root found
+put-not zero root found d = absurd (d refl)
+put-not (suc n) root found d = refl
+
+pub put-done : (n : ℕ) (root found : List ℕ) {v after : List ℕ} → n ≡ 0 → v ≡ foundRoot n found → after ≡ putHash root 0 v
+    → after ≡ rootPut n root found
+put-done zero root found z ve e = rw (e, ve)
+put-done (suc n) root found z ve e = absurd (omega arith)

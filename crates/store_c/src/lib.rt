@@ -1,0 +1,92 @@
+// The calls of the crate store for C and Rust, on numbers and slices alone: what the comparisons and the benchmark link.
+// An order's root is eight words; a call with another number of them is refused with 11, before all else.
+ghost use mathlib.Core.Path.{_≡_};
+ghost use Rattle.store.proofs.Promise.{roomsOf, integrityOf, rootOf, outOf, startSpec, buildSpec, takeSpec};
+ghost use Rattle.store_c.specs.Root.{rooted, rootIn, rootPut};
+use store::calls;
+use store::calls::Order;
+use store::room;
+
+// Starts a store under an order.
+#[no_mangle]
+pub extern "C" fn store_start(
+    root: &[u32],
+    length: u32,
+    chunks: &[u8],
+    map: &mut [u32],
+    hashes: &mut [u32],
+    trusted: &mut [u32],
+) -> u32
+    ensures { λ r. ⌜ outOf r (roomsOf (now (chunks .entry)) (now (map .exit)) (now (hashes .exit)) (now (trusted .exit))) ≡ rooted (now (root .entry)) (roomsOf (now (chunks .entry)) (now (map .entry)) (now (hashes .entry)) (now (trusted .entry))) (startSpec (roomsOf (now (chunks .entry)) (now (map .entry)) (now (hashes .entry)) (now (trusted .entry))) (rootIn (now (root .entry))) length) ⌝ }
+{
+    if root.len() != 8 {
+        return 11;
+    }
+    let order = Order {
+        root: room::read(root, 0),
+        length: length,
+    };
+    calls::start(order, chunks, map, hashes, trusted)
+}
+
+// Builds a whole store of a length from its content, and writes its root.
+#[no_mangle]
+pub extern "C" fn store_build(
+    root: &mut [u32],
+    length: u32,
+    chunks: &mut [u8],
+    map: &mut [u32],
+    hashes: &mut [u32],
+    trusted: &mut [u32],
+    content: &[u8],
+) -> u32
+    ensures { λ r. ⌜ (outOf r (roomsOf (now (chunks .exit)) (now (map .exit)) (now (hashes .exit)) (now (trusted .exit))) ≡ rooted (now (root .entry)) (roomsOf (now (chunks .entry)) (now (map .entry)) (now (hashes .entry)) (now (trusted .entry))) (buildSpec (roomsOf (now (chunks .entry)) (now (map .entry)) (now (hashes .entry)) (now (trusted .entry))) length (now (content .entry)))) × (now (root .exit) ≡ rootPut r (now (root .entry)) (rootOf (now (content .entry)))) ⌝ }
+{
+    if root.len() != 8 {
+        return 11;
+    }
+    let built = calls::build(length, chunks, map, hashes, trusted, content);
+    let answer = built.answer;
+    let found = built.root;
+    if answer != 0 {
+        return answer;
+    }
+    room::write(root, 0, found);
+    answer
+}
+
+// Takes chunk c with the hashes that came: entries has a node's number and the place of its hash in bytes in turn.
+#[no_mangle]
+pub extern "C" fn store_take(
+    root: &[u32],
+    length: u32,
+    chunks: &mut [u8],
+    map: &mut [u32],
+    hashes: &mut [u32],
+    trusted: &mut [u32],
+    c: u32,
+    chunk: &[u8],
+    entries: &[u64],
+    bytes: &[u8],
+) -> u32
+    ensures { λ r. ⌜ outOf r (roomsOf (now (chunks .exit)) (now (map .exit)) (now (hashes .exit)) (now (trusted .exit))) ≡ rooted (now (root .entry)) (roomsOf (now (chunks .entry)) (now (map .entry)) (now (hashes .entry)) (now (trusted .entry))) (takeSpec (roomsOf (now (chunks .entry)) (now (map .entry)) (now (hashes .entry)) (now (trusted .entry))) (rootIn (now (root .entry))) length c (now (chunk .entry)) (integrityOf (now (entries .entry)) (now (bytes .entry)))) ⌝ }
+{
+    if root.len() != 8 {
+        return 11;
+    }
+    let order = Order {
+        root: room::read(root, 0),
+        length: length,
+    };
+    calls::take(
+        order,
+        chunks,
+        map,
+        hashes,
+        trusted,
+        c,
+        chunk,
+        entries,
+        bytes,
+    )
+}

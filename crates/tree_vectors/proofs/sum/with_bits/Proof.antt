@@ -1,0 +1,45 @@
+use Prim.Native.Nat.{_≤_, _-_}
+use borrow.Author.Needs.{needs}
+use Rattle.tree_vectors.proofs.sum.with_bits.Statement.{statement}
+use Rattle.tree_vectors.proofs.sum.with_bits.Tie as tie
+
+abbrev Inv-loop : tie.InvT-loop
+Inv-loop s v upto sum₀ i₀ sum i = i ≤ upto
+
+abbrev μ-loop : tie.MeasureT-loop
+μ-loop s v upto sum₀ i₀ sum i = upto - i
+
+loop-holds : tie.Need-loop-holds Inv-loop μ-loop
+loop-holds c = search needs
+
+bit-at-requires : tie.Need-bit-at-requires Inv-loop μ-loop
+bit-at-requires c κs = search needs
+
+step-requires : tie.Need-step-requires Inv-loop μ-loop
+step-requires c κs = search needs
+
+add-i : tie.Need-add-i Inv-loop μ-loop
+add-i c = search needs
+
+loop-less : tie.Need-loop-less Inv-loop μ-loop
+loop-less c = search needs
+
+loop-again : tie.Need-loop-again Inv-loop μ-loop
+loop-again c = search needs
+
+returns : tie.Need-returns Inv-loop μ-loop
+returns c = search needs
+
+pub with-bits-spec : {M : Type 1} → statement M
+with-bits-spec =
+    tie.close
+    (tie.spec
+    Inv-loop
+    μ-loop
+    loop-holds
+    bit-at-requires
+    step-requires
+    add-i
+    loop-less
+    loop-again
+    returns)
