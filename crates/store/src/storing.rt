@@ -84,8 +84,8 @@ fn put_new_peaks(
     }
 }
 
-// The node of height h above chunk c, whose hash is acc, and its sibling; the hash of the next.
-fn put_step(
+// The node of height h above chunk c, whose hash is acc, and its sibling.
+fn put_pair(
     hashes: &mut [u32],
     trusted: &mut [u32],
     entries: &[u64],
@@ -93,16 +93,26 @@ fn put_step(
     c: u32,
     h: u32,
     acc: HashValue,
-) -> HashValue
+)
     requires { ⌜ h < 59 ⌝ }
-    ensures { λ r. ⌜ (bytesOf (r .words) ≡ joined sha256 c h (above (suc h) c) (bytesOf (acc .words)) (gotBy (integrityOf (now (entries .entry)) (now (bytes .entry))) h (other c h (above (suc h) c)))) × (now (hashes .exit) ≡ putHash (putHash (now (hashes .entry)) (bin h (above h c)) (bytesOf (acc .words))) (bin h (other c h (above (suc h) c))) (gotBy (integrityOf (now (entries .entry)) (now (bytes .entry))) h (other c h (above (suc h) c)))) × (now (trusted .exit) ≡ setBit (setBit (now (trusted .entry)) (bin h (above h c))) (bin h (other c h (above (suc h) c)))) ⌝ }
+    ensures { λ _. ⌜ (now (hashes .exit) ≡ putHash (putHash (now (hashes .entry)) (bin h (above h c)) (bytesOf (acc .words))) (bin h (other c h (above (suc h) c))) (gotBy (integrityOf (now (entries .entry)) (now (bytes .entry))) h (other c h (above (suc h) c)))) × (now (trusted .exit) ≡ setBit (setBit (now (trusted .entry)) (bin h (above h c))) (bin h (other c h (above (suc h) c)))) ⌝ }
 {
     let b = tree::peaks::node(c, h);
     room::trust(hashes, trusted, b, acc);
     let s = tree::peaks::sibling(c, h);
     let v = integrity::get(entries, bytes, s);
     room::trust(hashes, trusted, s, v);
-    verdicts::step(entries, bytes, c, h, acc)
+}
+
+// The hash of the node above that one, where it lies below height t; else none is made.
+fn next(entries: &[u64], bytes: &[u8], c: u32, h: u32, t: u32, acc: HashValue) -> HashValue
+    requires { ⌜ h < 59 ⌝ }
+    ensures { λ r. ⌜ (suc h < t → bytesOf (r .words) ≡ joined sha256 c h (above (suc h) c) (bytesOf (acc .words)) (gotBy (integrityOf (now (entries .entry)) (now (bytes .entry))) h (other c h (above (suc h) c)))) ⌝ }
+{
+    if h + 1 < t {
+        return verdicts::step(entries, bytes, c, h, acc);
+    }
+    acc
 }
 
 // The path from chunk c, whose leaf has the hash v, up to below height t.
@@ -121,7 +131,8 @@ fn put_path(
     let mut acc = v;
     let mut h = 0u32;
     while h < t {
-        acc = put_step(hashes, trusted, entries, bytes, c, h, acc);
+        put_pair(hashes, trusted, entries, bytes, c, h, acc);
+        acc = next(entries, bytes, c, h, t, acc);
         h = h + 1;
     }
 }

@@ -2,7 +2,7 @@
 //! the chunks of one in random order.
 //!
 //! One process gives each job to both stores in turn, for some seconds, and the
-//! median time of each counts. The rooms are made and written before a time
+//! best time of each counts. The rooms are made and written before a time
 //! begins. The numbers are printed; none decides anything.
 
 use harness::bench::machine;
@@ -45,7 +45,7 @@ fn main() {
     }
 
     println!("machine: {}", machine());
-    println!("rounds: {rounds}, of one run of each job for each; the median counts");
+    println!("rounds: {rounds}, of one run of each job for each; the best counts");
     println!("the ratio is one of speeds, larger is faster");
     println!();
     print_table(&jobs);
@@ -80,8 +80,8 @@ struct Job<'a> {
     name: String,
     proved: Box<dyn Fn() -> Duration + 'a>,
     second: Box<dyn Fn() -> Duration + 'a>,
-    proved_times: Vec<Duration>,
-    second_times: Vec<Duration>,
+    proved_best: Duration,
+    second_best: Duration,
 }
 
 impl<'a> Job<'a> {
@@ -94,29 +94,25 @@ impl<'a> Job<'a> {
             name,
             proved: Box::new(proved),
             second: Box::new(second),
-            proved_times: Vec::new(),
-            second_times: Vec::new(),
+            proved_best: Duration::MAX,
+            second_best: Duration::MAX,
         }
     }
 
     /// One run of each.
     fn run(&mut self, proved_first: bool) {
         if proved_first {
-            self.proved_times.push((self.proved)());
+            self.proved_best = self.proved_best.min((self.proved)());
         }
-        self.second_times.push((self.second)());
+        self.second_best = self.second_best.min((self.second)());
         if !proved_first {
-            self.proved_times.push((self.proved)());
+            self.proved_best = self.proved_best.min((self.proved)());
         }
     }
 
     /// The microseconds of the proved store and of `second`'s.
     fn microseconds(&self) -> [f64; 2] {
-        [&self.proved_times, &self.second_times].map(|times| {
-            let mut times = times.clone();
-            times.sort();
-            times[times.len() / 2].as_secs_f64() * 1e6
-        })
+        [self.proved_best, self.second_best].map(|time| time.as_secs_f64() * 1e6)
     }
 }
 
@@ -214,7 +210,7 @@ fn started(pack: &Pack, rooms: SecondRooms) -> Store {
 
 /// A row for each job: the times and the ratio.
 fn print_table(jobs: &[Job]) {
-    print!("{:44}{:>11}{:>11}", "median times, us", "proved", "second");
+    print!("{:44}{:>11}{:>11}", "best times, us", "proved", "second");
     println!("{:>16}", "proved/second");
     for job in jobs {
         let [proved, second] = job.microseconds();

@@ -1,6 +1,6 @@
 use mathlib.Core.Path.{_≡_, refl, sym, ap, _∙_}
 use mathlib.Core.List.{List}
-use Prim.Native.Nat.{ℕ, suc, _-_, _≤_}
+use Prim.Native.Nat.{ℕ, suc, _-_, _≤_, _<_}
 use native.Mathlib.Numerals.{add-one}
 use native.Mathlib.Omega.{arith}
 use lib.ListN.{length}
@@ -19,7 +19,7 @@ use Rattle.store.proofs.storing.put_path.Statement.{statement}
 use Rattle.store.proofs.storing.put_path.Tie as tie
 
 abbrev Inv-loop : tie.InvT-loop
-Inv-loop hashes₀ trusted₀ entries bytes c t acc₀ h₀ hashes trusted acc h = (h ≤ t) × (hashes ≡ putPath putHash (λ k. climb sha256 (gotBy (integrityOf entries bytes)) (bytesOf (acc₀ .words)) c k (above k c)) (gotBy (integrityOf entries bytes)) c h hashes₀) × (trusted ≡ putPath mark (λ k. climb sha256 (gotBy (integrityOf entries bytes)) (bytesOf (acc₀ .words)) c k (above k c)) (gotBy (integrityOf entries bytes)) c h trusted₀) × (bytesOf (acc .words) ≡ climb sha256 (gotBy (integrityOf entries bytes)) (bytesOf (acc₀ .words)) c h (above h c))
+Inv-loop hashes₀ trusted₀ entries bytes c t acc₀ h₀ hashes trusted acc h = (h ≤ t) × (hashes ≡ putPath putHash (λ k. climb sha256 (gotBy (integrityOf entries bytes)) (bytesOf (acc₀ .words)) c k (above k c)) (gotBy (integrityOf entries bytes)) c h hashes₀) × (trusted ≡ putPath mark (λ k. climb sha256 (gotBy (integrityOf entries bytes)) (bytesOf (acc₀ .words)) c k (above k c)) (gotBy (integrityOf entries bytes)) c h trusted₀) × (h < t → bytesOf (acc .words) ≡ climb sha256 (gotBy (integrityOf entries bytes)) (bytesOf (acc₀ .words)) c h (above h c))
 
 abbrev μ-loop : tie.MeasureT-loop
 μ-loop hashes₀ trusted₀ entries bytes c t acc₀ h₀ hashes trusted acc h = t - h
@@ -28,10 +28,13 @@ loop-holds : tie.Need-loop-holds Inv-loop μ-loop
 unfolding climb
 loop-holds c = let a = c .before .before .before .before .args in
     let o = integrityOf (a .entries .now) (a .bytes .now) in
-    (omega arith, path-none putHash (λ h. climb sha256 (gotBy o) (bytesOf (a .v .words)) (a .c) h (above h (a .c))) (gotBy o) (a .c) (a .hashes .now), path-none mark (λ h. climb sha256 (gotBy o) (bytesOf (a .v .words)) (a .c) h (above h (a .c))) (gotBy o) (a .c) (a .trusted .now), refl)
+    (omega arith, path-none putHash (λ h. climb sha256 (gotBy o) (bytesOf (a .v .words)) (a .c) h (above h (a .c))) (gotBy o) (a .c) (a .hashes .now), path-none mark (λ h. climb sha256 (gotBy o) (bytesOf (a .v .words)) (a .c) h (above h (a .c))) (gotBy o) (a .c) (a .trusted .now), λ u. refl)
 
-put-step-requires : tie.Need-put-step-requires Inv-loop μ-loop
-put-step-requires c κs = omega arith
+put-pair-requires : tie.Need-put-pair-requires Inv-loop μ-loop
+put-pair-requires c κs = omega arith
+
+next-requires : tie.Need-next-requires Inv-loop μ-loop
+next-requires c κs = omega arith
 
 add-h : tie.Need-add-h Inv-loop μ-loop
 add-h c = record { fits = omega arith }
@@ -40,16 +43,17 @@ loop-less : tie.Need-loop-less Inv-loop μ-loop
 loop-less c = omega arith
 
 loop-again : tie.Need-loop-again Inv-loop μ-loop
-loop-again c = let a = c .before .before .before .before .before .before .before .before .before .before .before .before .before .args in
+loop-again c = let a = c .before .before .before .before .before .before .before .before .before .before .before .before .before .before .args in
     let o = integrityOf (a .entries .now) (a .bytes .now) in
-    let l = c .before .before .before .before .before .before .before .before .loop in
-    let e = c .before .before .before .before .put-step .ensures in (
+    let l = c .before .before .before .before .before .before .before .before .before .loop in
+    let e = c .before .before .before .before .before .put-pair .ensures in
+    let g = l .inv .3 (c .before .before .before .before .before .before .before .before .loop-test .taken) in (
       omega arith,
-      path-more putHash (λ h. climb sha256 (gotBy o) (bytesOf (a .v .words)) (a .c) h (above h (a .c))) (gotBy o) (a .c) (a .hashes .now) (l .h) (e .1) (l .inv .3) (l .inv .1),
-      path-more mark (λ h. climb sha256 (gotBy o) (bytesOf (a .v .words)) (a .c) h (above h (a .c))) (gotBy o) (a .c) (a .trusted .now) (l .h) (e .2) (l .inv .3) (l .inv .2),
-      rw (add-one (l .h))
-          (e .0
-          ∙ ap (λ (x : List ℕ). joined sha256 (a .c) (l .h) (above (suc (l .h)) (a .c)) x (gotBy o (l .h) (other (a .c) (l .h) (above (suc (l .h)) (a .c))))) (l .inv .3)
+      path-more putHash (λ h. climb sha256 (gotBy o) (bytesOf (a .v .words)) (a .c) h (above h (a .c))) (gotBy o) (a .c) (a .hashes .now) (l .h) (e .0) g (l .inv .1),
+      path-more mark (λ h. climb sha256 (gotBy o) (bytesOf (a .v .words)) (a .c) h (above h (a .c))) (gotBy o) (a .c) (a .trusted .now) (l .h) (e .1) g (l .inv .2),
+      rw (add-one (l .h)) (λ u.
+          c .next .ensures u
+          ∙ ap (λ (x : List ℕ). joined sha256 (a .c) (l .h) (above (suc (l .h)) (a .c)) x (gotBy o (l .h) (other (a .c) (l .h) (above (suc (l .h)) (a .c))))) (g)
           ∙ sym (climb-suc sha256 (gotBy o) (bytesOf (a .v .words)) (a .c) (l .h))),
     )
 
@@ -79,7 +83,8 @@ put-path-spec =
     Inv-loop
     μ-loop
     loop-holds
-    put-step-requires
+    put-pair-requires
+    next-requires
     add-h
     loop-less
     loop-again
