@@ -22,7 +22,7 @@ use Rattle.tree.specs.Verdicts.{every, peaksTrusted, counted, verdict, afterBy,
 use Rattle.tree.specs.declared.verdict.Verdict.{Verdict}
 use Rattle.tree.specs.declared.verdict.Verdict.the-variants.{Fits, Missing, WrongPeaks, WrongClimb}
 use Rattle.store.specs.Room.{filler, Digest, hashIn, putHash}
-use Rattle.store.specs.Integrity.{Integrity, message}
+use Rattle.store.specs.Integrity.{Integrity, cameFrom}
 use Rattle.store.specs.Rooms.{Rooms, stateOf, SoundRooms, trustedIn, gotBy}
 use Rattle.store.specs.Storing.{Put, mark, putPeaks, putAll, copied, stored, storeSpec, roomVerdict, roomsBy}
 use Rattle.store.proofs.RoomLaws.{digest-hash, length-putHash, hash-same, hash-other}
@@ -179,12 +179,12 @@ pub agrees-self : (N : ℕ) (s : State) → Agrees N s s
 agrees-self N s = record { nodes = λ h a e i. (refl, refl); chunks-are = λ x i. (refl, refl) }
 
 module _ (L : ℕ) (w : Rooms) (N c : ℕ) (d r : List ℕ) (o : Integrity) (R : Fitting L w N c d) where
-  seen-here : (x : Verdict) → roomVerdict N r (w .hashes) (w .trusted) c d o ≡ x → verdict sha256 filler N r (stateOf L w) c d (message o) ≡ x
+  seen-here : (x : Verdict) → roomVerdict N r (w .hashes) (w .trusted) c d o ≡ x → verdict sha256 filler N r (stateOf L w) c d (cameFrom o) ≡ x
   seen-here x e = sym (verdict-sees N r (w .hashes) (w .trusted) c d o L (w .bytes) (w .map)) ∙ e
 
   -- by the verdict the rooms hold what the theory says
   taken-agrees : (v : Verdict) → roomVerdict N r (w .hashes) (w .trusted) c d o ≡ v
-      → Agrees N (afterBy sha256 filler N r (stateOf L w) c d (message o) v) (stateOf L (roomsBy v w (λ t. storeSpec w N c t d o)))
+      → Agrees N (afterBy sha256 filler N r (stateOf L w) c d (cameFrom o) v) (stateOf L (roomsBy v w (λ t. storeSpec w N c t d o)))
   unfolding storeSpec counted peaksTrusted
   taken-agrees (Fits t) e = go (bitAt (w .map) c)
     where
@@ -205,7 +205,7 @@ module _ (L : ℕ) (w : Rooms) (N c : ℕ) (d r : List ℕ) (o : Integrity) (R :
   taken-sound v e S =
       let T : Sound sha256 filler N r (stateOf L w) = rw (R .pack-is) S in
       let G = taken-agrees v e in
-      let A = after-sound sha256 filler N r (stateOf L w) T c (R .chunk-in) d (message o) in
-      let B : Sound sha256 filler N r (afterBy sha256 filler N r (stateOf L w) c d (message o) v) = rw (seen-here v e) at A in
-      let U = sound-agree sha256 filler N r (afterBy sha256 filler N r (stateOf L w) c d (message o) v) (stateOf L (roomsBy v w (λ t. storeSpec w N c t d o))) (G .nodes) (G .chunks-are) B in
+      let A = after-sound sha256 filler N r (stateOf L w) T c (R .chunk-in) d (cameFrom o) in
+      let B : Sound sha256 filler N r (afterBy sha256 filler N r (stateOf L w) c d (cameFrom o) v) = rw (seen-here v e) at A in
+      let U = sound-agree sha256 filler N r (afterBy sha256 filler N r (stateOf L w) c d (cameFrom o) v) (stateOf L (roomsBy v w (λ t. storeSpec w N c t d o))) (G .nodes) (G .chunks-are) B in
       rw (← (R .pack-is)) U

@@ -15,7 +15,7 @@ use Rattle.tree.specs.Verdicts.{got, every, reachFrom, peaksTrusted, counted, r
 use Rattle.tree.specs.declared.verdict.Verdict.{Verdict}
 use Rattle.tree.specs.declared.verdict.Verdict.the-variants.{Fits, Missing, WrongPeaks, WrongClimb}
 use Rattle.store.specs.Room.{filler}
-use Rattle.store.specs.Integrity.{Integrity, message}
+use Rattle.store.specs.Integrity.{Integrity, cameFrom}
 use Rattle.store.specs.Rooms.{roomsOf, stateOf, trustedIn, cameIn, gotBy}
 use Rattle.store.specs.Steps.{countedBit, countedHash, leafFor}
 use Rattle.store.specs.Storing.{roomVerdict}
@@ -44,61 +44,61 @@ module _ (N : ℕ) (trusted : List ℕ) (c : ℕ) (l : c < N) where
 module _ (L : ℕ) (bytes map : List ℕ) (N : ℕ) (r hashes trusted : List ℕ) (c : ℕ) (d : List ℕ) (o : Integrity) (b : Bool) (t : ℕ) where
   reached-is : (x : Bool)
       → reachFrom (λ h. countedBit x N trusted h (above h c)) (suc (levels N)) 0
-      ≡ reachFrom (λ h. pick x (stateOf L (roomsOf bytes map hashes trusted)) (adopted N (got filler (message o)) (stateOf L (roomsOf bytes map hashes trusted))) .trust h (above h c)) (suc (levels N)) 0
+      ≡ reachFrom (λ h. pick x (stateOf L (roomsOf bytes map hashes trusted)) (adopted N (got filler (cameFrom o)) (stateOf L (roomsOf bytes map hashes trusted))) .trust h (above h c)) (suc (levels N)) 0
   reached-is true = refl
   reached-is false = refl
 
-  target-is : (x : Bool) (h a : ℕ) → countedHash x N hashes o h a ≡ pick x (stateOf L (roomsOf bytes map hashes trusted)) (adopted N (got filler (message o)) (stateOf L (roomsOf bytes map hashes trusted))) .hash h a
+  target-is : (x : Bool) (h a : ℕ) → countedHash x N hashes o h a ≡ pick x (stateOf L (roomsOf bytes map hashes trusted)) (adopted N (got filler (cameFrom o)) (stateOf L (roomsOf bytes map hashes trusted))) .hash h a
   target-is true h a = refl
   target-is false h a = refl
 
   module _ (bo : b ≡ every (trustedIn trusted) (peaks N)) (tr : t ≡ reachFrom (λ h. countedBit b N trusted h (above h c)) (suc (levels N)) 0) where
-    is-peaksTrusted : b ≡ peaksTrusted sha256 filler N r (stateOf L (roomsOf bytes map hashes trusted)) c d (message o)
+    is-peaksTrusted : b ≡ peaksTrusted sha256 filler N r (stateOf L (roomsOf bytes map hashes trusted)) c d (cameFrom o)
     unfolding peaksTrusted
     is-peaksTrusted = bo
 
-    is-reached : t ≡ reached sha256 filler N r (stateOf L (roomsOf bytes map hashes trusted)) c d (message o)
+    is-reached : t ≡ reached sha256 filler N r (stateOf L (roomsOf bytes map hashes trusted)) c d (cameFrom o)
     unfolding reached counted
-    is-reached = tr ∙ reached-is b ∙ ap (λ (x : Bool). reachFrom (λ h. pick x (stateOf L (roomsOf bytes map hashes trusted)) (adopted N (got filler (message o)) (stateOf L (roomsOf bytes map hashes trusted))) .trust h (above h c)) (suc (levels N)) 0) is-peaksTrusted
+    is-reached = tr ∙ reached-is b ∙ ap (λ (x : Bool). reachFrom (λ h. pick x (stateOf L (roomsOf bytes map hashes trusted)) (adopted N (got filler (cameFrom o)) (stateOf L (roomsOf bytes map hashes trusted))) .trust h (above h c)) (suc (levels N)) 0) is-peaksTrusted
 
-    is-complete : pick (pick b true (every (cameIn o) (peaks N))) (every (cameIn o) (siblings c t (above t c))) false ≡ complete sha256 filler N r (stateOf L (roomsOf bytes map hashes trusted)) c d (message o)
+    is-complete : pick (pick b true (every (cameIn o) (peaks N))) (every (cameIn o) (siblings c t (above t c))) false ≡ complete sha256 filler N r (stateOf L (roomsOf bytes map hashes trusted)) c d (cameFrom o)
     unfolding complete
     is-complete = rw (is-peaksTrusted, is-reached)
 
-    is-rooted : pick b true (same (given sha256 filler N (gotBy o) (levels N) 0) r) ≡ rooted sha256 filler N r (stateOf L (roomsOf bytes map hashes trusted)) c d (message o)
+    is-rooted : pick b true (same (given sha256 filler N (gotBy o) (levels N) 0) r) ≡ rooted sha256 filler N r (stateOf L (roomsOf bytes map hashes trusted)) c d (cameFrom o)
     unfolding combined rooted
     is-rooted = rw is-peaksTrusted
 
-    is-met : same (climb sha256 (gotBy o) (sha256 d) c t (above t c)) (countedHash b N hashes o t (above t c)) ≡ met sha256 filler N r (stateOf L (roomsOf bytes map hashes trusted)) c d (message o)
+    is-met : same (climb sha256 (gotBy o) (sha256 d) c t (above t c)) (countedHash b N hashes o t (above t c)) ≡ met sha256 filler N r (stateOf L (roomsOf bytes map hashes trusted)) c d (cameFrom o)
     unfolding counted met
     is-met = rw (target-is b t (above t c), is-peaksTrusted, is-reached)
 
     module _ (u : Bool) (uo : u ≡ pick (pick b true (every (cameIn o) (peaks N))) (every (cameIn o) (siblings c t (above t c))) false) where
-      pub at-missing : u ≡ false → Missing ≡ verdict sha256 filler N r (stateOf L (roomsOf bytes map hashes trusted)) c d (message o)
+      pub at-missing : u ≡ false → Missing ≡ verdict sha256 filler N r (stateOf L (roomsOf bytes map hashes trusted)) c d (cameFrom o)
       unfolding verdict
       at-missing e = sym (rw (sym is-complete ∙ sym uo ∙ e))
 
       module _ (v : Bool) (vo : v ≡ pick b true (same (given sha256 filler N (gotBy o) (levels N) 0) r)) (ut : u ≡ true) where
-        pub at-peaks : v ≡ false → WrongPeaks ≡ verdict sha256 filler N r (stateOf L (roomsOf bytes map hashes trusted)) c d (message o)
+        pub at-peaks : v ≡ false → WrongPeaks ≡ verdict sha256 filler N r (stateOf L (roomsOf bytes map hashes trusted)) c d (cameFrom o)
         unfolding verdict
-        at-peaks e = sym (cases (complete sha256 filler N r (stateOf L (roomsOf bytes map hashes trusted)) c d (message o)) (rooted sha256 filler N r (stateOf L (roomsOf bytes map hashes trusted)) c d (message o)) (sym is-complete ∙ sym uo ∙ ut) (sym is-rooted ∙ sym vo ∙ e))
+        at-peaks e = sym (cases (complete sha256 filler N r (stateOf L (roomsOf bytes map hashes trusted)) c d (cameFrom o)) (rooted sha256 filler N r (stateOf L (roomsOf bytes map hashes trusted)) c d (cameFrom o)) (sym is-complete ∙ sym uo ∙ ut) (sym is-rooted ∙ sym vo ∙ e))
           where
-            cases : (x y : Bool) → x ≡ true → y ≡ false → pick x (pick y (pick (met sha256 filler N r (stateOf L (roomsOf bytes map hashes trusted)) c d (message o)) (Fits (reached sha256 filler N r (stateOf L (roomsOf bytes map hashes trusted)) c d (message o))) WrongClimb) WrongPeaks) Missing ≡ WrongPeaks
+            cases : (x y : Bool) → x ≡ true → y ≡ false → pick x (pick y (pick (met sha256 filler N r (stateOf L (roomsOf bytes map hashes trusted)) c d (cameFrom o)) (Fits (reached sha256 filler N r (stateOf L (roomsOf bytes map hashes trusted)) c d (cameFrom o))) WrongClimb) WrongPeaks) Missing ≡ WrongPeaks
             cases x y p q = rw (p, q)
 
         module _ (w : Bool) (wo : w ≡ same (climb sha256 (gotBy o) (sha256 d) c t (above t c)) (countedHash b N hashes o t (above t c))) (vt : v ≡ true) where
-          pick-last : pick (complete sha256 filler N r (stateOf L (roomsOf bytes map hashes trusted)) c d (message o)) (pick (rooted sha256 filler N r (stateOf L (roomsOf bytes map hashes trusted)) c d (message o)) (pick (met sha256 filler N r (stateOf L (roomsOf bytes map hashes trusted)) c d (message o)) (Fits (reached sha256 filler N r (stateOf L (roomsOf bytes map hashes trusted)) c d (message o))) WrongClimb) WrongPeaks) Missing
+          pick-last : pick (complete sha256 filler N r (stateOf L (roomsOf bytes map hashes trusted)) c d (cameFrom o)) (pick (rooted sha256 filler N r (stateOf L (roomsOf bytes map hashes trusted)) c d (cameFrom o)) (pick (met sha256 filler N r (stateOf L (roomsOf bytes map hashes trusted)) c d (cameFrom o)) (Fits (reached sha256 filler N r (stateOf L (roomsOf bytes map hashes trusted)) c d (cameFrom o))) WrongClimb) WrongPeaks) Missing
               ≡ pick w (Fits t) WrongClimb
           pick-last = cases _ _ _ _ (sym is-complete ∙ sym uo ∙ ut) (sym is-rooted ∙ sym vo ∙ vt) (sym is-met ∙ sym wo) (sym is-reached)
             where
               cases : (x y z : Bool) (h : ℕ) → x ≡ true → y ≡ true → z ≡ w → h ≡ t → pick x (pick y (pick z (Fits h) WrongClimb) WrongPeaks) Missing ≡ pick w (Fits t) WrongClimb
               cases x y z h p q m n = rw (p, q, m, n)
 
-          pub at-climb : w ≡ false → WrongClimb ≡ verdict sha256 filler N r (stateOf L (roomsOf bytes map hashes trusted)) c d (message o)
+          pub at-climb : w ≡ false → WrongClimb ≡ verdict sha256 filler N r (stateOf L (roomsOf bytes map hashes trusted)) c d (cameFrom o)
           unfolding verdict
           at-climb e = sym (pick-last ∙ rw e)
 
-          pub at-fits : w ≡ true → Fits t ≡ verdict sha256 filler N r (stateOf L (roomsOf bytes map hashes trusted)) c d (message o)
+          pub at-fits : w ≡ true → Fits t ≡ verdict sha256 filler N r (stateOf L (roomsOf bytes map hashes trusted)) c d (cameFrom o)
           unfolding verdict
           at-fits e = sym (pick-last ∙ rw e)
 
@@ -110,7 +110,7 @@ module _ (N : ℕ) (r hashes trusted : List ℕ) (c : ℕ) (d : List ℕ) (o : I
   abbrev reaches : ℕ
   reaches = reachFrom (λ h. countedBit openly N trusted h (above h c)) (suc (levels N)) 0
 
-  in-rooms : verdict sha256 filler N r (stateOf L (roomsOf bytes map hashes trusted)) c d (message o)
+  in-rooms : verdict sha256 filler N r (stateOf L (roomsOf bytes map hashes trusted)) c d (cameFrom o)
       ≡ pick (pick (pick openly true (every (cameIn o) (peaks N))) (every (cameIn o) (siblings c reaches (above reaches c))) false)
       (pick (pick openly true (same (given sha256 filler N (gotBy o) (levels N) 0) r))
       (pick (same (climb sha256 (gotBy o) (sha256 d) c reaches (above reaches c)) (countedHash openly N hashes o reaches (above reaches c))) (Fits reaches) WrongClimb) WrongPeaks) Missing
@@ -121,21 +121,21 @@ module _ (N : ℕ) (r hashes trusted : List ℕ) (c : ℕ) (d : List ℕ) (o : I
       cases u u′ v v′ w w′ h h′ e f g i = rw (e, f, g, i)
 
 pub verdict-sees : (N : ℕ) (r hashes trusted : List ℕ) (c : ℕ) (d : List ℕ) (o : Integrity) (L : ℕ) (bytes map : List ℕ)
-    → roomVerdict N r hashes trusted c d o ≡ verdict sha256 filler N r (stateOf L (roomsOf bytes map hashes trusted)) c d (message o)
+    → roomVerdict N r hashes trusted c d o ≡ verdict sha256 filler N r (stateOf L (roomsOf bytes map hashes trusted)) c d (cameFrom o)
 unfolding roomVerdict
 verdict-sees N r hashes trusted c d o L bytes map = in-rooms N r hashes trusted c d o 0 [] [] ∙ sym (in-rooms N r hashes trusted c d o L bytes map)
 
 -- the height reached, in the theory's words
 is-counted : (N : ℕ) (r hashes trusted : List ℕ) (c : ℕ) (d : List ℕ) (o : Integrity)
     → reachFrom (λ h. countedBit (every (trustedIn trusted) (peaks N)) N trusted h (above h c)) (suc (levels N)) 0
-    ≡ reachFrom (λ h. counted sha256 filler N r (stateOf 0 (roomsOf [] [] hashes trusted)) c d (message o) .trust h (above h c)) (suc (levels N)) 0
+    ≡ reachFrom (λ h. counted sha256 filler N r (stateOf 0 (roomsOf [] [] hashes trusted)) c d (cameFrom o) .trust h (above h c)) (suc (levels N)) 0
 unfolding counted peaksTrusted
 is-counted N r hashes trusted c d o = reached-is 0 [] [] N r hashes trusted c d o true 0 (every (trustedIn trusted) (peaks N))
 
 -- a chunk that fits hangs below a node of the tree
 pub fits-within : (N : ℕ) (r hashes trusted : List ℕ) (c : ℕ) (d : List ℕ) (o : Integrity) (t : ℕ) → c < N → roomVerdict N r hashes trusted c d o ≡ Fits t → t ≤ levels N
 fits-within N r hashes trusted c d o t l e =
-    let f = fits-means sha256 filler N r (stateOf 0 (roomsOf [] [] hashes trusted)) c d (message o) t (sym (verdict-sees N r hashes trusted c d o 0 [] []) ∙ e) in
+    let f = fits-means sha256 filler N r (stateOf 0 (roomsOf [] [] hashes trusted)) c d (cameFrom o) t (sym (verdict-sees N r hashes trusted c d o 0 [] []) ∙ e) in
     let j = reach-in N trusted c l (every (trustedIn trusted) (peaks N)) refl t (f .reached-is ∙ sym (is-counted N r hashes trusted c d o)) in
     j .0
 

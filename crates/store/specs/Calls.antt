@@ -20,15 +20,14 @@ pub record Out : Type 0 where
 abbrev pub outOf : ℕ → Rooms → Out
 outOf n w = record { answer = n; rooms = w }
 
--- A refused call alters nothing.
-abbrev pub decide : ℕ → Rooms → Rooms → Out
-decide zero old new = outOf zero new
-decide (suc n) old new = outOf (suc n) old
-
--- The same before a call that may still refuse.
+-- A call refused with a number alters nothing; with 0 it gives what follows.
 abbrev pub unless : ℕ → Rooms → Out → Out
 unless zero old out = out
 unless (suc n) old out = outOf (suc n) old
+
+-- What follows where nothing else can refuse: the answer 0 and the new rooms.
+abbrev pub decide : ℕ → Rooms → Rooms → Out
+decide n old new = unless n old (outOf 0 new)
 
 -- The rooms, by their lengths, for an order of length L.
 abbrev pub roomsAnswer : ℕ → Rooms → ℕ

@@ -9,7 +9,7 @@ use lib.ListN.{length, drop}
 use Rattle.hash.proofs.Promise.{bytesOf, words}
 use Rattle.tree.specs.Pick.{pick}
 use Rattle.tree.specs.Bin.{bin}
-use Rattle.tree.specs.Verdicts.{Message, isThere, orElse}
+use Rattle.tree.specs.Verdicts.{Came, isThere, orElse}
 use Rattle.store.specs.Room.{filler}
 
 -- The entries, a node's number and a place in turn, and the bytes.
@@ -41,8 +41,8 @@ unfoldable pub hashFor : Integrity → ℕ → Option (List ℕ)
 hashFor o b = hashFrom (o .bytes) (find (o .entries) b)
 
 -- By height and first chunk.
-abbrev pub message : Integrity → Message
-message o h a = hashFor o (bin h a)
+abbrev pub cameFrom : Integrity → Came
+cameFrom o h a = hashFor o (bin h a)
 
 -- Whether it came; one that didn't is read as the filler, and no verdict but "missing" hangs on it.
 abbrev pub came : Integrity → ℕ → Bool

@@ -17,7 +17,7 @@ use Rattle.tree.specs.Verdicts.{every, verdict}
 use Rattle.tree.specs.declared.verdict.Verdict.{Verdict}
 use Rattle.tree.specs.declared.verdict.Verdict.the-variants.{Fits, Missing, WrongPeaks, WrongClimb}
 use Rattle.store.specs.Room.{filler, putHash}
-use Rattle.store.specs.Integrity.{Integrity, message}
+use Rattle.store.specs.Integrity.{Integrity, cameFrom}
 use Rattle.store.specs.Rooms.{Rooms, roomsOf, stateOf, trustedIn, gotBy}
 
 -- How a node's hash is put into a room: written in the hash room, marked in the row of trusted nodes.
@@ -68,7 +68,7 @@ storeSpec w N c t d o = pick (bitAt (w .map) c) w (stored w N c t d o)
 
 -- The verdict on a chunk: the hashes and the trusted nodes alone are looked at.
 unfoldable pub roomVerdict : ℕ → List ℕ → List ℕ → List ℕ → ℕ → List ℕ → Integrity → Verdict
-roomVerdict N r hashes trusted c d o = verdict sha256 filler N r (stateOf 0 (roomsOf [] [] hashes trusted)) c d (message o)
+roomVerdict N r hashes trusted c d o = verdict sha256 filler N r (stateOf 0 (roomsOf [] [] hashes trusted)) c d (cameFrom o)
 
 -- The rooms by the verdict: a chunk that fits is stored, any other changes nothing.
 abbrev pub roomsBy : Verdict → Rooms → (ℕ → Rooms) → Rooms

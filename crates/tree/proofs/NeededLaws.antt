@@ -14,7 +14,7 @@ use Rattle.tree.specs.Pack.{levels}
 use Rattle.tree.specs.Peaks.{peaks, peakOf, siblings}
 use Rattle.tree.specs.Tree.{climb}
 use Rattle.tree.specs.State.{State, isPeak, adopted}
-use Rattle.tree.specs.Verdicts.{Message, isThere, orElse, got, every, reachFrom, peaksTrusted, counted, reached, complete, rooted, met, verdict}
+use Rattle.tree.specs.Verdicts.{Came, isThere, orElse, got, every, reachFrom, peaksTrusted, counted, reached, complete, rooted, met, verdict}
 use Rattle.tree.specs.Steps.{peakBit, peakAt, siblingAt, peaksBelow}
 use Rattle.tree.proofs.NodeLaws.{down-above, whole-below, above-aligned}
 use Rattle.tree.proofs.PackLaws.{high-bound}
@@ -42,11 +42,11 @@ siblings-agree f g c (suc t) p =
     rw (down-above t c) (ap₂ (λ (x y : Bool). pick x y false) (p t (omega arith)) (siblings-agree f g c t (λ h l. p h (omega arith))))
 
 -- on what is needed for chunk c
-pub record SameNeeded (N c : ℕ) (m n : Message) : Type 0 where
+pub record SameNeeded (N c : ℕ) (m n : Came) : Type 0 where
   pub at-peaks : (h a : ℕ) → above h a ≡ a → isPeak N h a ≡ true → m h a ≡ n h a
   pub at-siblings : (h : ℕ) → above (suc h) c + 2 ^ suc h ≤ N → m h (other c h (above (suc h) c)) ≡ n h (other c h (above (suc h) c))
 
-module _ (H : List ℕ → List ℕ) (Z : List ℕ) (N : ℕ) (r : List ℕ) (s : State) (c : ℕ) (l : c < N) (d : List ℕ) (m n : Message) (A : SameNeeded N c m n) where
+module _ (H : List ℕ → List ℕ) (Z : List ℕ) (N : ℕ) (r : List ℕ) (s : State) (c : ℕ) (l : c < N) (d : List ℕ) (m n : Came) (A : SameNeeded N c m n) where
   -- which node is reached hangs on the store alone
   trust-same : (b : Bool) (h : ℕ) → pick b s (adopted N (got Z m) s) .trust h (above h c) ≡ pick b s (adopted N (got Z n) s) .trust h (above h c)
   trust-same true h = refl

@@ -12,7 +12,7 @@ use Rattle.tree.specs.Pack.{levels}
 use Rattle.tree.specs.Peaks.{peaks, peakOf}
 use Rattle.tree.specs.Tree.{combined, climb}
 use Rattle.tree.specs.State.{State, adopted, hung, AllPeaks, Sound}
-use Rattle.tree.specs.Verdicts.{Message, got, every, reachFrom, peaksTrusted, counted, reached, complete, rooted, met, verdict, afterBy, after}
+use Rattle.tree.specs.Verdicts.{Came, got, every, reachFrom, peaksTrusted, counted, reached, complete, rooted, met, verdict, afterBy, after}
 use Rattle.tree.specs.declared.verdict.Verdict.{Verdict}
 use Rattle.tree.specs.declared.verdict.Verdict.the-variants.{Fits, Missing, WrongPeaks, WrongClimb}
 use Rattle.tree.proofs.NodeLaws.{split, whole-below, above-aligned}
@@ -70,13 +70,13 @@ module _ (H : List ℕ → List ℕ) (Z : List ℕ) (N : ℕ) (r : List ℕ) (s 
 -- ---- taking a chunk
 
 -- what a verdict that the chunk fits says
-pub record FitsMeans (H : List ℕ → List ℕ) (Z : List ℕ) (N : ℕ) (r : List ℕ) (s : State) (c : ℕ) (d : List ℕ) (m : Message) (t : ℕ) : Type 0 where
+pub record FitsMeans (H : List ℕ → List ℕ) (Z : List ℕ) (N : ℕ) (r : List ℕ) (s : State) (c : ℕ) (d : List ℕ) (m : Came) (t : ℕ) : Type 0 where
   pub complete-is : complete H Z N r s c d m ≡ true
   pub rooted-is : rooted H Z N r s c d m ≡ true
   pub reached-is : t ≡ reachFrom (λ h. counted H Z N r s c d m .trust h (above h c)) (suc (levels N)) 0
   pub met-is : climb H (got Z m) (H d) c t (above t c) ≡ counted H Z N r s c d m .hash t (above t c)
 
-pub fits-means : (H : List ℕ → List ℕ) (Z : List ℕ) (N : ℕ) (r : List ℕ) (s : State) (c : ℕ) (d : List ℕ) (m : Message) (t : ℕ) → verdict H Z N r s c d m ≡ Fits t
+pub fits-means : (H : List ℕ → List ℕ) (Z : List ℕ) (N : ℕ) (r : List ℕ) (s : State) (c : ℕ) (d : List ℕ) (m : Came) (t : ℕ) → verdict H Z N r s c d m ≡ Fits t
     → FitsMeans H Z N r s c d m t
 unfolding verdict met reached
 fits-means H Z N r s c d m t =
@@ -101,7 +101,7 @@ fits-means H Z N r s c d m t =
           met-is = rw g at (same-is (climb H (got Z m) (H d) c u (above u c)) (counted H Z N r s c d m .hash u (above u c)) i);
         }
 
-module _ (H : List ℕ → List ℕ) (Z : List ℕ) (N : ℕ) (r : List ℕ) (s : State) (S : Sound H Z N r s) (c : ℕ) (l : c < N) (d : List ℕ) (m : Message) where
+module _ (H : List ℕ → List ℕ) (Z : List ℕ) (N : ℕ) (r : List ℕ) (s : State) (S : Sound H Z N r s) (c : ℕ) (l : c < N) (d : List ℕ) (m : Came) where
   counted-ok : rooted H Z N r s c d m ≡ true
       → Sound H Z N r (counted H Z N r s c d m) × AllPeaks N (counted H Z N r s c d m)
   unfolding counted peaksTrusted rooted

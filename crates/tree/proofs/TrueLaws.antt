@@ -14,7 +14,7 @@ use Rattle.tree.specs.Pack.{levels}
 use Rattle.tree.specs.Peaks.{peaks, peakOf, siblings}
 use Rattle.tree.specs.Tree.{tree, root, combined, joined, climb}
 use Rattle.tree.specs.State.{State, isPeak, adopted}
-use Rattle.tree.specs.Verdicts.{Message, isThere, orElse, got, every, peaksTrusted, counted, reached, complete, rooted, met, verdict}
+use Rattle.tree.specs.Verdicts.{Came, isThere, orElse, got, every, peaksTrusted, counted, reached, complete, rooted, met, verdict}
 use Rattle.tree.specs.Steps.{peakBit, peakAt, siblingAt, peaksBelow}
 use Rattle.tree.specs.declared.verdict.Verdict.the-variants.{Fits}
 use Rattle.tree.proofs.NodeLaws.{down-above, whole-below, above-aligned}
@@ -59,12 +59,12 @@ module _ (H : List ℕ → List ℕ) (Z : List ℕ) (N : ℕ) (chunk : ℕ → L
   HoldsTrue s = (h a : ℕ) → above h a ≡ a → a + 2 ^ h ≤ N → s .trust h a ≡ true → s .hash h a ≡ tree H Z N chunk h a
 
   -- the true hashes of all peaks and of the siblings below chunk c's peak came: what goes out with the chunk
-  pub record BringsTrue (c : ℕ) (m : Message) : Type 0 where
+  pub record BringsTrue (c : ℕ) (m : Came) : Type 0 where
     pub at-peaks : (h a : ℕ) → above h a ≡ a → isPeak N h a ≡ true → m h a ≡ some (tree H Z N chunk h a)
     pub at-siblings : (h : ℕ) → above (suc h) c + 2 ^ suc h ≤ N
         → m h (other c h (above (suc h) c)) ≡ some (tree H Z N chunk h (other c h (above (suc h) c)))
 
-  module _ (s : State) (T : HoldsTrue s) (c : ℕ) (l : c < N) (m : Message) (B : BringsTrue c m) where
+  module _ (s : State) (T : HoldsTrue s) (c : ℕ) (l : c < N) (m : Came) (B : BringsTrue c m) where
     abbrev r : List ℕ
     r = root H Z N chunk
 

@@ -15,8 +15,8 @@ use Rattle.tree.specs.declared.verdict.Verdict.{Verdict}
 use Rattle.tree.specs.declared.verdict.Verdict.the-variants.{Fits, Missing, WrongPeaks, WrongClimb}
 
 -- The hashes that came, by node.
-abbrev pub Message : Type 0
-Message = ℕ → ℕ → Option (List ℕ)
+abbrev pub Came : Type 0
+Came = ℕ → ℕ → Option (List ℕ)
 
 abbrev pub isThere : Option (List ℕ) → Bool
 isThere none = false
@@ -27,7 +27,7 @@ orElse z none = z
 orElse z (some v) = v
 
 -- One that isn't there is read as the filler: no verdict but Missing hangs on it.
-abbrev pub got : List ℕ → Message → ℕ → ℕ → List ℕ
+abbrev pub got : List ℕ → Came → ℕ → ℕ → List ℕ
 got Z m h a = orElse Z (m h a)
 
 unfoldable pub every : (Node → Bool) → List Node → Bool
@@ -39,7 +39,7 @@ unfoldable pub reachFrom : (ℕ → Bool) → ℕ → ℕ → ℕ
 reachFrom f zero h = h
 reachFrom f (suc d) h = pick (f h) h (reachFrom f d (suc h))
 
-module _ (H : List ℕ → List ℕ) (Z : List ℕ) (N : ℕ) (r : List ℕ) (s : State) (c : ℕ) (d : List ℕ) (m : Message) where
+module _ (H : List ℕ → List ℕ) (Z : List ℕ) (N : ℕ) (r : List ℕ) (s : State) (c : ℕ) (d : List ℕ) (m : Came) where
   -- The peaks are trusted already.
   unfoldable pub peaksTrusted : Bool
   peaksTrusted = every (λ n. s .trust (n .high) (n .from)) (peaks N)
