@@ -44,15 +44,18 @@ SoundRooms L r w = Sound sha256 filler (countOf L) r (stateOf L w)
 
 -- ---- by node
 
+-- Whether a node is trusted.
 abbrev pub trustedIn : List ℕ → Node → Bool
 trustedIn trusted n = bitAt trusted (num n)
 
+-- Whether its hash came.
 abbrev pub cameIn : Integrity → Node → Bool
 cameIn o n = came o (num n)
 
--- The hash that came, or that of the room.
+-- The hash that came for a node, by its height and first chunk.
 abbrev pub gotBy : Integrity → ℕ → ℕ → List ℕ
 gotBy o h a = gotAt o (bin h a)
 
+-- The hash that the room holds for it.
 abbrev pub heldBy : List ℕ → ℕ → ℕ → List ℕ
 heldBy hashes h a = hashIn hashes (bin h a)

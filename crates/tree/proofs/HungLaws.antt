@@ -39,8 +39,8 @@ module _ (H : List ℕ → List ℕ) (Z : List ℕ) (N : ℕ) (r : List ℕ) (s 
   -- so nothing trusted is written
   pub path-untrusted : (h a : ℕ) → above h a ≡ a → onPath c t h a ≡ true → s .trust h a ≡ false
   path-untrusted h a e f =
-      let g = both-true (ltb h t) (eqb (above (suc h) a) (above (suc h) c)) f in
-      go (eqb-true (above (suc h) a) (above (suc h) c) (g .1)) (kids h (ltb-true h t (g .0))) (child-cases h a e)
+      let g = both-true _ _ f in
+      go (eqb-true _ _ (g .1)) (kids h (ltb-true _ _ (g .0))) (child-cases h a e)
     where
       go : above (suc h) a ≡ above (suc h) c → (s .trust h (above (suc h) c) ≡ false) × (s .trust h (above (suc h) c + 2 ^ h) ≡ false)
           → (a ≡ above (suc h) a) ⊎ (a ≡ above (suc h) a + 2 ^ h) → s .trust h a ≡ false

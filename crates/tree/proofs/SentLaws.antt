@@ -13,7 +13,7 @@ use lib.Pow.{pow-pos}
 use Rattle.tree.specs.Pick.{pick}
 use Rattle.tree.specs.Node.{Node, node, other, above}
 use Rattle.tree.specs.Pack.{levels}
-use Rattle.tree.specs.Peaks.{peaks, peakOf, siblings, insert, sort, sent}
+use Rattle.tree.specs.Peaks.{peaks, peakOf, siblings, before, insert, sort, sent}
 use Rattle.tree.specs.Steps.{peakBit, peakAt, siblingAt, peakTurn, peaksBelow, sentBelow}
 use Rattle.tree.proofs.NodeLaws.{split, above-in, down-above, whole-below}
 use Rattle.tree.proofs.PackLaws.{high-bound}
@@ -34,13 +34,15 @@ insert-front h a (n ∷ ns) b =
     let l = b .0 in
     rw (ne-eqb h (n .high) (λ e. omega arith), lt-ltb (n .high) h l)
 
-insert-back : (m n : Node) (ns : List Node) → m .high < n .high → insert m (n ∷ ns) ≡ n ∷ insert m ns
+insert-after : (m n : Node) (ns : List Node) → before m n ≡ false → insert m (n ∷ ns) ≡ n ∷ insert m ns
 unfolding insert
-insert-back m n ns l = rw (ne-eqb (m .high) (n .high) (λ e. omega arith), le-ltb (n .high) (m .high) (omega arith))
+insert-after m n ns e = ap (λ (t : Bool). pick t (m ∷ n ∷ ns) (n ∷ insert m ns)) e
+
+insert-back : (m n : Node) (ns : List Node) → m .high < n .high → insert m (n ∷ ns) ≡ n ∷ insert m ns
+insert-back m n ns l = insert-after m n ns (rw (ne-eqb (m .high) (n .high) (λ e. omega arith)) (le-ltb (n .high) (m .high) (omega arith)))
 
 insert-same : (h a b : ℕ) (ns : List Node) → b < a → insert (node h a) (node h b ∷ ns) ≡ node h b ∷ insert (node h a) ns
-unfolding insert
-insert-same h a b ns l = rw (eq-eqb h h refl, lt-leb a b l)
+insert-same h a b ns l = insert-after (node h a) (node h b) ns (rw (eq-eqb h h refl) (lt-leb a b l))
 
 -- ---- sorting a list that begins with the peaks
 
