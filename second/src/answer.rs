@@ -2,6 +2,12 @@
 
 /// Done.
 pub const DONE: u8 = 0;
+/// A datagram under 4 or over 2,048 bytes.
+pub const BAD_SIZE: u8 = 1;
+/// A message that cannot be read as 01's table says, or comes after DATA.
+pub const BAD_LAYOUT: u8 = 2;
+/// A HANDSHAKE that is not alone or cannot be, or closes in a wrong way.
+pub const MISPLACED: u8 = 3;
 /// A chunk past the last one.
 pub const PAST_THE_END: u8 = 7;
 /// A chunk of another length than its number has.

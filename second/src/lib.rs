@@ -12,3 +12,6 @@ pub mod store;
 pub mod tree;
 pub mod tree_vectors;
 pub mod vectors;
+pub mod wire;
+pub mod wire_cases;
+pub mod wire_vectors;

@@ -2,7 +2,7 @@
 
 #![forbid(unsafe_code)]
 
-use second::{hex, sha256::Sha256, tree_vectors, vectors};
+use second::{hex, sha256::Sha256, tree_vectors, vectors, wire_vectors};
 use std::io::{self, BufWriter, ErrorKind, Read, Write};
 use std::process::ExitCode;
 
@@ -10,7 +10,11 @@ const USAGE: &str = "\
 usage: second COMMAND
   sha256-vectors   print the label and the digest of each test vector
   sha256           print the digest of standard input
-  tree-vectors     print the nodes, orders, packs and answers of the tests";
+  tree-vectors     print the nodes, orders, packs and answers of the tests
+  wire-frames      read hand-made datagrams from standard input, and write each
+                   behind its length in two bytes
+  wire-vectors     read them, and print what each holds and how writing it again
+                   goes; fail if a number made by hand is not the program's";
 
 fn main() -> ExitCode {
     let arguments: Vec<_> = std::env::args_os().skip(1).collect();
@@ -22,6 +26,8 @@ fn main() -> ExitCode {
         Some("sha256-vectors") => sha256_vectors(),
         Some("sha256") => sha256_of_input(),
         Some("tree-vectors") => tree_vectors(),
+        Some("wire-frames") => wire_frames(),
+        Some("wire-vectors") => wire_vectors(),
         _ => {
             eprintln!("{USAGE}");
             return ExitCode::from(2);
@@ -65,4 +71,21 @@ fn tree_vectors() -> io::Result<()> {
     let mut output = BufWriter::new(io::stdout().lock());
     tree_vectors::write(&mut output)?;
     output.flush()
+}
+
+fn wire_frames() -> io::Result<()> {
+    let all = hand_made_input()?;
+    let mut output = BufWriter::new(io::stdout().lock());
+    wire_vectors::write_frames(&mut output, &all)?;
+    output.flush()
+}
+
+fn wire_vectors() -> io::Result<()> {
+    let all = hand_made_input()?;
+    let mut output = BufWriter::new(io::stdout().lock());
+    wire_vectors::write_vectors(&mut output, &all)
+}
+
+fn hand_made_input() -> io::Result<Vec<wire_vectors::HandMade>> {
+    wire_vectors::parse(&io::read_to_string(io::stdin().lock())?)
 }

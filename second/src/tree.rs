@@ -55,13 +55,14 @@ pub fn parent(node: u64) -> u64 {
 
 /// The node that covers the chunks `first` to `last`, both included, if one
 /// does: their number is a power of two, and `first` a multiple of it.
+#[inline]
 pub fn node_of_range(first: u32, last: u32) -> Option<u64> {
     if first > last {
         return None;
     }
     let (first, last) = (u64::from(first), u64::from(last));
     let width = last - first + 1;
-    (width.is_power_of_two() && first % width == 0).then_some(2 * first + (width - 1))
+    (width.is_power_of_two() && first & (width - 1) == 0).then_some(2 * first + (width - 1))
 }
 
 /// The number of chunks of a pack of `length` bytes.

@@ -1,0 +1,139 @@
+-- Laws of the layout checks of one message, test by test as the code has them. Assumes nothing.
+use Prim.Native.Nat.{ℕ, zero, suc, _+_, _-_, _<_, _≤_}
+use native.Mathlib.Omega.{arith}
+use native.Mathlib.Numerals.{add-one}
+use mathlib.Core.Path.{_≡_, refl, sym, _∙_}
+use mathlib.Core.List.{List, [], _∷_}
+use mathlib.Core.Bool.{Bool, true, false}
+use lib.ListN.{length, getD, take, drop, set}
+use borrow.Author.Tests.{lt-ltb, le-ltb, eq-eqb, ne-eqb}
+use Rattle.wire.specs.Bytes.{be32, placed}
+use Rattle.wire.specs.Limits.{minSize, maxSize, entryWords}
+use Rattle.wire.specs.Layout.{Checked, checkedOf, seen, isEndOnly, handshakeFault, orFault, handshakeLayout, layoutOf, checkSpec}
+use Rattle.wire.specs.Steps.{turnedOf, noted, passed}
+use Rattle.wire.specs.declared.message.Options.{Options}
+use Rattle.wire.specs.declared.layout.Layout.the-variants.{Fault, HandshakeAlone}
+use Rattle.wire.specs.declared.layout.Turn.the-variants.{On, Over}
+
+-- ---- whether a node is among the entries: one turn of the search, and its end
+
+module _ (x : ℕ) where
+  -- the first entry is the node
+  pub seen-here : (es : List ℕ) → 2 ≤ length es → getD es 0 0 ≡ x → seen x es ≡ true
+  unfolding seen
+  seen-here [] h e = absurd (omega arith)
+  seen-here (n ∷ []) h e = absurd (omega arith)
+  seen-here (n ∷ p ∷ es) h e = rw (eq-eqb n x e)
+
+  -- the first entry is another node
+  pub seen-on : (es : List ℕ) → 2 ≤ length es → (getD es 0 0 ≡ x → ⊥) → seen x es ≡ seen x (drop 2 es)
+  unfolding seen
+  seen-on [] h e = absurd (omega arith)
+  seen-on (n ∷ []) h e = absurd (omega arith)
+  seen-on (n ∷ p ∷ es) h e = rw (ne-eqb n x e)
+
+  -- no entry is left
+  pub seen-out : (es : List ℕ) → length es < 2 → seen x es ≡ false
+  unfolding seen
+  seen-out [] h = refl
+  seen-out (n ∷ []) h = refl
+  seen-out (n ∷ p ∷ es) h = absurd (omega arith)
+
+-- ---- a HANDSHAKE's channel numbers and options
+
+module _ (to a : ℕ) (o : Options) where
+  -- it opens a channel
+  pub fault-none : (a ≡ 0 → ⊥) → 0 ≡ handshakeFault to a o
+  unfolding handshakeFault
+  fault-none h = simp (ne-eqb _ _ h)
+
+  module _ (closing : a ≡ 0) where
+    -- both numbers are 0
+    pub fault-zero : to ≡ 0 → 3 ≡ handshakeFault to a o
+    unfolding handshakeFault
+    fault-zero h = simp (eq-eqb _ _ closing, eq-eqb _ _ h)
+
+    module _ (other : to ≡ 0 → ⊥) (b : Bool) (g : b ≡ isEndOnly o) where
+      -- it closes, with End alone
+      pub fault-closing : b ≡ true → 0 ≡ handshakeFault to a o
+      unfolding handshakeFault
+      fault-closing h = simp (eq-eqb _ _ closing, ne-eqb _ _ other, ← g, h)
+
+      -- it closes, with other options
+      pub fault-options : b ≡ false → 3 ≡ handshakeFault to a o
+      unfolding handshakeFault
+      fault-options h = simp (eq-eqb _ _ closing, ne-eqb _ _ other, ← g, h)
+
+-- ---- a HANDSHAKE's place in the datagram
+
+module _ (s : List ℕ) (at next a : ℕ) (o : Options) where
+  -- a message stands before it
+  pub alone-before : (at ≡ minSize → ⊥) → Fault 3 ≡ handshakeLayout s at next a o
+  unfolding handshakeLayout
+  alone-before h = simp (ne-eqb at minSize h)
+
+  module _ (front : at ≡ minSize) where
+    -- a byte stands behind it
+    pub alone-behind : (next ≡ length s → ⊥) → Fault 3 ≡ handshakeLayout s at next a o
+    unfolding handshakeLayout
+    alone-behind h = simp (eq-eqb at minSize front, ne-eqb next (length s) h)
+
+    module _ (whole : next ≡ length s) (d w : ℕ) (de : d ≡ be32 s 0) (we : w ≡ handshakeFault d a o) where
+      -- it is alone, so its fault decides
+      opened : handshakeLayout s at next a o ≡ orFault w (HandshakeAlone a o)
+      unfolding handshakeLayout
+      opened = simp (eq-eqb at minSize front, eq-eqb next (length s) whole, ← de, ← we)
+
+      -- it has a fault
+      pub alone-fault : (w ≡ 0 → ⊥) → Fault w ≡ handshakeLayout s at next a o
+      alone-fault h = stop w h ∙ sym opened
+        where
+          stop : (v : ℕ) → (v ≡ 0 → ⊥) → Fault v ≡ orFault v (HandshakeAlone a o)
+          stop zero q = absurd (q refl)
+          stop (suc v) q = refl
+
+      -- it has none
+      pub alone-good : w ≡ 0 → HandshakeAlone a o ≡ handshakeLayout s at next a o
+      alone-good h = sym (opened ∙ rw h)
+
+-- ---- an INTEGRITY
+
+module _ (room : List ℕ) (used node hash next : ℕ) (b : Bool) (e : b ≡ seen node (take (used - 0) (drop 0 room))) where
+  -- the entries, which the code has as a part of a slice
+  came : b ≡ seen node (take used room)
+  came = let q : used - 0 ≡ used = omega arith in rw q at e
+
+  -- its node came before
+  pub note-seen : b ≡ true → turnedOf (Over (Fault 2)) room ≡ noted room used node hash next
+  unfolding noted
+  note-seen p = let q = came in simp (← q, p)
+
+  -- its node is stored, with the place of its hash
+  pub note-new : b ≡ false → turnedOf (On next (used + 2)) (set (set room used node) (used + 1) hash) ≡ noted room used node hash next
+  unfolding noted placed
+  note-new p = let q = came in rw (add-one used) (simp (← q, p))
+
+-- ---- the whole check: the room, the size, the messages
+
+module _ (room s : List ℕ) where
+  -- the room is too small
+  pub check-room : length room < entryWords → checkedOf (Fault 11) room ≡ checkSpec room s
+  unfolding checkSpec
+  check-room h = simp (lt-ltb (length room) entryWords h)
+
+  module _ (roomy : entryWords ≤ length room) where
+    -- the datagram is too short
+    pub check-low : length s < minSize → checkedOf (Fault 1) room ≡ checkSpec room s
+    unfolding checkSpec layoutOf placed
+    check-low h = simp (le-ltb (length room) entryWords roomy, lt-ltb (length s) minSize h)
+
+    module _ (low : minSize ≤ length s) where
+      -- the datagram is too long
+      pub check-high : maxSize < length s → checkedOf (Fault 1) room ≡ checkSpec room s
+      unfolding checkSpec layoutOf placed
+      check-high h = simp (le-ltb (length room) entryWords roomy, le-ltb (length s) minSize low, lt-ltb maxSize (length s) h)
+
+      -- the messages decide
+      pub check-good : length s ≤ maxSize → {c : Checked} → c ≡ passed room s → c ≡ checkSpec room s
+      unfolding checkSpec layoutOf passed
+      check-good h e = e ∙ simp (le-ltb (length room) entryWords roomy, le-ltb (length s) minSize low, le-ltb maxSize (length s) h)

@@ -1,0 +1,13 @@
+-- The sizes of a datagram (01, "What a store works under": "a datagram is 4 to 2,048 bytes"). They stand here alone.
+-- Assumes nothing.
+use Prim.Native.Nat.{ℕ}
+
+abbrev pub minSize : ℕ
+minSize = 4
+
+abbrev pub maxSize : ℕ
+maxSize = 2048
+
+-- Words for the nodes of a datagram, two for each INTEGRITY message, of which 49 of 41 bytes fit.
+abbrev pub entryWords : ℕ
+entryWords = 98

@@ -1,0 +1,15 @@
+-- A message's range (01, "Datagrams": "A range is first and last chunk, 32 bits each, both included"). Assumes nothing.
+use Prim.Native.Nat.{ℕ}
+use mathlib.Core.List.{List}
+use Rattle.wire.specs.Bytes.{be32}
+use Rattle.wire.specs.declared.range.Range.{Range}
+
+-- The range of the message t, behind its type.
+abbrev pub firstOf : List ℕ → ℕ
+firstOf t = be32 t 1
+
+abbrev pub lastOf : List ℕ → ℕ
+lastOf t = be32 t 5
+
+abbrev pub rangeOf : List ℕ → Range
+rangeOf t = record { first = firstOf t; last = lastOf t }

@@ -1,0 +1,94 @@
+-- One message at a place of a datagram: the table of 01, "Datagrams" (RFC 7574, 8). Assumes nothing.
+use Prim.Native.Nat.{ℕ, zero, suc, _+_, _-_}
+use mathlib.Core.List.{List}
+use mathlib.Core.Bool.{Bool, true, false, not}
+use lib.ListN.{length, getD, drop}
+use lib.Dec.{ltb, eqb}
+use Rattle.tree.specs.Pick.{pick}
+use Rattle.tree.specs.Range.{covers}
+use Rattle.wire.specs.Bytes.{be32, be64}
+use Rattle.wire.specs.Range.{firstOf, lastOf}
+use Rattle.wire.specs.Options.{optionsSize, isFixed}
+use Rattle.wire.specs.declared.message.Options.{Options}
+use Rattle.wire.specs.declared.message.Options.the-variants.{Fixed, EndOnly, Other}
+use Rattle.wire.specs.declared.message.Message.{Message}
+use Rattle.wire.specs.declared.message.Message.the-variants.{Handshake, Data, Ack, Have, Integrity, Request, Cancel, Choke, Unchoke}
+use Rattle.wire.specs.declared.message.Cursor.{Cursor}
+use Rattle.wire.specs.declared.message.Step.{Step}
+use Rattle.wire.specs.declared.message.Step.the-variants.{Read, End, Refused}
+
+abbrev pub cursor : ℕ → Cursor
+cursor at = record { at = at }
+
+abbrev pub refusing : Bool → Step → Step
+refusing bad m = pick bad Refused m
+
+-- In what follows, t is what is left of the datagram from the message's type on, and stands at `at`. A message that is
+-- cut short is refused.
+
+-- A HANDSHAKE's options, t: End alone, the fixed ones around a root, or others.
+unfoldable pub kindOf : ℕ → List ℕ → Options
+kindOf at t = pick (eqb (optionsSize t) 1) EndOnly (pick (isFixed t) (Fixed (at + 7)) Other)
+
+-- 0, HANDSHAKE: source channel, options of sound layout.
+unfoldable pub handshakeAt : ℕ → List ℕ → Step
+handshakeAt at t =
+    refusing (ltb (length t) 5)
+    (refusing (eqb (optionsSize (drop 5 t)) 0)
+    (Read (Handshake (be32 t 1) (kindOf (at + 5) (drop 5 t))) (cursor (at + 5 + optionsSize (drop 5 t)))))
+
+-- 1, DATA: range of one chunk, timestamp, chunk to the datagram's end.
+unfoldable pub dataAt : ℕ → List ℕ → Step
+dataAt at t =
+    refusing (ltb (length t) 17)
+    (refusing (not (eqb (firstOf t) (lastOf t)))
+    (Read (Data (firstOf t) (be64 t 9) (at + 17) (length t - 17)) (cursor (at + length t))))
+
+-- 2, ACK: range, delay.
+unfoldable pub ackAt : ℕ → List ℕ → Step
+ackAt at t =
+    refusing (ltb (length t) 17)
+    (refusing (ltb (lastOf t) (firstOf t))
+    (Read (Ack (firstOf t) (lastOf t) (be64 t 9)) (cursor (at + 17))))
+
+-- 4, INTEGRITY: range of a node, hash.
+unfoldable pub integrityAt : ℕ → List ℕ → Step
+integrityAt at t =
+    refusing (ltb (length t) 41)
+    (refusing (not (covers (firstOf t + lastOf t) (firstOf t) (lastOf t)))
+    (Read (Integrity (firstOf t) (lastOf t) (at + 9)) (cursor (at + 41))))
+
+-- 3, 8 and 9, HAVE, REQUEST and CANCEL: a range.
+abbrev pub named : ℕ → ℕ → ℕ → Message
+named k f l = pick (eqb k 3) (Have f l) (pick (eqb k 8) (Request f l) (Cancel f l))
+
+unfoldable pub rangedAt : ℕ → ℕ → List ℕ → Step
+rangedAt k at t =
+    refusing (ltb (length t) 9)
+    (refusing (ltb (lastOf t) (firstOf t))
+    (Read (named k (firstOf t) (lastOf t)) (cursor (at + 9))))
+
+abbrev pub row : ℕ → ℕ → Step → Step → Step
+row k n a b = pick (eqb k n) a b
+
+-- The message of type k: a row of the table, or a refused type.
+unfoldable pub typed : ℕ → ℕ → List ℕ → Step
+typed k at t =
+    row k 0 (handshakeAt at t)
+    (row k 1 (dataAt at t)
+    (row k 2 (ackAt at t)
+    (row k 3 (rangedAt 3 at t)
+    (row k 4 (integrityAt at t)
+    (row k 8 (rangedAt 8 at t)
+    (row k 9 (rangedAt 9 at t)
+    (row k 10 (Read Choke (cursor (at + 1)))
+    (row k 11 (Read Unchoke (cursor (at + 1)))
+    Refused))))))))
+
+-- What stands at the front of t: the end, a refusal, or a message and where it ends.
+unfoldable pub stepOf : ℕ → List ℕ → Step
+stepOf at t = pick (ltb (length t) 1) End (typed (getD t 0 0) at t)
+
+-- What stands at a place of a datagram.
+abbrev pub stepAt : List ℕ → ℕ → Step
+stepAt s at = stepOf at (drop at s)

@@ -1,0 +1,61 @@
+-- Nothing of the papers: one turn of the code's loops. Assumes nothing.
+use Prim.Native.Nat.{ℕ, _+_, _*_, _%_, _≤_}
+use mathlib.Core.Path.{_≡_}
+use mathlib.Core.List.{List, [], _∷_}
+use lib.ListN.{length, take}
+use Rattle.tree.specs.Pick.{pick}
+use Rattle.wire.specs.Bytes.{placed}
+use Rattle.wire.specs.Limits.{minSize, maxSize, entryWords}
+use Rattle.wire.specs.Layout.{Checked, checkedOf, seen, handshakeLayout, layoutFrom}
+use Rattle.wire.specs.declared.message.Message.{Message}
+use Rattle.wire.specs.declared.message.Message.the-variants.{Handshake, Data, Ack, Have, Integrity, Request, Cancel, Choke, Unchoke}
+use Rattle.wire.specs.declared.message.Step.{Step}
+use Rattle.wire.specs.declared.message.Step.the-variants.{Read, End, Refused}
+use Rattle.wire.specs.declared.layout.Layout.the-variants.{Fault, Messages, MessagesAndData}
+use Rattle.wire.specs.declared.layout.Turn.{Turn}
+use Rattle.wire.specs.declared.layout.Turn.the-variants.{On, Over}
+
+-- What a turn of the layout pass gives, and the room for the entries that it leaves.
+pub record Turned : Type 0 where
+  pub turn : Turn
+  pub room : List ℕ
+
+abbrev pub turnedOf : Turn → List ℕ → Turned
+turnedOf t room = record { turn = t; room = room }
+
+-- An INTEGRITY message that ends at `next`, behind `used` words of entries in the room.
+unfoldable pub noted : List ℕ → ℕ → ℕ → ℕ → ℕ → Turned
+noted room used node hash next =
+    pick (seen node (take used room)) (turnedOf (Over (Fault 2)) room)
+    (turnedOf (On next (used + 2)) (placed room used (node ∷ hash ∷ [])))
+
+-- A message from `at` to `next`.
+abbrev pub turnOn : List ℕ → List ℕ → ℕ → ℕ → ℕ → Message → Turned
+turnOn s room used at next (Handshake a o) = turnedOf (Over (handshakeLayout s at next a o)) room
+turnOn s room used at next (Data c x b n) = turnedOf (Over (MessagesAndData c x b n used)) room
+turnOn s room used at next (Integrity f l h) = noted room used (f + l) h next
+turnOn s room used at next (Ack f l d) = turnedOf (On next used) room
+turnOn s room used at next (Have f l) = turnedOf (On next used) room
+turnOn s room used at next (Request f l) = turnedOf (On next used) room
+turnOn s room used at next (Cancel f l) = turnedOf (On next used) room
+turnOn s room used at next Choke = turnedOf (On next used) room
+turnOn s room used at next Unchoke = turnedOf (On next used) room
+
+-- What stands at `at`.
+abbrev pub turnAt : List ℕ → List ℕ → ℕ → ℕ → Step → Turned
+turnAt s room used at (Read m next) = turnOn s room used at (next .at) m
+turnAt s room used at End = turnedOf (Over (Messages used)) room
+turnAt s room used at Refused = turnedOf (Over (Fault 2)) room
+
+-- Where a turn begins: the sizes are sound, and each two words of entries came with 41 bytes behind the destination.
+pub record Standing (s : List ℕ) (size at used : ℕ) : Type 0 where
+  pub low : minSize ≤ length s
+  pub high : length s ≤ maxSize
+  pub roomy : entryWords ≤ size
+  pub within : used ≤ entryWords
+  pub spent : 41 * used + 2 * minSize ≤ 2 * at
+  pub even : used % 2 ≡ 0
+
+-- The whole pass over a datagram of sound size, its entries stored from the room's front.
+unfoldable pub passed : List ℕ → List ℕ → Checked
+passed room s = checkedOf (layoutFrom (length s) s [] minSize .layout) (placed room 0 (layoutFrom (length s) s [] minSize .entries))

@@ -1,0 +1,9 @@
+// The sizes of a datagram in the yard profile. They stand here alone.
+
+// A datagram has its destination, four bytes, at least.
+pub const MIN_SIZE: usize = 4;
+
+pub const MAX_SIZE: usize = 2048;
+
+// Room for the nodes of a datagram, two words for each INTEGRITY message: 49 of 41 bytes fit.
+pub const ENTRIES: usize = 98;

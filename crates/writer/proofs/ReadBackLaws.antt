@@ -1,0 +1,167 @@
+-- What was written reads back as the same messages. Assumes nothing.
+use Prim.Native.Nat.{ℕ, zero, suc, _+_, _-_, _<_, _≤_, _^_}
+use native.Mathlib.Omega.{arith}
+use native.Mathlib.Nat.{add-zero, zero-add}
+use mathlib.Core.Path.{_≡_, refl, sym, ap, ap₂, _∙_}
+use mathlib.Core.List.{List, [], _∷_, _++_, append-assoc, append-nil}
+use mathlib.Core.Bool.{Bool, true, false, not, true≢false}
+use lib.ListN.{length, take, drop, length-append, length-drop}
+use lib.Seq.{drop-at, take-at, drop-append-seam, drop-append-add, length-take-le}
+use Rattle.wire.specs.Bytes.{be32, placed}
+use Rattle.wire.specs.Limits.{minSize, maxSize}
+use Rattle.wire.specs.Options.{fixedHead, fixedTail}
+use Rattle.wire.specs.Read.{cursor, refusing, stepOf, stepAt}
+use Rattle.wire.specs.Layout.{Checked, numberOf, layoutFrom, layoutOf}
+use Rattle.wire.specs.declared.message.Options.{Options}
+use Rattle.wire.specs.declared.message.Options.the-variants.{Fixed, EndOnly, Other}
+use Rattle.wire.specs.declared.message.Message.{Message}
+use Rattle.wire.specs.declared.message.Message.the-variants.{Handshake, Data, Ack, Have, Integrity, Request, Cancel, Choke, Unchoke}
+use Rattle.wire.specs.declared.message.Step.{Step}
+use Rattle.wire.specs.declared.message.Step.the-variants.{Read, End, Refused}
+use Rattle.wire.specs.declared.layout.Layout.{Layout}
+use Rattle.wire.specs.declared.layout.Layout.the-variants.{Fault, HandshakeAlone, Messages, MessagesAndData}
+use Rattle.wire.proofs.PlacedLaws.{placed-none, placed-then, placed-front, placed-length}
+use Rattle.wire.proofs.ViewLaws.{end-is}
+use Rattle.wire.proofs.ExtendLaws.{Extended}
+use Rattle.writer.specs.Bytes.{bytes32, bytes64, rangeBytes}
+use Rattle.writer.specs.Message.{within, optionBytes, bytesOf, writable, writableOptions, sizeOf}
+use Rattle.writer.specs.Add.{Sent, sentOf, decide, hasData, addAnswer, addSpec}
+use Rattle.writer.specs.Lists.{Item, itemOf, encode, Fits, AllFit, held, bare, saying, sayings, onStep, readFrom, onAnswer, andThen, addAll}
+use Rattle.writer.proofs.PlaceLaws.{size32, size64, sizeRange}
+use Rattle.writer.proofs.PutLaws.{within-length}
+use Rattle.writer.proofs.SizeLaws.{lies-in, bytes-length}
+use Rattle.writer.proofs.BackLaws.{allowed, moved, Behind, message-back}
+use Rattle.writer.proofs.AddLaws.{joined, behind-step}
+use Rattle.writer.proofs.AcceptLaws.{Tested, tested, Accepted, accepted, size-some}
+
+-- ---- a message's own bytes, in the datagram where it was written
+
+-- n bytes behind the i bytes a of what stands behind p
+found : (p a w r : List ℕ) (i n : ℕ) → length a ≡ i → length w ≡ n → within (p ++ ((a ++ w) ++ r)) (length p + i) n ≡ w
+found p a w r i n ha hw =
+    ap (take n) (drop-append-add p ((a ++ w) ++ r) i ∙ ap (drop i) (append-assoc a w r) ∙ drop-at a (w ++ r) i ha) ∙ take-at w r n hw
+
+module _ (p s r : List ℕ) where
+  same-options : (a : ℕ) (o : Options) → writable (length s) (Handshake a o) ≡ true
+      → saying (itemOf (p ++ (bytesOf s (Handshake a o) ++ r)) (moved (length p) (Handshake a o))) ≡ saying (itemOf s (Handshake a o))
+  unfolding bytesOf optionBytes writable writableOptions bytes32
+  same-options a (Fixed b) w =
+      let v = within s b 32 in
+      let h = within-length s b 32 (lies-in (length s) b 32 w) in
+      let c : List ℕ = 0 ∷ bytes32 a ++ fixedHead in
+      let e : (0 ∷ bytes32 a ++ (fixedHead ++ (v ++ fixedTail))) ++ r ≡ (c ++ v) ++ (fixedTail ++ r) = ap (λ (x : List ℕ). c ++ x) (append-assoc v fixedTail r) in
+      let i : length p + 5 + 7 ≡ length p + 12 = omega arith in
+      ap (λ (x : List ℕ). itemOf x (Handshake a (Fixed 0))) (rw i (ap (λ (x : List ℕ). within (p ++ x) (length p + 12) 32) e ∙ found p c v (fixedTail ++ r) 12 32 refl h))
+  same-options a EndOnly w = refl
+  same-options a Other w = refl
+
+  pub same-saying : (m : Message) → writable (length s) m ≡ true → saying (itemOf (p ++ (bytesOf s m ++ r)) (moved (length p) m)) ≡ saying (itemOf s m)
+  unfolding bytesOf writable
+  same-saying (Handshake a o) w = same-options a o w
+  same-saying (Data c x b n) w =
+      let v = within s b n in
+      let e : length (rangeBytes 1 c c ++ bytes64 x) ≡ 17 = omega (arith, length-append (rangeBytes 1 c c) (bytes64 x), sizeRange 1 c c, size64 x) in
+      ap (λ (y : List ℕ). itemOf y (Data c x 0 n))
+      (rw (← append-assoc (rangeBytes 1 c c) (bytes64 x) v) (found p (rangeBytes 1 c c ++ bytes64 x) v r 17 n e (within-length s b n (lies-in (length s) b n w))))
+  same-saying (Ack f l d) w = refl
+  same-saying (Have f l) w = refl
+  same-saying (Integrity f l h) w =
+      ap (λ (y : List ℕ). itemOf y (Integrity f l 0)) (found p (rangeBytes 4 f l) (within s h 32) r 9 32 (sizeRange 4 f l) (within-length s h 32 (lies-in (length s) h 32 w)))
+  same-saying (Request f l) w = refl
+  same-saying (Cancel f l) w = refl
+  same-saying Choke w = refl
+  same-saying Unchoke w = refl
+
+-- ---- lists of messages that can be written one after another
+abbrev pub Chain : List Item → Type 0
+Chain [] = Unit {0}
+Chain (i ∷ is) = (writable (length (i .source)) (i .message) ≡ true) × (allowed (i .message) ≡ true) × Behind (i .message) (encode is) × Chain is
+
+-- one turn of reading
+read-suc : (n : ℕ) (s : List ℕ) (at : ℕ) (st : Step) → stepAt s at ≡ st → readFrom (suc n) s at ≡ onStep s st (λ next. readFrom n s next)
+unfolding readFrom
+read-suc n s at st e = ap (λ (x : Step). onStep s x (λ next. readFrom n s next)) e
+
+pub read-over : (n : ℕ) (s : List ℕ) (at : ℕ) → length s ≤ at → readFrom n s at ≡ []
+unfolding readFrom
+read-over zero s at h = refl
+read-over (suc n) s at h = read-suc n s at End (end-is at (drop at s) (omega (arith, length-drop at s)))
+
+-- They read back, behind any bytes p.
+pub list-back : (is : List Item) → AllFit is → Chain is → (p : List ℕ) (n : ℕ) → length (p ++ encode is) < length p + n → sayings (readFrom n (p ++ encode is) (length p)) ≡ sayings is
+list-back [] f c p n h = ap sayings (read-over n (p ++ []) (length p) (omega (arith, length-append p [])))
+list-back (i ∷ is) f c p zero h = absurd (omega (arith, length-append p (encode (i ∷ is))))
+list-back (i ∷ is) f c p (suc n) h =
+    let s = i .source in let m = i .message in let b = bytesOf s m in
+    let d = p ++ (b ++ encode is) in
+    let at = length p in
+    let st : stepAt d at ≡ Read (moved at m) (cursor (at + sizeOf m)) =
+    ap (stepOf at) (drop-append-seam p (b ++ encode is)) ∙ message-back s at m (f .0) (c .0) (encode is) (c .2) ∙ rw (c .1) in
+    let size : length (p ++ b) ≡ at + sizeOf m = length-append p b ∙ ap (λ (k : ℕ). at + k) (bytes-length s m (c .0)) in
+    let same : (p ++ b) ++ encode is ≡ d = append-assoc p b (encode is) in
+    let more : sayings (readFrom n d (at + sizeOf m)) ≡ sayings is =
+    rw (← same) (rw (← size) (list-back is (f .1) (c .3) (p ++ b) n (omega (arith, ap length same, size, h, size-some m)))) in
+    ap sayings (read-suc n d at (Read (moved at m) (cursor (at + sizeOf m))) st)
+    ∙ ap₂ (λ (x : Item) (xs : List Item). x ∷ xs) (same-saying p s (encode is) m (c .0)) more
+
+-- ---- messages that were accepted one after another
+
+-- one accepted message, and what is added behind it
+one-more : (room : List ℕ) (len : ℕ) (m : Message) (source : List ℕ) (w : ℕ) → addAnswer room len m source ≡ w → (rest : List ℕ → ℕ → Sent)
+    → andThen (addSpec room len m source) rest .answer ≡ 0
+    → (addAnswer room len m source ≡ 0) × (andThen (addSpec room len m source) rest ≡ rest (placed room len (bytesOf source m)) (len + sizeOf m))
+unfolding addSpec
+one-more room len m source zero e rest z = (e, rw e)
+one-more room len m source (suc w) e rest z =
+    absurd (omega (arith, ap (λ (r : Sent). r .answer) (sym (refused e)), z))
+  where
+    refused : addAnswer room len m source ≡ suc w → andThen (addSpec room len m source) rest ≡ sentOf (suc w) 0 room
+    refused q = rw q
+
+-- DATA ends a datagram: nothing is accepted behind it
+data-last : (p s : List ℕ) (c x b n : ℕ) → Fits (Data c x b n) → Accepted p (Data c x b n) s → (k : ℕ) → layoutOf (p ++ bytesOf s (Data c x b n)) .layout ≡ Messages k → ⊥
+data-last p s c x b n f a k e =
+    let m = Data c x b n in
+    let on = rw (a .plain) at (joined p s m (a .can) (a .low) (a .fits)) in
+    let q = behind-step p s m (a .can) (a .low) (a .fits) f (layoutOf p .entries) (layoutOf (p ++ bytesOf s m)) on in
+    true≢false (sym (ap (λ (y : Checked). hasData (y .layout)) q) ∙ ap hasData e)
+
+accepted-behind : (p s : List ℕ) (m : Message) → Fits m → Accepted p m s → (room : List ℕ) (len : ℕ) → take len room ≡ p ++ bytesOf s m
+    → (is : List Item) → AllFit is → addAll room len is .answer ≡ 0 → Behind m (encode is)
+accepted-behind p s (Handshake a o) f w room len e is g z = tt
+accepted-behind p s (Ack a b d) f w room len e is g z = tt
+accepted-behind p s (Have a b) f w room len e is g z = tt
+accepted-behind p s (Integrity a b d) f w room len e is g z = tt
+accepted-behind p s (Request a b) f w room len e is g z = tt
+accepted-behind p s (Cancel a b) f w room len e is g z = tt
+accepted-behind p s Choke f w room len e is g z = tt
+accepted-behind p s Unchoke f w room len e is g z = tt
+accepted-behind p s (Data c x b n) f w room len e [] g z = refl
+accepted-behind p s (Data c x b n) f w room len e (i ∷ is) g z =
+    let o = one-more room len (i .message) (i .source) (addAnswer room len (i .message) (i .source)) refl (λ room′ len′. addAll room′ len′ is) z in
+    let a = accepted room len (i .message) (i .source) (g .0) (o .0) in
+    absurd (data-last p s c x b n f w (a .entries) (ap (λ (y : List ℕ). layoutOf y .layout) (sym e) ∙ a .plain))
+
+-- What was accepted stands behind the datagram so far, and the rest of the room is as it was.
+pub added : (is : List Item) (room : List ℕ) (len : ℕ) → AllFit is → addAll room len is .answer ≡ 0
+    → (addAll room len is ≡ sentOf 0 (len + length (encode is)) (placed room len (encode is))) × Chain is
+    × (numberOf (layoutOf (take len room) .layout) ≡ 0 → numberOf (layoutOf (take len room ++ encode is) .layout) ≡ 0)
+added [] room len f z = (ap₂ (sentOf 0) (sym (add-zero len)) (placed-none room len), tt, λ e. rw (append-nil (take len room)) e)
+added (i ∷ is) room len f z =
+    let s = i .source in let m = i .message in let b = bytesOf s m in
+    let o = one-more room len m s (addAnswer room len m s) refl (λ room′ len′. addAll room′ len′ is) z in
+    let t = tested room len m s (o .0) in
+    let a = accepted room len m s (f .0) (o .0) in
+    let n = bytes-length s m (a .can) in
+    let p = take len room in
+    let l : length p ≡ len = length-take-le len room (omega (arith, t .short, t .big)) in
+    let new = placed room len b in
+    let y : addAll new (len + sizeOf m) is .answer ≡ 0 = sym (ap (λ (k : Sent). k .answer) (o .1)) ∙ z in
+    let r = added is new (len + sizeOf m) (f .1) y in
+    let front : take (len + sizeOf m) new ≡ p ++ b = rw (← n) (placed-front room len b (omega (arith, n, a .fits, l, t .big))) in
+    let join : placed new (len + sizeOf m) (encode is) ≡ placed room len (b ++ encode is) = placed-then room len b (encode is) (len + sizeOf m) (ap (λ (k : ℕ). len + k) n) refl refl in
+    let size : len + sizeOf m + length (encode is) ≡ len + length (b ++ encode is) = omega (arith, n, length-append b (encode is)) in (
+      o .1 ∙ r .0 ∙ ap₂ (sentOf 0) size join,
+      (a .can, a .good, accepted-behind p s m (f .0) a new (len + sizeOf m) front is (f .1) y, r .1),
+      λ e. rw (← append-assoc p b (encode is)) (rw (← front) (r .2 (rw front (t .longer)))),
+    )

@@ -1,0 +1,172 @@
+use borrow.Author.Needs.{needs}
+use Rattle.writer.specs.Message.{bytesOf, writable, sizeOf}
+use Rattle.writer.proofs.SizeLaws.{lies-in, data-in}
+use Rattle.writer.proofs.put.put.Statement.{statement}
+use Rattle.writer.proofs.put.put.Tie as tie
+
+enum-known-message : tie.Need-enum-known-message
+enum-known-message c = search needs
+
+put-handshake-requires : tie.Need-put-handshake-requires
+unfolding sizeOf writable
+put-handshake-requires c κs = (rw (c .before .before .message .given .1) at (c .before .before .before .before .before .before .pre .0), rw (c .before .before .message .given .1) at (c .before .before .before .before .before .before .pre .1))
+
+enum-known-message-2 : tie.Need-enum-known-message-2
+enum-known-message-2 c = search needs
+
+put-data-requires : tie.Need-put-data-requires
+unfolding sizeOf
+put-data-requires c κs = (rw (c .before .before .message2 .given .1) at (c .before .before .before .before .before .before .pre .0), data-in _ (c .before .before .before .before .before .before .pre .1) (c .before .before .message2 .given .1))
+
+enum-known-message-3 : tie.Need-enum-known-message-3
+enum-known-message-3 c = search needs
+
+put-ack-requires : tie.Need-put-ack-requires
+unfolding sizeOf
+put-ack-requires c κs = rw (c .before .before .message3 .given .1) at (c .before .before .before .before .before .before .pre .0)
+
+enum-known-message-4 : tie.Need-enum-known-message-4
+enum-known-message-4 c = search needs
+
+place-range-requires : tie.Need-place-range-requires
+unfolding sizeOf
+place-range-requires c κs = rw (c .before .before .message4 .given .1) at (c .before .before .before .before .before .before .pre .0)
+
+enum-known-message-5 : tie.Need-enum-known-message-5
+enum-known-message-5 c = search needs
+
+put-integrity-requires : tie.Need-put-integrity-requires
+unfolding sizeOf writable
+put-integrity-requires c κs = (rw (c .before .before .message5 .given .1) at (c .before .before .before .before .before .before .pre .0), lies-in _ _ _ (rw (c .before .before .message5 .given .1) at (c .before .before .before .before .before .before .pre .1)))
+
+enum-known-message-6 : tie.Need-enum-known-message-6
+enum-known-message-6 c = search needs
+
+place-range-requires-2 : tie.Need-place-range-requires-2
+unfolding sizeOf
+place-range-requires-2 c κs = rw (c .before .before .message6 .given .1) at (c .before .before .before .before .before .before .pre .0)
+
+enum-known-message-7 : tie.Need-enum-known-message-7
+enum-known-message-7 c = search needs
+
+place-range-requires-3 : tie.Need-place-range-requires-3
+unfolding sizeOf
+place-range-requires-3 c κs = rw (c .before .before .message7 .given .1) at (c .before .before .before .before .before .before .pre .0)
+
+enum-told : tie.Need-enum-told
+enum-told c = search needs
+
+place8-requires : tie.Need-place8-requires
+unfolding sizeOf
+place8-requires c κs = rw (c .before .enum-told .given .1) at (c .before .before .before .before .before .pre .0)
+
+enum-told-2 : tie.Need-enum-told-2
+enum-told-2 c = search needs
+
+place8-requires-2 : tie.Need-place8-requires-2
+unfolding sizeOf
+place8-requires-2 c κs = rw (c .before .enum-told2 .given .1) at (c .before .before .before .before .before .pre .0)
+
+same-length : tie.Need-same-length
+same-length c = search needs
+
+returns : tie.Need-returns
+unfolding bytesOf
+returns c = rw (c .before .before .before .before .before .message .given .1) (c .before .before .put-handshake .ensures)
+
+same-length-2 : tie.Need-same-length-2
+same-length-2 c = search needs
+
+returns-2 : tie.Need-returns-2
+unfolding bytesOf
+returns-2 c = rw (c .before .before .before .before .before .message2 .given .1) (c .before .before .put-data .ensures)
+
+same-length-3 : tie.Need-same-length-3
+same-length-3 c = search needs
+
+returns-3 : tie.Need-returns-3
+unfolding bytesOf
+returns-3 c = rw (c .before .before .before .before .before .message3 .given .1) (c .before .before .put-ack .ensures)
+
+same-length-4 : tie.Need-same-length-4
+same-length-4 c = search needs
+
+returns-4 : tie.Need-returns-4
+unfolding bytesOf
+returns-4 c = rw (c .before .before .before .before .before .message4 .given .1) (c .before .before .place-range .ensures)
+
+same-length-5 : tie.Need-same-length-5
+same-length-5 c = search needs
+
+returns-5 : tie.Need-returns-5
+unfolding bytesOf
+returns-5 c = rw (c .before .before .before .before .before .message5 .given .1) (c .before .before .put-integrity .ensures)
+
+same-length-6 : tie.Need-same-length-6
+same-length-6 c = search needs
+
+returns-6 : tie.Need-returns-6
+unfolding bytesOf
+returns-6 c = rw (c .before .before .before .before .before .message6 .given .1) (c .before .before .place-range2 .ensures)
+
+same-length-7 : tie.Need-same-length-7
+same-length-7 c = search needs
+
+returns-7 : tie.Need-returns-7
+unfolding bytesOf
+returns-7 c = rw (c .before .before .before .before .before .message7 .given .1) (c .before .before .place-range3 .ensures)
+
+same-length-8 : tie.Need-same-length-8
+same-length-8 c = search needs
+
+returns-8 : tie.Need-returns-8
+unfolding bytesOf
+returns-8 c = rw (c .before .before .before .before .enum-told .given .1) (c .before .before .place8 .ensures)
+
+same-length-9 : tie.Need-same-length-9
+same-length-9 c = search needs
+
+returns-9 : tie.Need-returns-9
+unfolding bytesOf
+returns-9 c = rw (c .before .before .before .before .enum-told2 .given .1) (c .before .before .place82 .ensures)
+
+pub put-spec : {M : Type 1} → statement M
+put-spec =
+    tie.close
+    (tie.spec
+    enum-known-message
+    put-handshake-requires
+    enum-known-message-2
+    put-data-requires
+    enum-known-message-3
+    put-ack-requires
+    enum-known-message-4
+    place-range-requires
+    enum-known-message-5
+    put-integrity-requires
+    enum-known-message-6
+    place-range-requires-2
+    enum-known-message-7
+    place-range-requires-3
+    enum-told
+    place8-requires
+    enum-told-2
+    place8-requires-2
+    same-length
+    returns
+    same-length-2
+    returns-2
+    same-length-3
+    returns-3
+    same-length-4
+    returns-4
+    same-length-5
+    returns-5
+    same-length-6
+    returns-6
+    same-length-7
+    returns-7
+    same-length-8
+    returns-8
+    same-length-9
+    returns-9)

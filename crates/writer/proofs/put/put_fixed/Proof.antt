@@ -1,0 +1,61 @@
+use borrow.Author.Needs.{needs}
+use Rattle.writer.proofs.PutLaws.{placed-fixed}
+use Rattle.writer.proofs.put.put_fixed.Statement.{statement}
+use Rattle.writer.proofs.put.put_fixed.Tie as tie
+
+slice-aggregate-place-all : tie.Need-slice-aggregate-place-all
+slice-aggregate-place-all c = search needs
+
+place-all-requires : tie.Need-place-all-requires
+place-all-requires c κs = search needs
+
+add-end : tie.Need-add-end
+add-end c = search needs
+
+add-place-all : tie.Need-add-place-all
+add-place-all c = search needs
+
+sub-place-all : tie.Need-sub-place-all
+sub-place-all c = search needs
+
+part-place-all-start : tie.Need-part-place-all-start
+part-place-all-start c = search needs
+
+part-place-all-end : tie.Need-part-place-all-end
+part-place-all-end c = search needs
+
+place-all-requires-2 : tie.Need-place-all-requires-2
+place-all-requires-2 c κs = search needs
+
+add-place-all-2 : tie.Need-add-place-all-2
+add-place-all-2 c = search needs
+
+slice-aggregate-place-all-2 : tie.Need-slice-aggregate-place-all-2
+slice-aggregate-place-all-2 c = search needs
+
+place-all-requires-3 : tie.Need-place-all-requires-3
+place-all-requires-3 c κs = search needs
+
+same-length : tie.Need-same-length
+same-length c = search needs
+
+returns : tie.Need-returns
+returns c = placed-fixed _ _ _ _ (c .before .before .before .before .before .before .before .before .before .before .before .before .before .before .before .before .before .pre .1) (c .before .before .before .before .before .before .before .before .before .before .before .before .place-all .ensures) (c .before .before .before .before .before .before .before .place-all2 .ensures) (c .before .before .place-all3 .ensures)
+
+pub put-fixed-spec : {M : Type 1} → statement M
+put-fixed-spec =
+    tie.close
+    (tie.spec
+    slice-aggregate-place-all
+    place-all-requires
+    add-end
+    add-place-all
+    sub-place-all
+    part-place-all-start
+    part-place-all-end
+    place-all-requires-2
+    add-place-all-2
+    slice-aggregate-place-all-2
+    place-all-requires-3
+    same-length
+    returns)

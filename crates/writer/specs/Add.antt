@@ -1,0 +1,62 @@
+-- Beginning a datagram and adding a message to it (01, "Adding a message"). Assumes nothing.
+use Prim.Native.Nat.{ℕ, zero, suc, _+_}
+use mathlib.Core.List.{List, _++_}
+use mathlib.Core.Bool.{Bool, true, false, not}
+use lib.ListN.{length, take}
+use lib.Dec.{ltb}
+use Rattle.tree.specs.Pick.{pick}
+use Rattle.wire.specs.Bytes.{placed}
+use Rattle.wire.specs.Limits.{minSize, maxSize}
+use Rattle.wire.specs.Layout.{numberOf, layoutOf}
+use Rattle.wire.specs.declared.message.Message.{Message}
+use Rattle.wire.specs.declared.layout.Layout.{Layout}
+use Rattle.wire.specs.declared.layout.Layout.the-variants.{Fault, HandshakeAlone, Messages, MessagesAndData}
+use Rattle.writer.specs.Bytes.{bytes32}
+use Rattle.writer.specs.Message.{bytesOf, writable, sizeOf}
+
+-- A number other than 0, or else the next.
+abbrev pub earlier : ℕ → ℕ → ℕ
+earlier zero n = n
+earlier (suc k) n = suc k
+
+-- Whether a datagram has DATA, which would swallow what is added.
+abbrev pub hasData : Layout → Bool
+hasData (Fault n) = false
+hasData (HandshakeAlone a o) = false
+hasData (Messages k) = false
+hasData (MessagesAndData c x b n k) = true
+
+-- The number for adding a message to the first len bytes of a room: 11 for a room under the limit; the reader's number for
+-- the datagram so far; 2 for a message that cannot be written; the reader's number for the lengthened datagram; 2 behind
+-- DATA.
+unfoldable pub addAnswer : List ℕ → ℕ → Message → List ℕ → ℕ
+addAnswer room len m bytes =
+    pick (ltb (length room) maxSize) 11
+    (pick (ltb maxSize len) 1
+    (earlier (numberOf (layoutOf (take len room) .layout))
+    (pick (not (writable (length bytes) m)) 2
+    (earlier (numberOf (layoutOf (take len room ++ bytesOf bytes m) .layout))
+    (pick (hasData (layoutOf (take len room) .layout)) 2
+    0)))))
+
+-- What a call gives and leaves.
+pub record Sent : Type 0 where
+  pub answer : ℕ
+  pub len : ℕ
+  pub room : List ℕ
+
+abbrev pub sentOf : ℕ → ℕ → List ℕ → Sent
+sentOf n len room = record { answer = n; len = len; room = room }
+
+-- A refusal gives length 0 and leaves the room.
+abbrev pub decide : ℕ → List ℕ → ℕ → List ℕ → Sent
+decide zero old len new = sentOf 0 len new
+decide (suc n) old len new = sentOf (suc n) 0 old
+
+-- A datagram begins with its destination.
+unfoldable pub beginSpec : List ℕ → ℕ → Sent
+beginSpec room to = decide (pick (ltb (length room) maxSize) 11 0) room minSize (placed room 0 (bytes32 to))
+
+-- The message is written behind the datagram so far; what stands past it stays.
+unfoldable pub addSpec : List ℕ → ℕ → Message → List ℕ → Sent
+addSpec room len m bytes = decide (addAnswer room len m bytes) room (len + sizeOf m) (placed room len (bytesOf bytes m))

@@ -1,0 +1,5 @@
+pub mod Bytes
+pub mod Message
+pub mod Add
+pub mod Lists
+pub mod Steps

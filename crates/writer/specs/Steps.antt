@@ -1,0 +1,64 @@
+-- Nothing of the papers: what adding computes on its way. Assumes nothing.
+use Prim.Native.Nat.{ℕ, _+_, _≤_}
+use mathlib.Core.Path.{_≡_}
+use mathlib.Core.List.{List}
+use mathlib.Core.Bool.{true}
+use lib.ListN.{take}
+use lib.Dec.{ltb, eqb}
+use Rattle.tree.specs.Pick.{pick}
+use Rattle.tree.specs.Range.{covers}
+use Rattle.wire.specs.Limits.{minSize, maxSize}
+use Rattle.wire.specs.Layout.{seen, handshakeFault}
+use Rattle.wire.specs.declared.message.Message.{Message}
+use Rattle.wire.specs.declared.message.Message.the-variants.{Handshake, Data, Ack, Have, Integrity, Request, Cancel, Choke, Unchoke}
+use Rattle.wire.specs.declared.layout.Layout.{Layout}
+use Rattle.wire.specs.declared.layout.Layout.the-variants.{Fault, HandshakeAlone, Messages, MessagesAndData}
+use Rattle.writer.specs.Message.{writable, sizeOf}
+use Rattle.writer.specs.Lists.{Fits}
+
+-- 2 for a range whose first chunk is above its last.
+abbrev pub rangeFault : ℕ → ℕ → ℕ
+rangeFault f l = pick (ltb l f) 2 0
+
+-- 2 for a range that is no node's, or one's that is among the entries.
+abbrev pub nodeFault : List ℕ → ℕ → ℕ → ℕ
+nodeFault es f l = pick (covers (f + l) f l) (pick (seen (f + l) es) 2 0) 2
+
+-- The number for a message behind len bytes of a datagram without HANDSHAKE or DATA, with its destination and entries.
+unfoldable pub faultBehind : List ℕ → ℕ → ℕ → Message → ℕ
+faultBehind es to len (Handshake a o) = pick (eqb len minSize) (handshakeFault to a o) 3
+faultBehind es to len (Data c x b n) = rangeFault c c
+faultBehind es to len (Ack f l d) = rangeFault f l
+faultBehind es to len (Have f l) = rangeFault f l
+faultBehind es to len (Integrity f l h) = nodeFault es f l
+faultBehind es to len (Request f l) = rangeFault f l
+faultBehind es to len (Cancel f l) = rangeFault f l
+faultBehind es to len Choke = 0
+faultBehind es to len Unchoke = 0
+
+-- A room has the words that a layout says it has written there.
+abbrev pub Roomy : Layout → ℕ → Type 0
+Roomy (Fault n) size = Unit {0}
+Roomy (HandshakeAlone a o) size = Unit {0}
+Roomy (Messages k) size = k ≤ size
+Roomy (MessagesAndData c x b n k) size = Unit {0}
+
+-- The number for a message behind len bytes of a datagram of this layout, whose entries stand at the front of a room.
+unfoldable pub faultAfter : Layout → List ℕ → ℕ → ℕ → Message → ℕ
+faultAfter (Fault n) room to len m = n
+faultAfter (HandshakeAlone a o) room to len m = 3
+faultAfter (Messages k) room to len m = faultBehind (take k room) to len m
+faultAfter (MessagesAndData c x b n k) room to len m = 2
+
+-- The numbers of a message behind a datagram of this layout have their widths.
+abbrev pub FitsBehind : Layout → Message → Type 0
+FitsBehind (Fault n) m = Unit {0}
+FitsBehind (HandshakeAlone a o) m = Unit {0}
+FitsBehind (Messages k) m = Fits m
+FitsBehind (MessagesAndData c x b n k) m = Unit {0}
+
+-- What an accepted message has: it fits the room, and its bytes lie in the source.
+pub record Addable (size len : ℕ) (m : Message) (source : ℕ) : Type 0 where
+  pub fits : len + sizeOf m ≤ maxSize
+  pub room : maxSize ≤ size
+  pub can : writable source m ≡ true

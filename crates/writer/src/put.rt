@@ -1,0 +1,133 @@
+// A message into a lent room. Its hash, chunk or root is taken from `bytes`.
+ghost use mathlib.Core.Path.{_≡_};
+ghost use Prim.Native.Nat.{_+_, _≤_};
+ghost use mathlib.Core.Bool.{true};
+ghost use lib.ListN.{length};
+ghost use Rattle.wire.specs.Bytes.{placed};
+ghost use Rattle.wire.specs.declared.message.Options;
+ghost use Rattle.wire.specs.declared.message.Message;
+ghost use Rattle.writer.specs.Message.{optionBytes, optionSpan, bytesOf, writable, writableOptions, sizeOf};
+use crate::place;
+use wire::message::Message;
+use wire::message::Options;
+
+// The fixed options, around the root.
+fn put_fixed(room: &mut [u8], at: usize, root: usize, bytes: &[u8])
+    requires { ⌜ at + 51 ≤ length (now room) ⌝ }
+    requires { ⌜ root + 32 ≤ length (now bytes) ⌝ }
+    ensures { λ _. ⌜ now (room .exit) ≡ placed (now (room .entry)) at (optionBytes (now (bytes .entry)) (Options.Fixed root)) ⌝ }
+{
+    place::place_all(room, at, b"\x00\x01\x01\x01\x02\x00\x20");
+    let end = root + 32;
+    place::place_all(room, at + 7, &bytes[root..end]);
+    place::place_all(
+        room,
+        at + 39,
+        b"\x03\x01\x04\x02\x06\x02\x09\x00\x00\x04\x00\xff",
+    );
+}
+
+fn put_options(room: &mut [u8], at: usize, options: Options, bytes: &[u8])
+    requires { ⌜ at + optionSpan options ≤ length (now room) ⌝ }
+    requires { ⌜ writableOptions (length (now bytes)) options ≡ true ⌝ }
+    ensures { λ _. ⌜ now (room .exit) ≡ placed (now (room .entry)) at (optionBytes (now (bytes .entry)) options) ⌝ }
+{
+    match options {
+        Options::Fixed { root } => {
+            put_fixed(room, at, root, bytes);
+        }
+        Options::EndOnly => {
+            place::place8(room, at, 255);
+        }
+        Options::Other => {}
+    }
+}
+
+fn put_handshake(room: &mut [u8], at: usize, source: u32, options: Options, bytes: &[u8])
+    requires { ⌜ at + (5 + optionSpan options) ≤ length (now room) ⌝ }
+    requires { ⌜ writableOptions (length (now bytes)) options ≡ true ⌝ }
+    ensures { λ _. ⌜ now (room .exit) ≡ placed (now (room .entry)) at (bytesOf (now (bytes .entry)) (Message.Handshake source options)) ⌝ }
+{
+    place::place8(room, at, 0);
+    place::place32(room, at + 1, source);
+    put_options(room, at + 5, options, bytes);
+}
+
+fn put_data(
+    room: &mut [u8],
+    at: usize,
+    chunk: u32,
+    time: u64,
+    start: usize,
+    len: usize,
+    bytes: &[u8],
+)
+    requires { ⌜ at + (17 + len) ≤ length (now room) ⌝ }
+    requires { ⌜ start + len ≤ length (now bytes) ⌝ }
+    ensures { λ _. ⌜ now (room .exit) ≡ placed (now (room .entry)) at (bytesOf (now (bytes .entry)) (Message.Data chunk time start len)) ⌝ }
+{
+    place::place_range(room, at, 1, chunk, chunk);
+    place::place64(room, at + 9, time);
+    let end = start + len;
+    place::place_all(room, at + 17, &bytes[start..end]);
+}
+
+fn put_ack(room: &mut [u8], at: usize, first: u32, last: u32, delay: u64, bytes: &[u8])
+    requires { ⌜ at + 17 ≤ length (now room) ⌝ }
+    ensures { λ _. ⌜ now (room .exit) ≡ placed (now (room .entry)) at (bytesOf (now (bytes .entry)) (Message.Ack first last delay)) ⌝ }
+{
+    place::place_range(room, at, 2, first, last);
+    place::place64(room, at + 9, delay);
+}
+
+fn put_integrity(room: &mut [u8], at: usize, first: u32, last: u32, hash: usize, bytes: &[u8])
+    requires { ⌜ at + 41 ≤ length (now room) ⌝ }
+    requires { ⌜ hash + 32 ≤ length (now bytes) ⌝ }
+    ensures { λ _. ⌜ now (room .exit) ≡ placed (now (room .entry)) at (bytesOf (now (bytes .entry)) (Message.Integrity first last hash)) ⌝ }
+{
+    place::place_range(room, at, 4, first, last);
+    let end = hash + 32;
+    place::place_all(room, at + 9, &bytes[hash..end]);
+}
+
+// A message into the room at `at`.
+pub fn put(room: &mut [u8], at: usize, message: Message, bytes: &[u8])
+    requires { ⌜ at + sizeOf message ≤ length (now room) ⌝ }
+    requires { ⌜ writable (length (now bytes)) message ≡ true ⌝ }
+    ensures { λ _. ⌜ now (room .exit) ≡ placed (now (room .entry)) at (bytesOf (now (bytes .entry)) message) ⌝ }
+{
+    match message {
+        Message::Handshake { source, options } => {
+            put_handshake(room, at, source, options, bytes);
+        }
+        Message::Data {
+            chunk,
+            time,
+            start,
+            len,
+        } => {
+            put_data(room, at, chunk, time, start, len, bytes);
+        }
+        Message::Ack { first, last, delay } => {
+            put_ack(room, at, first, last, delay, bytes);
+        }
+        Message::Have { first, last } => {
+            place::place_range(room, at, 3, first, last);
+        }
+        Message::Integrity { first, last, hash } => {
+            put_integrity(room, at, first, last, hash, bytes);
+        }
+        Message::Request { first, last } => {
+            place::place_range(room, at, 8, first, last);
+        }
+        Message::Cancel { first, last } => {
+            place::place_range(room, at, 9, first, last);
+        }
+        Message::Choke => {
+            place::place8(room, at, 10);
+        }
+        Message::Unchoke => {
+            place::place8(room, at, 11);
+        }
+    }
+}

@@ -1,0 +1,43 @@
+//! Reading and writing against 01's words and against the list of traps, whose
+//! numbers the tests give.
+
+mod layouts;
+mod reading;
+mod writing;
+
+use super::*;
+
+/// The fixed options around an ID of 32 times the byte 7.
+fn fixed() -> Vec<u8> {
+    [&BEFORE_ID[..], &[7; 32], &BEHIND_ID].concat()
+}
+
+/// A HANDSHAKE.
+fn handshake(source: u32, options: &[u8]) -> Vec<u8> {
+    [&[0], &source.to_be_bytes()[..], options].concat()
+}
+
+/// A type byte and a range.
+fn ranged(kind: u8, first: u32, last: u32) -> Vec<u8> {
+    [&[kind], &first.to_be_bytes()[..], &last.to_be_bytes()].concat()
+}
+
+/// An INTEGRITY, its hash 32 times the byte 9.
+fn integrity(first: u32, last: u32) -> Vec<u8> {
+    [&ranged(4, first, last)[..], &[9; 32]].concat()
+}
+
+/// DATA.
+fn data(first: u32, last: u32, time: u64, chunk: &[u8]) -> Vec<u8> {
+    [&ranged(1, first, last)[..], &time.to_be_bytes(), chunk].concat()
+}
+
+/// A datagram.
+fn to(destination: u32, messages: &[&[u8]]) -> Vec<u8> {
+    [&destination.to_be_bytes()[..], &messages.concat()].concat()
+}
+
+/// The number of its layout.
+fn number(datagram: &[u8]) -> u8 {
+    layout(datagram, &mut Vec::new()).err().unwrap_or(0)
+}
