@@ -1,4 +1,4 @@
--- A datagram that the checks refuse gets a number other than 0. Assumes nothing.
+-- The number of a datagram that the checks refuse: 1, 2 or 3. Assumes nothing.
 use Prim.Native.Nat.{ℕ, zero, suc, _+_, _<_, _≤_}
 use native.Mathlib.Omega.{arith}
 use mathlib.Core.Path.{_≡_, refl, sym, ap, _∙_}
@@ -11,7 +11,7 @@ use Rattle.tree.specs.Pick.{pick}
 use Rattle.wire.specs.Bytes.{be32}
 use Rattle.wire.specs.Limits.{minSize, maxSize}
 use Rattle.wire.specs.Read.{stepAt}
-use Rattle.wire.specs.Layout.{Checked, checkedOf, numberOf, seen, handshakeFault, orFault, handshakeLayout, layoutStep, layoutFrom, layoutOf}
+use Rattle.wire.specs.Layout.{Checked, checkedOf, numberOf, seen, isEndOnly, handshakeFault, orFault, handshakeLayout, layoutStep, layoutFrom, layoutOf}
 use Rattle.wire.specs.declared.message.Options.{Options}
 use Rattle.wire.specs.declared.message.Message.{Message}
 use Rattle.wire.specs.declared.message.Message.the-variants.{Handshake, Data, Ack, Have, Integrity, Request, Cancel, Choke, Unchoke}
@@ -27,48 +27,89 @@ Passed (HandshakeAlone a o) = Unit {0}
 Passed (Messages k) = Unit {0}
 Passed (MessagesAndData c x b n k) = Unit {0}
 
--- A layout whose number says whether it is refused.
-abbrev Told : Checked → Type 0
-Told c = numberOf (c .layout) ≡ 0 → Passed (c .layout)
+-- Refused with 1, 2 or 3, if at all.
+abbrev pub Numbered : Layout → Type 0
+Numbered (Fault n) = (1 ≤ n) × (n ≤ 3)
+Numbered (HandshakeAlone a o) = Unit {0}
+Numbered (Messages k) = Unit {0}
+Numbered (MessagesAndData c x b n k) = Unit {0}
 
-or-fault : (n : ℕ) (a : ℕ) (o : Options) (gs : List ℕ) → Told (checkedOf (orFault n (HandshakeAlone a o)) gs)
-or-fault zero a o gs e = tt
-or-fault (suc n) a o gs e = absurd (omega (arith, e))
+handshake-number : (to a : ℕ) (o : Options) → handshakeFault to a o ≤ 3
+unfolding handshakeFault
+handshake-number to a o = by (eqb a 0) (eqb to 0) (isEndOnly o)
+  where
+    by : (x y z : Bool) → pick x (pick y 3 (pick z 0 3)) 0 ≤ 3
+    by true true z = omega arith
+    by true false true = omega arith
+    by true false false = omega arith
+    by false y z = omega arith
 
-told-if : (x : Bool) (gs : List ℕ) (c : Checked) → Told c → Told (pick x (checkedOf (Fault 2) gs) c)
-told-if true gs c h e = absurd (omega (arith, e))
-told-if false gs c h e = h e
-
-told-step : (s es : List ℕ) (at : ℕ) (rest : List ℕ → ℕ → Checked) → ((gs : List ℕ) (next : ℕ) → Told (rest gs next)) → (st : Step) → Told (layoutStep s es at st rest)
+numbered-handshake : (s : List ℕ) (at next a : ℕ) (o : Options) → Numbered (handshakeLayout s at next a o)
 unfolding handshakeLayout
-told-step s es at rest h End e = tt
-told-step s es at rest h Refused e = absurd (omega (arith, e))
-told-step s es at rest h (Read (Handshake a o) next) e = or-fault (pick (eqb at minSize) (pick (eqb (next .at) (length s)) (handshakeFault (be32 s 0) a o) 3) 3) a o es e
-told-step s es at rest h (Read (Data c x b n) next) e = tt
-told-step s es at rest h (Read (Ack f l d) next) e = h es (next .at) e
-told-step s es at rest h (Read (Have f l) next) e = h es (next .at) e
-told-step s es at rest h (Read (Integrity f l d) next) e = told-if (seen (f + l) es) es (rest (es ++ ((f + l) ∷ d ∷ [])) (next .at)) (h (es ++ ((f + l) ∷ d ∷ [])) (next .at)) e
-told-step s es at rest h (Read (Request f l) next) e = h es (next .at) e
-told-step s es at rest h (Read (Cancel f l) next) e = h es (next .at) e
-told-step s es at rest h (Read Choke next) e = h es (next .at) e
-told-step s es at rest h (Read Unchoke next) e = h es (next .at) e
+numbered-handshake s at next a o = by (eqb at minSize) (eqb next (length s))
+  where
+    or-fault : (n : ℕ) → n ≤ 3 → Numbered (orFault n (HandshakeAlone a o))
+    or-fault zero h = tt
+    or-fault (suc n) h = (omega arith, h)
 
-pub told-from : (n : ℕ) (s es : List ℕ) (at : ℕ) → Told (layoutFrom n s es at)
+    by : (x y : Bool) → Numbered (orFault (pick x (pick y (handshakeFault (be32 s 0) a o) 3) 3) (HandshakeAlone a o))
+    by true true = or-fault (handshakeFault (be32 s 0) a o) (handshake-number (be32 s 0) a o)
+    by true false = or-fault 3 (omega arith)
+    by false y = or-fault 3 (omega arith)
+
+numbered-if : (x : Bool) (gs : List ℕ) (c : Checked) → Numbered (c .layout) → Numbered (pick x (checkedOf (Fault 2) gs) c .layout)
+numbered-if true gs c h = (omega arith, omega arith)
+numbered-if false gs c h = h
+
+numbered-step : (s es : List ℕ) (at : ℕ) (rest : List ℕ → ℕ → Checked) → ((gs : List ℕ) (next : ℕ) → Numbered (rest gs next .layout)) → (st : Step) → Numbered (layoutStep s es at st rest .layout)
+numbered-step s es at rest h End = tt
+numbered-step s es at rest h Refused = (omega arith, omega arith)
+numbered-step s es at rest h (Read (Handshake a o) next) = numbered-handshake s at (next .at) a o
+numbered-step s es at rest h (Read (Data c x b n) next) = tt
+numbered-step s es at rest h (Read (Ack f l d) next) = h es (next .at)
+numbered-step s es at rest h (Read (Have f l) next) = h es (next .at)
+numbered-step s es at rest h (Read (Integrity f l d) next) =
+    numbered-if (seen (f + l) es) es (rest (es ++ ((f + l) ∷ d ∷ [])) (next .at)) (h (es ++ ((f + l) ∷ d ∷ [])) (next .at))
+numbered-step s es at rest h (Read (Request f l) next) = h es (next .at)
+numbered-step s es at rest h (Read (Cancel f l) next) = h es (next .at)
+numbered-step s es at rest h (Read Choke next) = h es (next .at)
+numbered-step s es at rest h (Read Unchoke next) = h es (next .at)
+
+numbered-from : (n : ℕ) (s es : List ℕ) (at : ℕ) → Numbered (layoutFrom n s es at .layout)
 unfolding layoutFrom
-told-from zero s es at e = tt
-told-from (suc n) s es at e = told-step s es at (λ gs next. layoutFrom n s gs next) (λ gs next. told-from n s gs next) (stepAt s at) e
+numbered-from zero s es at = tt
+numbered-from (suc n) s es at = numbered-step s es at (λ gs next. layoutFrom n s gs next) (λ gs next. numbered-from n s gs next) (stepAt s at)
+
+-- A refusal is 1, 2 or 3.
+pub numbered : (s : List ℕ) → Numbered (layoutOf s .layout)
+unfolding layoutOf
+numbered s = by (ltb (length s) minSize) (ltb maxSize (length s))
+  where
+    by : (x y : Bool) → Numbered (pick x (checkedOf (Fault 1) []) (pick y (checkedOf (Fault 1) []) (layoutFrom (length s) s [] minSize)) .layout)
+    by true y = (omega arith, omega arith)
+    by false true = (omega arith, omega arith)
+    by false false = numbered-from (length s) s [] minSize
+
+-- So a layout with the number 0 is not one.
+passes : (l : Layout) → Numbered l → numberOf l ≡ 0 → Passed l
+passes (Fault n) h e = absurd (omega (arith, h .0, e))
+passes (HandshakeAlone a o) h e = tt
+passes (Messages k) h e = tt
+passes (MessagesAndData c x b n k) h e = tt
 
 -- A datagram with the number 0 is within the sizes and is not refused.
 pub passed : (s : List ℕ) → numberOf (layoutOf s .layout) ≡ 0 → (minSize ≤ length s) × (length s ≤ maxSize) × Passed (layoutOf s .layout)
 unfolding layoutOf
-passed s = by (ltb (length s) minSize) (ltb maxSize (length s)) refl refl
+passed s e = (sizes .0, sizes .1, passes (layoutOf s .layout) (numbered s) e)
   where
     by : (x y : Bool) → ltb (length s) minSize ≡ x → ltb maxSize (length s) ≡ y
-        → numberOf (pick x (checkedOf (Fault 1) []) (pick y (checkedOf (Fault 1) []) (layoutFrom (length s) s [] minSize)) .layout) ≡ 0
-        → (minSize ≤ length s) × (length s ≤ maxSize) × Passed (pick x (checkedOf (Fault 1) []) (pick y (checkedOf (Fault 1) []) (layoutFrom (length s) s [] minSize)) .layout)
-    by true y p q e = absurd (omega (arith, e))
-    by false true p q e = absurd (omega (arith, e))
-    by false false p q e = (ltb-false (length s) minSize p, ltb-false maxSize (length s) q, told-from (length s) s [] minSize e)
+        → numberOf (pick x (checkedOf (Fault 1) []) (pick y (checkedOf (Fault 1) []) (layoutFrom (length s) s [] minSize)) .layout) ≡ 0 → (minSize ≤ length s) × (length s ≤ maxSize)
+    by true y p q z = absurd (omega (arith, z))
+    by false true p q z = absurd (omega (arith, z))
+    by false false p q z = (ltb-false (length s) minSize p, ltb-false maxSize (length s) q)
+
+    sizes : (minSize ≤ length s) × (length s ≤ maxSize)
+    sizes = by (ltb (length s) minSize) (ltb maxSize (length s)) refl refl e
 
 -- A datagram over the limit.
 pub too-long : (s : List ℕ) → maxSize < length s → layoutOf s .layout ≡ Fault 1

@@ -13,3 +13,4 @@ pub mod BehindLaws
 pub mod ExtendLaws
 pub mod FaultLaws
 pub mod CountLaws
+pub mod Promise

@@ -1,21 +1,14 @@
--- How far a message reaches: reading goes forward, and an INTEGRITY message has 41 bytes of the datagram. Assumes nothing.
+-- Reading goes forward, and an INTEGRITY message has 41 bytes, which lie in the datagram. Assumes nothing.
 use Prim.Native.Nat.{ℕ, _+_, _≤_}
 use native.Mathlib.Omega.{arith}
-use mathlib.Core.Path.{_≡_, refl}
 use mathlib.Core.List.{List}
-use mathlib.Core.Bool.{Bool, true, false, not}
-use lib.ListN.{length, getD, drop}
-use lib.Dec.{ltb, eqb}
-use borrow.Author.Tests.{ltb-false}
-use Rattle.tree.specs.Pick.{pick}
-use Rattle.tree.specs.Range.{covers}
-use Rattle.wire.specs.Range.{firstOf, lastOf}
-use Rattle.wire.specs.Options.{optionsSize}
-use Rattle.wire.specs.Read.{handshakeAt, dataAt, integrityAt, ackAt, rangedAt, typed, stepOf}
+use lib.ListN.{length}
+use Rattle.wire.specs.Read.{stepOf}
 use Rattle.wire.specs.declared.message.Message.{Message}
 use Rattle.wire.specs.declared.message.Message.the-variants.{Handshake, Data, Ack, Have, Integrity, Request, Cancel, Choke, Unchoke}
 use Rattle.wire.specs.declared.message.Step.{Step}
 use Rattle.wire.specs.declared.message.Step.the-variants.{Read, End, Refused}
+use Rattle.wire.proofs.ViewLaws.{View, the-end, refused, a-handshake, a-data, an-ack, a-have, an-integrity, a-request, a-cancel, a-choke, an-unchoke, view}
 
 -- where the next message stands
 abbrev pub nextOf : ℕ → Step → ℕ
@@ -45,74 +38,18 @@ pub record Reaches (at size : ℕ) (st : Step) : Type 0 where
   pub forward : at + stepSpan st ≤ nextOf at st
   pub inside : stepSpan st ≤ size
 
-module _ (at size : ℕ) where
-  -- a refusal stays
-  refused : Reaches at size Refused
-  refused = record { forward = omega arith; inside = omega arith }
+reaches : (at : ℕ) (t : List ℕ) (st : Step) → View at t st → Reaches at (length t) st
+reaches at t End (the-end h) = record { forward = omega arith; inside = omega arith }
+reaches at t Refused refused = record { forward = omega arith; inside = omega arith }
+reaches at t _ (a-handshake e l o) = record { forward = omega arith; inside = omega arith }
+reaches at t _ (a-data e l o) = record { forward = omega arith; inside = omega arith }
+reaches at t _ (an-ack e l o) = record { forward = omega arith; inside = omega arith }
+reaches at t _ (a-have e l o) = record { forward = omega arith; inside = omega arith }
+reaches at t _ (an-integrity e l o) = record { forward = omega arith; inside = l }
+reaches at t _ (a-request e l o) = record { forward = omega arith; inside = omega arith }
+reaches at t _ (a-cancel e l o) = record { forward = omega arith; inside = omega arith }
+reaches at t _ (a-choke e l) = record { forward = omega arith; inside = omega arith }
+reaches at t _ (an-unchoke e l) = record { forward = omega arith; inside = omega arith }
 
-  -- one of two, by a test
-  either : (b : Bool) {x y : Step} → Reaches at size x → (b ≡ false → Reaches at size y) → Reaches at size (pick b x y)
-  either true p q = p
-  either false p q = q refl
-
-  -- HAVE, REQUEST and CANCEL
-  name-span : (a b : Bool) (f l : ℕ) → spanOf (pick a (Have f l) (pick b (Request f l) (Cancel f l))) ≡ 0
-  name-span true b f l = refl
-  name-span false true f l = refl
-  name-span false false f l = refl
-
--- each row of the table
-module _ (at : ℕ) (t : List ℕ) where
-  handshake-reaches : Reaches at (length t) (handshakeAt at t)
-  unfolding handshakeAt
-  handshake-reaches =
-      either at (length t) (ltb (length t) 5) (refused at (length t))
-      (λ _. either at (length t) (eqb (optionsSize (drop 5 t)) 0) (refused at (length t)) (λ _. record { forward = omega arith; inside = omega arith }))
-
-  data-reaches : Reaches at (length t) (dataAt at t)
-  unfolding dataAt
-  data-reaches =
-      either at (length t) (ltb (length t) 17) (refused at (length t))
-      (λ _. either at (length t) (not (eqb (firstOf t) (lastOf t))) (refused at (length t)) (λ _. record { forward = omega arith; inside = omega arith }))
-
-  ack-reaches : Reaches at (length t) (ackAt at t)
-  unfolding ackAt
-  ack-reaches =
-      either at (length t) (ltb (length t) 17) (refused at (length t))
-      (λ _. either at (length t) (ltb (lastOf t) (firstOf t)) (refused at (length t)) (λ _. record { forward = omega arith; inside = omega arith }))
-
-  integrity-reaches : Reaches at (length t) (integrityAt at t)
-  unfolding integrityAt
-  integrity-reaches =
-      either at (length t) (ltb (length t) 41) (refused at (length t))
-      (λ e. either at (length t) (not (covers (firstOf t + lastOf t) (firstOf t) (lastOf t))) (refused at (length t))
-      (λ _. record { forward = omega arith; inside = ltb-false (length t) 41 e }))
-
-  ranged-reaches : (k : ℕ) → Reaches at (length t) (rangedAt k at t)
-  unfolding rangedAt
-  ranged-reaches k =
-      either at (length t) (ltb (length t) 9) (refused at (length t))
-      (λ _. either at (length t) (ltb (lastOf t) (firstOf t)) (refused at (length t))
-      (λ _. let e = name-span at (length t) (eqb k 3) (eqb k 8) (firstOf t) (lastOf t) in record { forward = omega arith; inside = omega arith }))
-
-  -- a message by its type
-  typed-reaches : (k : ℕ) → Reaches at (length t) (typed k at t)
-  unfolding typed
-  typed-reaches k =
-      either at (length t) (eqb k 0) handshake-reaches
-      (λ _. either at (length t) (eqb k 1) data-reaches
-      (λ _. either at (length t) (eqb k 2) ack-reaches
-      (λ _. either at (length t) (eqb k 3) (ranged-reaches 3)
-      (λ _. either at (length t) (eqb k 4) integrity-reaches
-      (λ _. either at (length t) (eqb k 8) (ranged-reaches 8)
-      (λ _. either at (length t) (eqb k 9) (ranged-reaches 9)
-      (λ _. either at (length t) (eqb k 10) (record { forward = omega arith; inside = omega arith })
-      (λ _. either at (length t) (eqb k 11) (record { forward = omega arith; inside = omega arith })
-      (λ _. refused at (length t))))))))))
-
-  -- every step
-  pub step-reaches : Reaches at (length t) (stepOf at t)
-  unfolding stepOf
-  step-reaches =
-      either at (length t) (ltb (length t) 1) (record { forward = omega arith; inside = omega arith })
-      (λ _. typed-reaches (getD t 0 0))
+pub step-reaches : (at : ℕ) (t : List ℕ) → Reaches at (length t) (stepOf at t)
+step-reaches at t = reaches at t (stepOf at t) (view at t)

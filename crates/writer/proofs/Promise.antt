@@ -1,0 +1,49 @@
+-- What the crates above know of this one: of its definitions the names passed on here, the round trips, and that a refused
+-- call changes nothing. Assumes nothing.
+use mathlib.Core.Path.{_≡_, refl}
+use mathlib.Core.Logic.{_≢_}
+use mathlib.Core.List.{List}
+use mathlib.Core.Bool.{true}
+use Prim.Native.Nat.{ℕ, zero, suc, _+_, _<_, _≤_, _^_}
+use lib.ListN.{length}
+use lib.Dec.{ltb}
+use Rattle.tree.specs.Pick.{pick}
+use Rattle.wire.proofs.Promise.{be32, placed, minSize, maxSize, numberOf, layoutOf}
+use Rattle.wire.specs.declared.message.Message.{Message}
+use Rattle.writer.proofs.SizeLaws.{bytes-length}
+use Rattle.writer.proofs.RoundTrips.{written-reads, read-writes}
+pub use Rattle.writer.specs.Bytes.{bytes32, bytes64}
+pub use Rattle.writer.specs.Message.{within, bytesOf, writable, sizeOf}
+pub use Rattle.writer.specs.Add.{Sent, sentOf, decide, addAnswer, addSpec, beginSpec}
+pub use Rattle.writer.specs.Lists.{Item, itemOf, encode, AllFit, AreBytes, sayings, readAll, Rewritable, writeAll, datagramOf}
+pub use Rattle.writer.proofs.RoundTrips.{Reads}
+
+-- A message that can be written has the size that the table says.
+pub message-size : (s : List ℕ) (m : Message) → writable (length s) m ≡ true → length (bytesOf s m) ≡ sizeOf m
+message-size = bytes-length
+
+-- ---- a refused call gives length 0 and leaves the room
+refused : (n : ℕ) (old : List ℕ) (len : ℕ) (new : List ℕ) → decide n old len new .answer ≢ 0 → (decide n old len new .len ≡ 0) × (decide n old len new .room ≡ old)
+refused zero old len new h = absurd (h refl)
+refused (suc n) old len new h = (refl, refl)
+
+pub begin-refused-same : (room : List ℕ) (to : ℕ) → beginSpec room to .answer ≢ 0 → (beginSpec room to .len ≡ 0) × (beginSpec room to .room ≡ room)
+unfolding beginSpec
+begin-refused-same room to = refused (pick (ltb (length room) maxSize) 11 0) room minSize (placed room 0 (bytes32 to))
+
+pub add-refused-same : (room : List ℕ) (len : ℕ) (m : Message) (source : List ℕ) → addSpec room len m source .answer ≢ 0
+    → (addSpec room len m source .len ≡ 0) × (addSpec room len m source .room ≡ room)
+unfolding addSpec
+add-refused-same room len m source = refused (addAnswer room len m source) room (len + sizeOf m) (placed room len (bytesOf source m))
+
+-- ---- the round trips
+
+-- Every list of messages that begin and add accepted reads back as exactly those messages.
+pub round-trip-written : (room : List ℕ) (to : ℕ) (is : List Item) → to < 2 ^ 32 → AllFit is → writeAll room to is .answer ≡ 0 → Reads (datagramOf (writeAll room to is)) to is
+round-trip-written = written-reads
+
+-- Every datagram that passes the checks, with the fixed options or End alone where it is a HANDSHAKE, is byte for byte what
+-- begin and add give for the messages read from it.
+pub round-trip-read : (room s : List ℕ) → AreBytes s → maxSize ≤ length room → numberOf (layoutOf s .layout) ≡ 0 → Rewritable (layoutOf s .layout)
+    → writeAll room (be32 s 0) (readAll s) ≡ sentOf 0 (length s) (placed room 0 s)
+round-trip-read = read-writes

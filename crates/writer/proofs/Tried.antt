@@ -1,0 +1,67 @@
+-- Worked datagrams, one of each message of 01's table (RFC 7574, 8.4 to 8.15), and the opening HANDSHAKE: antt computes both
+-- ways. Assumes nothing.
+use Prim.Native.Nat.{ℕ, _+_}
+use mathlib.Core.Path.{_≡_, refl}
+use mathlib.Core.List.{List, [], _∷_, _++_}
+use lib.ListN.{length, replicate}
+use Rattle.tree.specs.Bin.{lowOnes, height, first, last}
+use Rattle.wire.specs.Bytes.{begins}
+use Rattle.wire.specs.Options.{headSize, bodySize, optionSize, optionsFrom, optionsSize, isFixed}
+use Rattle.wire.specs.Read.{cursor, kindOf, handshakeAt, dataAt, ackAt, integrityAt, rangedAt, typed, stepOf}
+use Rattle.wire.specs.Layout.{Checked, checkedOf, seen, handshakeFault, handshakeLayout, layoutFrom, layoutOf}
+use Rattle.wire.specs.declared.message.Options.the-variants.{Fixed, EndOnly}
+use Rattle.wire.specs.declared.message.Message.{Message}
+use Rattle.wire.specs.declared.message.Message.the-variants.{Handshake, Data, Ack, Have, Integrity, Request, Cancel, Choke, Unchoke}
+use Rattle.wire.specs.declared.message.Step.the-variants.{Read}
+use Rattle.wire.specs.declared.layout.Layout.{Layout}
+use Rattle.wire.specs.declared.layout.Layout.the-variants.{HandshakeAlone, Messages, MessagesAndData}
+use Rattle.writer.specs.Bytes.{bytes32, bytes64, rangeBytes}
+use Rattle.writer.specs.Message.{optionBytes, bytesOf, optionSpan, sizeOf}
+use Rattle.writer.proofs.BackLaws.{moved}
+
+-- A message is written as these bytes, and they are read as it, behind a destination.
+abbrev Worked : List ℕ → Message → List ℕ → Type 0
+Worked source m bytes = (bytesOf source m ≡ bytes) × (stepOf 4 bytes ≡ Read (moved 4 m) (cursor (4 + sizeOf m)))
+
+-- HAVE 5..9, REQUEST 0..0, CANCEL 256..65535, CHOKE, UNCHOKE.
+pub ranges :
+    Worked [] (Have 5 9) (3 ∷ 0 ∷ 0 ∷ 0 ∷ 5 ∷ 0 ∷ 0 ∷ 0 ∷ 9 ∷ [])
+    × Worked [] (Request 0 0) (8 ∷ 0 ∷ 0 ∷ 0 ∷ 0 ∷ 0 ∷ 0 ∷ 0 ∷ 0 ∷ [])
+    × Worked [] (Cancel 256 65535) (9 ∷ 0 ∷ 0 ∷ 1 ∷ 0 ∷ 0 ∷ 0 ∷ 255 ∷ 255 ∷ [])
+    × Worked [] Choke (10 ∷ [])
+    × Worked [] Unchoke (11 ∷ [])
+unfolding bytesOf rangeBytes bytes32 sizeOf stepOf typed rangedAt
+ranges = ((refl, refl), (refl, refl), (refl, refl), (refl, refl), (refl, refl))
+
+-- ACK of 1..2 with the delay 2 ^ 32 + 7.
+pub ack : Worked [] (Ack 1 2 4294967303) (2 ∷ 0 ∷ 0 ∷ 0 ∷ 1 ∷ 0 ∷ 0 ∷ 0 ∷ 2 ∷ 0 ∷ 0 ∷ 0 ∷ 1 ∷ 0 ∷ 0 ∷ 0 ∷ 7 ∷ [])
+unfolding bytesOf rangeBytes bytes32 bytes64 sizeOf stepOf typed ackAt
+ack = (refl, refl)
+
+-- DATA of chunk 6 at the time 258, three bytes of the source from index 1 on.
+pub chunk : Worked (9 ∷ 1 ∷ 2 ∷ 3 ∷ 9 ∷ []) (Data 6 258 1 3) (1 ∷ 0 ∷ 0 ∷ 0 ∷ 6 ∷ 0 ∷ 0 ∷ 0 ∷ 6 ∷ 0 ∷ 0 ∷ 0 ∷ 0 ∷ 0 ∷ 0 ∷ 1 ∷ 2 ∷ 1 ∷ 2 ∷ 3 ∷ [])
+unfolding bytesOf rangeBytes bytes32 bytes64 sizeOf stepOf typed dataAt
+chunk = (refl, refl)
+
+-- INTEGRITY of the node over 4..7, whose hash is 32 bytes of 170.
+pub integrity : Worked (replicate 32 170) (Integrity 4 7 0) (4 ∷ 0 ∷ 0 ∷ 0 ∷ 4 ∷ 0 ∷ 0 ∷ 0 ∷ 7 ∷ replicate 32 170)
+unfolding bytesOf rangeBytes bytes32 sizeOf stepOf typed integrityAt height lowOnes first last
+integrity = (refl, refl)
+
+-- A closing HANDSHAKE.
+pub closing : Worked [] (Handshake 0 EndOnly) (0 ∷ 0 ∷ 0 ∷ 0 ∷ 0 ∷ 255 ∷ [])
+unfolding bytesOf optionBytes optionSpan bytes32 sizeOf stepOf typed handshakeAt kindOf optionsSize optionsFrom optionSize headSize bodySize isFixed begins
+closing = (refl, refl)
+
+-- The opening HANDSHAKE of 01's example: to channel 0, from channel 17, around a root of 32 zero bytes.
+abbrev pub opening : List ℕ
+opening =
+    0 ∷ 0 ∷ 0 ∷ 0 ∷ 0 ∷ 0 ∷ 0 ∷ 0 ∷ 17 ∷ 0 ∷ 1 ∷ 1 ∷ 1 ∷ 2 ∷ 0 ∷ 32
+    ∷ (replicate 32 0 ++ (3 ∷ 1 ∷ 4 ∷ 2 ∷ 6 ∷ 2 ∷ 9 ∷ 0 ∷ 0 ∷ 4 ∷ 0 ∷ 255 ∷ []))
+
+pub opening-is :
+    (length opening ≡ 60)
+    × (bytes32 0 ++ bytesOf (replicate 32 0) (Handshake 17 (Fixed 0)) ≡ opening)
+    × (layoutOf opening ≡ checkedOf (HandshakeAlone 17 (Fixed 16)) [])
+unfolding bytesOf optionBytes bytes32 layoutOf layoutFrom handshakeLayout handshakeFault stepOf typed handshakeAt kindOf optionsSize optionsFrom optionSize headSize bodySize isFixed begins
+opening-is = (refl, refl, refl)
