@@ -29,7 +29,7 @@ use Rattle.store.proofs.RoomLaws.{digest-filler, digest-hash, length-pu
 use Rattle.store.proofs.WrittenLaws.{bin-eq}
 use Rattle.tree.proofs.NodeLaws.{split, above-in, above-unique, aligned-left, aligned-right}
 use Rattle.tree.proofs.PackLaws.{high-bound}
-use Rattle.tree.proofs.PeakTests.{both-true}
+use Rattle.tree.proofs.PickLaws.{both-true}
 use Rattle.tree.proofs.SoundLaws.{combined-peaks}
 use Rattle.tree.proofs.TreeLaws.{tree-leaf, tree-step, combined-root}
 

@@ -20,7 +20,8 @@ use Rattle.store.specs.Storing.{Put, putIf, putPeaks, putPath}
 use Rattle.tree.proofs.BinLaws.{bin-inj}
 use Rattle.tree.proofs.NodeLaws.{split, above-left, above-right, other-left, other-right, above-aligned, parent-right, parent-above, aligned-left, aligned-right, child-cases}
 use Rattle.tree.proofs.PackLaws.{high-bound}
-use Rattle.tree.proofs.PeakTests.{both-true, either, peak-bit, bit-peak}
+use Rattle.tree.proofs.PickLaws.{both-true, either}
+use Rattle.tree.proofs.PeakTests.{peak-bit, bit-peak}
 
 -- ---- nodes by their numbers
 

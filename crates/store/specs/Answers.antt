@@ -1,21 +1,17 @@
 -- The numbers given back before any hash is looked at, in 01's order: 12, 11, 7, 8 (01, "Numbers given back").
 -- Assumes nothing.
-use Prim.Native.Nat.{ℕ, zero, suc, _*_}
+use Prim.Native.Nat.{ℕ, _*_}
 use mathlib.Core.Bool.{Bool, true, false, not}
 use lib.Dec.{leb, ltb, eqb}
 use Rattle.bits.proofs.Promise.{rowWords}
 use Rattle.tree.specs.Pack.{chunkSize, maxLength, size, leafPlaces}
 use Rattle.store.specs.Rooms.{countOf}
+pub use Rattle.tree.specs.Pick.{earlier}
 
 -- The number n where a test holds, and otherwise what the rest gives.
 abbrev pub refuse : Bool → ℕ → ℕ → ℕ
 refuse true n rest = n
 refuse false n rest = rest
-
--- The earlier number of two, if it refuses.
-abbrev pub earlier : ℕ → ℕ → ℕ
-earlier zero n = n
-earlier (suc m) n = suc m
 
 -- 12: the order's length is 0 or over the limit.
 unfoldable pub lengthAnswer : ℕ → ℕ

@@ -19,7 +19,8 @@ use Rattle.tree.specs.Steps.{peakBit, peakAt, siblingAt, peaksBelow}
 use Rattle.tree.proofs.NodeLaws.{down-above, whole-below, above-aligned}
 use Rattle.tree.proofs.PackLaws.{high-bound}
 use Rattle.tree.proofs.PeakLaws.{peaks-bits}
-use Rattle.tree.proofs.PeakTests.{both-true, bit-peak, all-peaks, peak-test}
+use Rattle.tree.proofs.PickLaws.{both-true}
+use Rattle.tree.proofs.PeakTests.{bit-peak, all-peaks, peak-test}
 use Rattle.tree.proofs.SoundLaws.{combined-peaks}
 use Rattle.tree.proofs.TakeLaws.{reach-finds}
 use Rattle.tree.proofs.TrueLaws.{climb-agree}

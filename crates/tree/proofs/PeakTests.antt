@@ -14,19 +14,10 @@ use Rattle.tree.specs.Peaks.{peaks, peakOf}
 use Rattle.tree.specs.State.{isPeak}
 use Rattle.tree.specs.Verdicts.{every}
 use Rattle.tree.specs.Steps.{peakAt, peaksBelow}
+use Rattle.tree.proofs.PickLaws.{both-true}
 use Rattle.tree.proofs.NodeLaws.{split, above-in, above-left, above-right, unique, above-aligned, parent-above, aligned-left, child-cases}
 use Rattle.tree.proofs.PackLaws.{high-bound}
 use Rattle.tree.proofs.PeakLaws.{peaks-bits, peak-of}
-
--- ---- tests
-
-pub both-true : (b x : Bool) → pick b x false ≡ true → (b ≡ true) × (x ≡ true)
-both-true true x e = (refl, e)
-both-true false x e = absurd (true≢false (sym e))
-
-pub either : (b : Bool) → (b ≡ true) ⊎ (b ≡ false)
-either true = inl refl
-either false = inr refl
 
 -- ---- the list of the peaks, and the test for one
 

@@ -17,7 +17,7 @@ use Rattle.tree.specs.Walk.{Hangs}
 use Rattle.tree.proofs.NodeLaws.{split, above-left, above-right, above-top, whole-down, above-aligned, parent-right, aligned-left, aligned-right, above-zero}
 use Rattle.tree.proofs.PackLaws.{levels-holds}
 use Rattle.tree.proofs.TreeLaws.{given-empty, given-whole, given-mixed}
-use Rattle.tree.proofs.PeakTests.{both-true}
+use Rattle.tree.proofs.PickLaws.{both-true}
 
 -- ---- what the peaks give depends on the peaks alone
 

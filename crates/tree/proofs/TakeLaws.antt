@@ -18,7 +18,8 @@ use Rattle.tree.specs.declared.verdict.Verdict.the-variants.{Fits, Missi
 use Rattle.tree.proofs.NodeLaws.{split, whole-below, above-aligned}
 use Rattle.tree.proofs.PackLaws.{high-bound}
 use Rattle.tree.proofs.PeakLaws.{peaks-bits, peak-of}
-use Rattle.tree.proofs.PeakTests.{either, bit-peak, some-bits, all-peaks, peak-test}
+use Rattle.tree.proofs.PickLaws.{either}
+use Rattle.tree.proofs.PeakTests.{bit-peak, some-bits, all-peaks, peak-test}
 use Rattle.tree.proofs.HungLaws.{hung-sound, adopted-sound}
 
 -- ---- the least height that is trusted

@@ -10,7 +10,7 @@ use borrow.Author.Tests.{lt-ltb, le-ltb, eq-eqb, ne-eqb}
 use Rattle.wire.specs.Bytes.{be32, placed}
 use Rattle.wire.specs.Limits.{minSize, maxSize, entryWords}
 use Rattle.wire.specs.Layout.{Checked, checkedOf, seen, isEndOnly, handshakeFault, orFault, handshakeLayout, layoutOf, checkSpec}
-use Rattle.wire.specs.Steps.{turnedOf, noted, passed}
+use Rattle.wire.specs.Steps.{turnedOf, noted, passSpec}
 use Rattle.wire.specs.declared.message.Options.{Options}
 use Rattle.wire.specs.declared.layout.Layout.the-variants.{Fault, HandshakeAlone}
 use Rattle.wire.specs.declared.layout.Turn.the-variants.{On, Over}
@@ -134,6 +134,6 @@ module _ (room s : List ℕ) where
       check-high h = simp (le-ltb (length room) entryWords roomy, le-ltb (length s) minSize low, lt-ltb maxSize (length s) h)
 
       -- the messages decide
-      pub check-good : length s ≤ maxSize → {c : Checked} → c ≡ passed room s → c ≡ checkSpec room s
-      unfolding checkSpec layoutOf passed
+      pub check-good : length s ≤ maxSize → {c : Checked} → c ≡ passSpec room s → c ≡ checkSpec room s
+      unfolding checkSpec layoutOf passSpec
       check-good h e = e ∙ simp (le-ltb (length room) entryWords roomy, le-ltb (length s) minSize low, le-ltb maxSize (length s) h)

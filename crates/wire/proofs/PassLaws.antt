@@ -13,7 +13,7 @@ use Rattle.wire.specs.Bytes.{placed}
 use Rattle.wire.specs.Limits.{minSize, maxSize, entryWords}
 use Rattle.wire.specs.Read.{stepAt}
 use Rattle.wire.specs.Layout.{Checked, checkedOf, seen, handshakeLayout, layoutStep, layoutFrom}
-use Rattle.wire.specs.Steps.{Turned, turnedOf, noted, turnOn, turnAt, Standing, passed}
+use Rattle.wire.specs.Steps.{Turned, turnedOf, noted, turnOn, turnAt, Standing, passSpec}
 use Rattle.wire.specs.declared.message.Options.{Options}
 use Rattle.wire.specs.declared.message.Message.{Message}
 use Rattle.wire.specs.declared.message.Message.the-variants.{Handshake, Data, Ack, Have, Integrity, Request, Cancel, Choke, Unchoke}
@@ -245,16 +245,16 @@ module _ (old s room : List ℕ) (left at used : ℕ) (P : Passing old s room le
           }
 
   -- a turn that ends the pass
-  pub pass-over : 0 < left → {t : Turn} {l : Layout} {after : List ℕ} → turnedOf t after ≡ turnAt s room used at (stepAt s at) → t ≡ Over l → checkedOf l after ≡ passed old s
-  unfolding passed
+  pub pass-over : 0 < left → {t : Turn} {l : Layout} {after : List ℕ} → turnedOf t after ≡ turnAt s room used at (stepAt s at) → t ≡ Over l → checkedOf l after ≡ passSpec old s
+  unfolding passSpec
   pass-over h {l = l} {after = after} e g =
       let o = ended s room used at (λ gs x. layoutFrom (left - 1) s gs x) (stepAt s at) entries-length (ap (λ (x : Turn). turnedOf x after) (sym g) ∙ e) in
       let w : layoutFrom (length s) s [] minSize ≡ checkedOf l (take used room) = sym (P .same) ∙ layout-turn left s (take used room) at h ∙ o .0 in
       rw w (ap (checkedOf l) (o .1 ∙ P .front))
 
   -- no turn is left
-  pub pass-out : left ≤ 0 → checkedOf (Messages used) room ≡ passed old s
-  unfolding passed
+  pub pass-out : left ≤ 0 → checkedOf (Messages used) room ≡ passSpec old s
+  unfolding passSpec
   pass-out h =
       let w : layoutFrom (length s) s [] minSize ≡ checkedOf (Messages used) (take used room) = sym (P .same) ∙ layout-out left s (take used room) at used entries-length h in
       rw w (ap (checkedOf (Messages used)) (P .front))

@@ -57,5 +57,5 @@ pub record Standing (s : List ℕ) (size at used : ℕ) : Type 0 where
   pub even : used % 2 ≡ 0
 
 -- The whole pass over a datagram of sound size, its entries stored from the room's front.
-unfoldable pub passed : List ℕ → List ℕ → Checked
-passed room s = checkedOf (layoutFrom (length s) s [] minSize .layout) (placed room 0 (layoutFrom (length s) s [] minSize .entries))
+unfoldable pub passSpec : List ℕ → List ℕ → Checked
+passSpec room s = checkedOf (layoutFrom (length s) s [] minSize .layout) (placed room 0 (layoutFrom (length s) s [] minSize .entries))

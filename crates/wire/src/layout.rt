@@ -5,7 +5,7 @@ ghost use lib.ListN.{length};
 ghost use Rattle.wire.specs.Limits.{minSize, maxSize, entryWords};
 ghost use Rattle.wire.specs.Read.{cursor, stepAt};
 ghost use Rattle.wire.specs.Layout.{numberOf, seen, isEndOnly, handshakeFault, handshakeLayout, checkSpec, checkedOf};
-ghost use Rattle.wire.specs.Steps.{turnedOf, noted, turnOn, turnAt, Standing, passed};
+ghost use Rattle.wire.specs.Steps.{turnedOf, noted, turnOn, turnAt, Standing, passSpec};
 use crate::bytes;
 use crate::limits::ENTRIES;
 use crate::limits::MAX_SIZE;
@@ -195,7 +195,7 @@ fn pass(datagram: &[u8], entries: &mut [u64]) -> Layout
     requires { ⌜ minSize ≤ length (now datagram) ⌝ }
     requires { ⌜ length (now datagram) ≤ maxSize ⌝ }
     requires { ⌜ entryWords ≤ length (now entries) ⌝ }
-    ensures { λ r. ⌜ checkedOf r (now (entries .exit)) ≡ passed (now (entries .entry)) (now (datagram .entry)) ⌝ }
+    ensures { λ r. ⌜ checkedOf r (now (entries .exit)) ≡ passSpec (now (entries .entry)) (now (datagram .entry)) ⌝ }
 {
     let mut at: usize = MIN_SIZE;
     let mut used: usize = 0;

@@ -8,7 +8,7 @@ use lib.ListN.{length, take, length-append}
 use lib.Seq.{length-take-le}
 use lib.Dec.{ltb, eqb}
 use borrow.Author.Tests.{ltb-false, not-false}
-use Rattle.tree.specs.Pick.{pick}
+use Rattle.tree.specs.Pick.{pick, earlier}
 use Rattle.tree.specs.Range.{covers}
 use Rattle.wire.specs.Bytes.{be32}
 use Rattle.wire.specs.Limits.{minSize, maxSize}
@@ -20,7 +20,7 @@ use Rattle.wire.specs.declared.layout.Layout.the-variants.{Fault, HandshakeAlon
 use Rattle.wire.proofs.ExtendLaws.{Extended}
 use Rattle.wire.proofs.FaultLaws.{Passed, passed}
 use Rattle.writer.specs.Message.{bytesOf, writable, sizeOf}
-use Rattle.writer.specs.Add.{earlier, hasData, addAnswer}
+use Rattle.writer.specs.Add.{hasData, addAnswer}
 use Rattle.writer.specs.Lists.{Fits}
 use Rattle.writer.specs.Steps.{rangeFault, nodeFault, faultBehind}
 use Rattle.writer.proofs.SizeLaws.{bytes-length}

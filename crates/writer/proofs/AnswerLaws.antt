@@ -9,7 +9,7 @@ use lib.ListN.{length, take, drop, replicate, length-append, length-replicate}
 use lib.Seq.{length-take-le}
 use lib.Dec.{ltb}
 use borrow.Author.Tests.{lt-ltb, le-ltb, eq-eqb, ne-eqb, not-false}
-use Rattle.tree.specs.Pick.{pick}
+use Rattle.tree.specs.Pick.{pick, earlier}
 use Rattle.tree.specs.Range.{covers, nodeOfRange}
 use Rattle.tree.specs.declared.bin.RangeNode.{RangeNode}
 use Rattle.tree.specs.declared.bin.RangeNode.the-variants.{Node, NoNode}
@@ -28,7 +28,7 @@ use Rattle.wire.proofs.FaultLaws.{Passed, passed, too-long}
 use Rattle.wire.proofs.CountLaws.{Says, entries-fit}
 use Rattle.writer.specs.Bytes.{bytes32}
 use Rattle.writer.specs.Message.{bytesOf, writable, sizeOf}
-use Rattle.writer.specs.Add.{earlier, hasData, addAnswer, sentOf, decide, beginSpec, addSpec}
+use Rattle.writer.specs.Add.{hasData, addAnswer, sentOf, decide, beginSpec, addSpec}
 use Rattle.writer.specs.Lists.{Fits}
 use Rattle.writer.specs.Steps.{nodeFault, faultBehind, Roomy, faultAfter, FitsBehind, Addable}
 use Rattle.writer.proofs.SizeLaws.{bytes-length}

@@ -15,7 +15,7 @@ use Rattle.writer.proofs.RoundTrips.{written-reads, read-writes}
 pub use Rattle.writer.specs.Bytes.{bytes32, bytes64}
 pub use Rattle.writer.specs.Message.{within, bytesOf, writable, sizeOf}
 pub use Rattle.writer.specs.Add.{Sent, sentOf, decide, addAnswer, addSpec, beginSpec}
-pub use Rattle.writer.specs.Lists.{Item, itemOf, encode, AllFit, AreBytes, sayings, readAll, Rewritable, writeAll, datagramOf}
+pub use Rattle.writer.specs.Lists.{Item, itemOf, encode, AllFit, AreBytes, contentsOf, readAll, Rewritable, writeAll, datagramOf}
 pub use Rattle.writer.proofs.RoundTrips.{Reads}
 
 -- A message that can be written has the size that the table says.

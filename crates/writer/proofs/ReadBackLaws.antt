@@ -26,7 +26,7 @@ use Rattle.wire.proofs.ExtendLaws.{Extended}
 use Rattle.writer.specs.Bytes.{bytes32, bytes64, rangeBytes}
 use Rattle.writer.specs.Message.{within, optionBytes, bytesOf, writable, writableOptions, sizeOf}
 use Rattle.writer.specs.Add.{Sent, sentOf, decide, hasData, addAnswer, addSpec}
-use Rattle.writer.specs.Lists.{Item, itemOf, encode, Fits, AllFit, held, bare, saying, sayings, onStep, readFrom, onAnswer, andThen, addAll}
+use Rattle.writer.specs.Lists.{Item, itemOf, encode, Fits, AllFit, held, bare, contentOf, contentsOf, onStep, readFrom, onAnswer, andThen, addAll}
 use Rattle.writer.proofs.PlaceLaws.{size32, size64, sizeRange}
 use Rattle.writer.proofs.PutLaws.{within-length}
 use Rattle.writer.proofs.SizeLaws.{lies-in, bytes-length}
@@ -43,7 +43,7 @@ found p a w r i n ha hw =
 
 module _ (p s r : List ℕ) where
   same-options : (a : ℕ) (o : Options) → writable (length s) (Handshake a o) ≡ true
-      → saying (itemOf (p ++ (bytesOf s (Handshake a o) ++ r)) (moved (length p) (Handshake a o))) ≡ saying (itemOf s (Handshake a o))
+      → contentOf (itemOf (p ++ (bytesOf s (Handshake a o) ++ r)) (moved (length p) (Handshake a o))) ≡ contentOf (itemOf s (Handshake a o))
   unfolding bytesOf optionBytes writable writableOptions bytes32
   same-options a (Fixed b) w =
       let v = within s b 32 in
@@ -55,22 +55,22 @@ module _ (p s r : List ℕ) where
   same-options a EndOnly w = refl
   same-options a Other w = refl
 
-  pub same-saying : (m : Message) → writable (length s) m ≡ true → saying (itemOf (p ++ (bytesOf s m ++ r)) (moved (length p) m)) ≡ saying (itemOf s m)
+  pub same-content : (m : Message) → writable (length s) m ≡ true → contentOf (itemOf (p ++ (bytesOf s m ++ r)) (moved (length p) m)) ≡ contentOf (itemOf s m)
   unfolding bytesOf writable
-  same-saying (Handshake a o) w = same-options a o w
-  same-saying (Data c x b n) w =
+  same-content (Handshake a o) w = same-options a o w
+  same-content (Data c x b n) w =
       let v = within s b n in
       let e : length (rangeBytes 1 c c ++ bytes64 x) ≡ 17 = omega (arith, length-append (rangeBytes 1 c c) (bytes64 x), sizeRange 1 c c, size64 x) in
       ap (λ (y : List ℕ). itemOf y (Data c x 0 n))
       (rw (← append-assoc (rangeBytes 1 c c) (bytes64 x) v) (found p (rangeBytes 1 c c ++ bytes64 x) v r 17 n e (within-length s b n (lies-in (length s) b n w))))
-  same-saying (Ack f l d) w = refl
-  same-saying (Have f l) w = refl
-  same-saying (Integrity f l h) w =
+  same-content (Ack f l d) w = refl
+  same-content (Have f l) w = refl
+  same-content (Integrity f l h) w =
       ap (λ (y : List ℕ). itemOf y (Integrity f l 0)) (found p (rangeBytes 4 f l) (within s h 32) r 9 32 (sizeRange 4 f l) (within-length s h 32 (lies-in (length s) h 32 w)))
-  same-saying (Request f l) w = refl
-  same-saying (Cancel f l) w = refl
-  same-saying Choke w = refl
-  same-saying Unchoke w = refl
+  same-content (Request f l) w = refl
+  same-content (Cancel f l) w = refl
+  same-content Choke w = refl
+  same-content Unchoke w = refl
 
 -- ---- lists of messages that can be written one after another
 abbrev pub Chain : List Item → Type 0
@@ -88,8 +88,8 @@ read-over zero s at h = refl
 read-over (suc n) s at h = read-suc n s at End (end-is at (drop at s) (omega (arith, length-drop at s)))
 
 -- They read back, behind any bytes p.
-pub list-back : (is : List Item) → AllFit is → Chain is → (p : List ℕ) (n : ℕ) → length (p ++ encode is) < length p + n → sayings (readFrom n (p ++ encode is) (length p)) ≡ sayings is
-list-back [] f c p n h = ap sayings (read-over n (p ++ []) (length p) (omega (arith, length-append p [])))
+pub list-back : (is : List Item) → AllFit is → Chain is → (p : List ℕ) (n : ℕ) → length (p ++ encode is) < length p + n → contentsOf (readFrom n (p ++ encode is) (length p)) ≡ contentsOf is
+list-back [] f c p n h = ap contentsOf (read-over n (p ++ []) (length p) (omega (arith, length-append p [])))
 list-back (i ∷ is) f c p zero h = absurd (omega (arith, length-append p (encode (i ∷ is))))
 list-back (i ∷ is) f c p (suc n) h =
     let s = i .source in let m = i .message in let b = bytesOf s m in
@@ -99,10 +99,10 @@ list-back (i ∷ is) f c p (suc n) h =
     ap (stepOf at) (drop-append-seam p (b ++ encode is)) ∙ message-back s at m (f .0) (c .0) (encode is) (c .2) ∙ rw (c .1) in
     let size : length (p ++ b) ≡ at + sizeOf m = length-append p b ∙ ap (λ (k : ℕ). at + k) (bytes-length s m (c .0)) in
     let same : (p ++ b) ++ encode is ≡ d = append-assoc p b (encode is) in
-    let more : sayings (readFrom n d (at + sizeOf m)) ≡ sayings is =
+    let more : contentsOf (readFrom n d (at + sizeOf m)) ≡ contentsOf is =
     rw (← same) (rw (← size) (list-back is (f .1) (c .3) (p ++ b) n (omega (arith, ap length same, size, h, size-some m)))) in
-    ap sayings (read-suc n d at (Read (moved at m) (cursor (at + sizeOf m))) st)
-    ∙ ap₂ (λ (x : Item) (xs : List Item). x ∷ xs) (same-saying p s (encode is) m (c .0)) more
+    ap contentsOf (read-suc n d at (Read (moved at m) (cursor (at + sizeOf m))) st)
+    ∙ ap₂ (λ (x : Item) (xs : List Item). x ∷ xs) (same-content p s (encode is) m (c .0)) more
 
 -- ---- messages that were accepted one after another
 

@@ -19,7 +19,7 @@ use Rattle.wire.proofs.ExtendLaws.{layout-is, over}
 use Rattle.wire.proofs.FaultLaws.{passed}
 use Rattle.writer.specs.Bytes.{bytes32}
 use Rattle.writer.specs.Add.{Sent, sentOf, beginSpec}
-use Rattle.writer.specs.Lists.{Item, encode, AllFit, AreBytes, sayings, readAll, Rewritable, addAll, writeAll, datagramOf}
+use Rattle.writer.specs.Lists.{Item, encode, AllFit, AreBytes, contentsOf, readAll, Rewritable, addAll, writeAll, datagramOf}
 use Rattle.writer.proofs.PlaceLaws.{size32}
 use Rattle.writer.proofs.NumberLaws.{joined32, split-word}
 use Rattle.writer.proofs.ReadBackLaws.{added, list-back}
@@ -54,7 +54,7 @@ destination to r h = joined32 to h
 -- passes the checks.
 pub record Reads (d : List ℕ) (to : ℕ) (is : List Item) : Type 0 where
   pub to-channel : be32 d 0 ≡ to
-  pub messages : sayings (readAll d) ≡ sayings is
+  pub messages : contentsOf (readAll d) ≡ contentsOf is
   pub passes : numberOf (layoutOf d .layout) ≡ 0
 
 -- Every list of messages that begin and add accepted, whose numbers have their widths, reads back as exactly those messages.

@@ -10,7 +10,7 @@ use lib.ListN.{length, getD, take, drop, take-append-drop, length-append, length
 use lib.Seq.{drop-cons, drop-drop, length-take-le}
 use Rattle.tree.specs.Pick.{pick}
 use Rattle.tree.specs.Range.{covers}
-use Rattle.tree.proofs.PeakTests.{both-true}
+use Rattle.tree.proofs.PickLaws.{both-true}
 use Rattle.wire.specs.Bytes.{be32, be64, begins}
 use Rattle.wire.specs.Range.{firstOf, lastOf}
 use Rattle.wire.specs.Options.{code, optionsSize, fixedHead, fixedTail, isFixed}

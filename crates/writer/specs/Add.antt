@@ -4,7 +4,7 @@ use mathlib.Core.List.{List, _++_}
 use mathlib.Core.Bool.{Bool, true, false, not}
 use lib.ListN.{length, take}
 use lib.Dec.{ltb}
-use Rattle.tree.specs.Pick.{pick}
+use Rattle.tree.specs.Pick.{pick, earlier}
 use Rattle.wire.specs.Bytes.{placed}
 use Rattle.wire.specs.Limits.{minSize, maxSize}
 use Rattle.wire.specs.Layout.{numberOf, layoutOf}
@@ -13,11 +13,6 @@ use Rattle.wire.specs.declared.layout.Layout.{Layout}
 use Rattle.wire.specs.declared.layout.Layout.the-variants.{Fault, HandshakeAlone, Messages, MessagesAndData}
 use Rattle.writer.specs.Bytes.{bytes32}
 use Rattle.writer.specs.Message.{bytesOf, writable, sizeOf}
-
--- A number other than 0, or else the next.
-abbrev pub earlier : ℕ → ℕ → ℕ
-earlier zero n = n
-earlier (suc k) n = suc k
 
 -- Whether a datagram has DATA, which would swallow what is added.
 abbrev pub hasData : Layout → Bool

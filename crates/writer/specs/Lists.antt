@@ -86,12 +86,12 @@ bare Choke = Choke
 bare Unchoke = Unchoke
 
 -- A message with the very bytes that it names, and no others: what two of the same meaning have in common.
-abbrev pub saying : Item → Item
-saying i = itemOf (held (i .source) (i .message)) (bare (i .message))
+abbrev pub contentOf : Item → Item
+contentOf i = itemOf (held (i .source) (i .message)) (bare (i .message))
 
-abbrev pub sayings : List Item → List Item
-sayings [] = []
-sayings (i ∷ is) = saying i ∷ sayings is
+abbrev pub contentsOf : List Item → List Item
+contentsOf [] = []
+contentsOf (i ∷ is) = contentOf i ∷ contentsOf is
 
 -- The messages read from `at` on, at most n, up to the end or a refusal.
 abbrev pub onStep : List ℕ → Step → (ℕ → List Item) → List Item
