@@ -1,7 +1,7 @@
 -- The entries of a datagram: how many there are, and that there is room for them. Assumes nothing.
-use Prim.Native.Nat.{ℕ, zero, suc, _+_, _-_, _*_, _%_, _<_, _≤_}
+use Prim.Native.Nat.{ℕ, zero, suc, _+_, _*_, _%_, _≤_}
 use native.Mathlib.Omega.{arith}
-use mathlib.Core.Path.{_≡_, refl, sym, ap, _∙_}
+use mathlib.Core.Path.{_≡_, refl}
 use mathlib.Core.List.{List, [], _∷_, _++_}
 use mathlib.Core.Bool.{Bool, true, false}
 use lib.ListN.{length, drop, length-append, length-drop}
@@ -16,7 +16,7 @@ use Rattle.wire.specs.Read.{kindOf, stepAt}
 use Rattle.wire.specs.Layout.{Checked, checkedOf, seen, handshakeFault, orFault, handshakeLayout, layoutStep, layoutFrom, layoutOf}
 use Rattle.wire.specs.declared.message.Options.{Options}
 use Rattle.wire.specs.declared.message.Step.{Step}
-use Rattle.wire.specs.declared.message.Step.the-variants.{Read, End, Refused}
+use Rattle.wire.specs.declared.message.Step.the-variants.{End, Refused}
 use Rattle.wire.specs.declared.layout.Layout.{Layout}
 use Rattle.wire.specs.declared.layout.Layout.the-variants.{Fault, HandshakeAlone, Messages, MessagesAndData}
 use Rattle.wire.proofs.ViewLaws.{View, the-end, refused, a-handshake, a-data, an-ack, a-have, an-integrity, a-request, a-cancel, a-choke, an-unchoke, view}

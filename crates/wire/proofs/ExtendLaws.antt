@@ -1,6 +1,6 @@
 -- A datagram that is lengthened: what the layout checks give for it, by what they give for the datagram so far. Assumes
 -- nothing.
-use Prim.Native.Nat.{ℕ, zero, suc, _+_, _-_, _*_, _<_, _≤_}
+use Prim.Native.Nat.{ℕ, zero, suc, _+_, _-_, _<_, _≤_}
 use native.Mathlib.Omega.{arith}
 use mathlib.Core.Path.{_≡_, refl, sym, ap, _∙_}
 use mathlib.Core.List.{List, [], _∷_, _++_}
@@ -10,16 +10,15 @@ use lib.Seq.{drop-append-le}
 use lib.Dec.{eqb}
 use borrow.Author.Tests.{le-ltb, ne-eqb}
 use Rattle.tree.specs.Pick.{pick}
-use Rattle.wire.specs.Bytes.{be32, be64}
+use Rattle.wire.specs.Bytes.{be32}
 use Rattle.wire.specs.Limits.{minSize, maxSize}
 use Rattle.wire.specs.Range.{firstOf, lastOf}
 use Rattle.wire.specs.Options.{optionsSize}
-use Rattle.wire.specs.Read.{cursor, kindOf, stepOf, stepAt}
-use Rattle.wire.specs.Layout.{Checked, checkedOf, numberOf, seen, handshakeFault, orFault, handshakeLayout, layoutOn, layoutStep, layoutFrom, layoutOf}
+use Rattle.wire.specs.Read.{kindOf, stepOf, stepAt}
+use Rattle.wire.specs.Layout.{Checked, checkedOf, numberOf, seen, handshakeFault, orFault, handshakeLayout, layoutStep, layoutFrom, layoutOf}
 use Rattle.wire.specs.declared.message.Options.{Options}
-use Rattle.wire.specs.declared.message.Message.the-variants.{Handshake, Data, Ack, Have, Integrity, Request, Cancel, Choke, Unchoke}
 use Rattle.wire.specs.declared.message.Step.{Step}
-use Rattle.wire.specs.declared.message.Step.the-variants.{Read, End, Refused}
+use Rattle.wire.specs.declared.message.Step.the-variants.{End, Refused}
 use Rattle.wire.specs.declared.layout.Layout.{Layout}
 use Rattle.wire.specs.declared.layout.Layout.the-variants.{Fault, HandshakeAlone, Messages, MessagesAndData}
 use Rattle.wire.proofs.ViewLaws.{end-is, handshake-is, data-is, View, the-end, refused, a-handshake, a-data, an-ack, a-have, an-integrity, a-request, a-cancel, a-choke, an-unchoke, view}

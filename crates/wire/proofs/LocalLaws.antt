@@ -1,28 +1,17 @@
 -- What is written behind a message changes nothing of how it is read, unless it is DATA. Assumes nothing.
-use Prim.Native.Nat.{ℕ, zero, suc, _+_, _-_, _*_, _<_, _≤_}
+use Prim.Native.Nat.{ℕ, _+_, _*_, _<_, _≤_}
 use native.Mathlib.Omega.{arith}
-use mathlib.Core.Path.{_≡_, refl, sym, ap, ap₂, _∙_}
-use mathlib.Core.List.{List, [], _∷_, _++_}
-use mathlib.Core.Bool.{Bool, true, false, not}
-use lib.ListN.{length, getD, drop, length-append, length-drop, List·getD-append}
-use lib.Seq.{drop-append-le, drop-append-seam}
-use lib.Dec.{ltb, eqb}
-use borrow.Author.Tests.{lt-ltb, le-ltb, eq-eqb, ne-eqb}
-use Rattle.tree.specs.Pick.{pick}
-use Rattle.tree.specs.Range.{covers}
+use mathlib.Core.Path.{_≡_, ap₂, _∙_}
+use mathlib.Core.List.{List, _++_}
+use lib.ListN.{length, getD, length-append, List·getD-append}
+use borrow.Author.Tests.{le-ltb}
 use Rattle.wire.specs.Bytes.{be16, be32, be64}
 use Rattle.wire.specs.Range.{firstOf, lastOf}
-use Rattle.wire.specs.Limits.{minSize}
-use Rattle.wire.specs.Options.{code, headSize, bodySize, optionSize, optionsFrom, optionsSize}
-use Rattle.wire.specs.Read.{cursor, refusing, kindOf, stepOf, stepAt}
-use Rattle.wire.specs.Layout.{Checked, checkedOf, numberOf, seen, handshakeFault, orFault, handshakeLayout, layoutOn, layoutStep, layoutFrom}
-use Rattle.wire.specs.declared.message.Options.{Options}
+use Rattle.wire.specs.Read.{stepOf}
 use Rattle.wire.specs.declared.message.Message.the-variants.{Handshake, Data, Ack, Have, Integrity, Request, Cancel, Choke, Unchoke}
 use Rattle.wire.specs.declared.message.Step.{Step}
 use Rattle.wire.specs.declared.message.Step.the-variants.{Read, End, Refused}
-use Rattle.wire.specs.declared.layout.Layout.{Layout}
-use Rattle.wire.specs.declared.layout.Layout.the-variants.{Fault, HandshakeAlone, Messages, MessagesAndData}
-use Rattle.wire.proofs.ViewLaws.{handshake-is, data-is, ack-is, have-is, integrity-is, request-is, cancel-is, choke-is, unchoke-is, View, the-end, refused, a-handshake, a-data, an-ack, a-have, an-integrity, a-request, a-cancel, a-choke, an-unchoke, view}
+use Rattle.wire.proofs.ViewLaws.{ack-is, have-is, integrity-is, request-is, cancel-is, choke-is, unchoke-is, View, the-end, refused, a-handshake, a-data, an-ack, a-have, an-integrity, a-request, a-cancel, a-choke, an-unchoke}
 
 -- ---- numbers that stand in the front part
 module _ (t b : List ℕ) where

@@ -1,19 +1,19 @@
 -- What stands at the front of the bytes that are left, row by row of the table: what a step that was read says of the
 -- bytes, and which bytes give which step. Assumes nothing.
-use Prim.Native.Nat.{ℕ, zero, suc, _+_, _-_, _<_, _≤_}
+use Prim.Native.Nat.{ℕ, _+_, _-_, _<_, _≤_}
 use native.Mathlib.Omega.{arith}
-use mathlib.Core.Path.{_≡_, refl, sym, ap, _∙_}
-use mathlib.Core.List.{List, [], _∷_, _++_}
+use mathlib.Core.Path.{_≡_, refl, _∙_}
+use mathlib.Core.List.{List}
 use mathlib.Core.Bool.{Bool, true, false, not}
-use lib.ListN.{length, getD, drop, length-append, List·getD-append}
+use lib.ListN.{length, getD, drop}
 use lib.Dec.{ltb, eqb}
 use borrow.Author.Tests.{lt-ltb, le-ltb, eq-eqb, ne-eqb, ltb-true, ltb-false, eqb-true, eqb-false, not-false}
 use Rattle.tree.specs.Pick.{pick}
 use Rattle.tree.specs.Range.{covers}
-use Rattle.wire.specs.Bytes.{be16, be32, be64}
+use Rattle.wire.specs.Bytes.{be32, be64}
 use Rattle.wire.specs.Range.{firstOf, lastOf}
 use Rattle.wire.specs.Options.{optionsSize}
-use Rattle.wire.specs.Read.{cursor, refusing, kindOf, handshakeAt, dataAt, ackAt, integrityAt, rangedAt, named, row, typed, stepOf}
+use Rattle.wire.specs.Read.{cursor, refusing, kindOf, handshakeAt, dataAt, ackAt, integrityAt, rangedAt, row, typed, stepOf}
 use Rattle.wire.specs.declared.message.Message.the-variants.{Handshake, Data, Ack, Have, Integrity, Request, Cancel, Choke, Unchoke}
 use Rattle.wire.specs.declared.message.Step.{Step}
 use Rattle.wire.specs.declared.message.Step.the-variants.{Read, End, Refused}

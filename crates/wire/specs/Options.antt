@@ -1,7 +1,7 @@
 -- The options of a HANDSHAKE (RFC 7574, 7 and 8.4; 01, "Datagrams"): their layout, and the fixed ones. Assumes nothing.
 use Prim.Native.Nat.{ℕ, zero, suc, _+_}
 use mathlib.Core.List.{List, [], _∷_}
-use mathlib.Core.Bool.{Bool, true, false}
+use mathlib.Core.Bool.{Bool, false}
 use lib.ListN.{length, getD, drop}
 use lib.Dec.{ltb, eqb}
 use Rattle.tree.specs.Pick.{pick}

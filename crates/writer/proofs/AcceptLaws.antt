@@ -1,18 +1,17 @@
 -- What a message that was accepted has. Assumes nothing.
-use Prim.Native.Nat.{ℕ, zero, suc, _+_, _-_, _<_, _≤_, _^_}
+use Prim.Native.Nat.{ℕ, zero, suc, _+_, _≤_}
 use native.Mathlib.Omega.{arith}
 use mathlib.Core.Path.{_≡_, refl, sym, ap, _∙_}
-use mathlib.Core.List.{List, [], _∷_, _++_}
+use mathlib.Core.List.{List, _++_}
 use mathlib.Core.Bool.{Bool, true, false, not, true≢false}
 use lib.ListN.{length, take, length-append}
-use lib.Seq.{length-take-le}
-use lib.Dec.{ltb, eqb}
+use lib.Dec.{ltb}
 use borrow.Author.Tests.{ltb-false, not-false}
 use Rattle.tree.specs.Pick.{pick, earlier}
 use Rattle.tree.specs.Range.{covers}
 use Rattle.wire.specs.Bytes.{be32}
 use Rattle.wire.specs.Limits.{minSize, maxSize}
-use Rattle.wire.specs.Layout.{Checked, numberOf, seen, layoutFrom, layoutOf}
+use Rattle.wire.specs.Layout.{Checked, numberOf, seen, layoutOf}
 use Rattle.wire.specs.declared.message.Message.{Message}
 use Rattle.wire.specs.declared.message.Message.the-variants.{Handshake, Data, Ack, Have, Integrity, Request, Cancel, Choke, Unchoke}
 use Rattle.wire.specs.declared.layout.Layout.{Layout}
@@ -22,7 +21,7 @@ use Rattle.wire.proofs.FaultLaws.{Passed, passed}
 use Rattle.writer.specs.Message.{bytesOf, writable, sizeOf}
 use Rattle.writer.specs.Add.{hasData, addAnswer}
 use Rattle.writer.specs.Lists.{Fits}
-use Rattle.writer.specs.Steps.{rangeFault, nodeFault, faultBehind}
+use Rattle.writer.specs.Steps.{faultBehind}
 use Rattle.writer.proofs.SizeLaws.{bytes-length}
 use Rattle.writer.proofs.BackLaws.{allowed}
 use Rattle.writer.proofs.AddLaws.{joined, behind-number}

@@ -1,30 +1,29 @@
 -- A message that is written reads back as itself, where it now stands; one that the table refuses is refused. Assumes
 -- nothing.
-use Prim.Native.Nat.{ℕ, zero, suc, _+_, _-_, _*_, _<_, _≤_, _^_}
+use Prim.Native.Nat.{ℕ, suc, _+_, _-_, _<_, _≤_, _^_}
 use native.Mathlib.Omega.{arith}
-use mathlib.Core.Path.{_≡_, refl, sym, ap, ap₂, _∙_}
+use mathlib.Core.Path.{_≡_, refl, sym, ap, _∙_}
 use mathlib.Core.List.{List, [], _∷_, _++_, append-assoc, append-nil}
 use mathlib.Core.Bool.{Bool, true, false, not, true≢false}
-use lib.Dec.{ltb, eqb}
-use lib.ListN.{length, getD, take, drop, length-append}
-use lib.Seq.{drop-at, take-at, take-all}
+use lib.Dec.{ltb}
+use lib.ListN.{length, getD, length-append}
+use lib.Seq.{drop-at}
 use Rattle.tree.specs.Range.{covers}
-use Rattle.wire.specs.Bytes.{be32, be64, begins}
+use Rattle.wire.specs.Bytes.{begins}
 use Rattle.wire.specs.Range.{firstOf, lastOf}
-use Rattle.wire.specs.Options.{code, headSize, bodySize, optionSize, optionsFrom, optionsSize, fixedHead, fixedTail, isFixed}
+use Rattle.wire.specs.Options.{headSize, bodySize, optionsFrom, optionsSize, fixedHead, fixedTail, isFixed}
 use Rattle.wire.specs.Read.{cursor, refusing, kindOf, stepOf}
 use Rattle.wire.specs.declared.message.Options.{Options}
 use Rattle.wire.specs.declared.message.Options.the-variants.{Fixed, EndOnly, Other}
 use Rattle.wire.specs.declared.message.Message.{Message}
 use Rattle.wire.specs.declared.message.Message.the-variants.{Handshake, Data, Ack, Have, Integrity, Request, Cancel, Choke, Unchoke}
-use Rattle.wire.specs.declared.message.Step.{Step}
-use Rattle.wire.specs.declared.message.Step.the-variants.{Read, End, Refused}
+use Rattle.wire.specs.declared.message.Step.the-variants.{Read}
 use Rattle.wire.proofs.ViewLaws.{handshake-is, data-is, ack-is, have-is, integrity-is, request-is, cancel-is, choke-is, unchoke-is}
 use Rattle.wire.proofs.BehindLaws.{Valued, option-size-is, options-on, options-end}
 use Rattle.writer.specs.Bytes.{bytes32, bytes64, rangeBytes}
-use Rattle.writer.specs.Message.{within, optionBytes, bytesOf, writable, writableOptions, lies, optionSpan, sizeOf}
+use Rattle.writer.specs.Message.{within, optionBytes, bytesOf, writable, writableOptions, optionSpan, sizeOf}
 use Rattle.writer.specs.Lists.{Fits}
-use Rattle.writer.proofs.PlaceLaws.{size32, size64, sizeRange}
+use Rattle.writer.proofs.PlaceLaws.{size64, sizeRange}
 use Rattle.writer.proofs.PutLaws.{within-length}
 use Rattle.writer.proofs.SizeLaws.{lies-in}
 use Rattle.writer.proofs.NumberLaws.{range-first, range-last, range-type, range-time, source-is}

@@ -1,38 +1,35 @@
 -- What was written reads back as the same messages. Assumes nothing.
-use Prim.Native.Nat.{ℕ, zero, suc, _+_, _-_, _<_, _≤_, _^_}
+use Prim.Native.Nat.{ℕ, zero, suc, _+_, _<_, _≤_}
 use native.Mathlib.Omega.{arith}
-use native.Mathlib.Nat.{add-zero, zero-add}
+use native.Mathlib.Nat.{add-zero}
 use mathlib.Core.Path.{_≡_, refl, sym, ap, ap₂, _∙_}
 use mathlib.Core.List.{List, [], _∷_, _++_, append-assoc, append-nil}
-use mathlib.Core.Bool.{Bool, true, false, not, true≢false}
+use mathlib.Core.Bool.{true, false, true≢false}
 use lib.ListN.{length, take, drop, length-append, length-drop}
 use lib.Seq.{drop-at, take-at, drop-append-seam, drop-append-add, length-take-le}
-use Rattle.wire.specs.Bytes.{be32, placed}
-use Rattle.wire.specs.Limits.{minSize, maxSize}
+use Rattle.wire.specs.Bytes.{placed}
 use Rattle.wire.specs.Options.{fixedHead, fixedTail}
-use Rattle.wire.specs.Read.{cursor, refusing, stepOf, stepAt}
-use Rattle.wire.specs.Layout.{Checked, numberOf, layoutFrom, layoutOf}
+use Rattle.wire.specs.Read.{cursor, stepOf, stepAt}
+use Rattle.wire.specs.Layout.{Checked, numberOf, layoutOf}
 use Rattle.wire.specs.declared.message.Options.{Options}
 use Rattle.wire.specs.declared.message.Options.the-variants.{Fixed, EndOnly, Other}
 use Rattle.wire.specs.declared.message.Message.{Message}
 use Rattle.wire.specs.declared.message.Message.the-variants.{Handshake, Data, Ack, Have, Integrity, Request, Cancel, Choke, Unchoke}
 use Rattle.wire.specs.declared.message.Step.{Step}
-use Rattle.wire.specs.declared.message.Step.the-variants.{Read, End, Refused}
-use Rattle.wire.specs.declared.layout.Layout.{Layout}
-use Rattle.wire.specs.declared.layout.Layout.the-variants.{Fault, HandshakeAlone, Messages, MessagesAndData}
-use Rattle.wire.proofs.PlacedLaws.{placed-none, placed-then, placed-front, placed-length}
+use Rattle.wire.specs.declared.message.Step.the-variants.{Read, End}
+use Rattle.wire.specs.declared.layout.Layout.the-variants.{Messages}
+use Rattle.wire.proofs.PlacedLaws.{placed-none, placed-then, placed-front}
 use Rattle.wire.proofs.ViewLaws.{end-is}
-use Rattle.wire.proofs.ExtendLaws.{Extended}
 use Rattle.writer.specs.Bytes.{bytes32, bytes64, rangeBytes}
 use Rattle.writer.specs.Message.{within, optionBytes, bytesOf, writable, writableOptions, sizeOf}
-use Rattle.writer.specs.Add.{Sent, sentOf, decide, hasData, addAnswer, addSpec}
-use Rattle.writer.specs.Lists.{Item, itemOf, encode, Fits, AllFit, held, bare, contentOf, contentsOf, onStep, readFrom, onAnswer, andThen, addAll}
-use Rattle.writer.proofs.PlaceLaws.{size32, size64, sizeRange}
+use Rattle.writer.specs.Add.{Sent, sentOf, hasData, addAnswer, addSpec}
+use Rattle.writer.specs.Lists.{Item, itemOf, encode, Fits, AllFit, contentOf, contentsOf, onStep, readFrom, andThen, addAll}
+use Rattle.writer.proofs.PlaceLaws.{size64, sizeRange}
 use Rattle.writer.proofs.PutLaws.{within-length}
 use Rattle.writer.proofs.SizeLaws.{lies-in, bytes-length}
 use Rattle.writer.proofs.BackLaws.{allowed, moved, Behind, message-back}
 use Rattle.writer.proofs.AddLaws.{joined, behind-step}
-use Rattle.writer.proofs.AcceptLaws.{Tested, tested, Accepted, accepted, size-some}
+use Rattle.writer.proofs.AcceptLaws.{tested, Accepted, accepted, size-some}
 
 -- ---- a message's own bytes, in the datagram where it was written
 

@@ -1,15 +1,14 @@
 -- The two round trips (demand 2), over every list of messages and every datagram. Assumes nothing.
-use Prim.Native.Nat.{ℕ, zero, suc, _+_, _-_, _<_, _≤_, _^_}
+use Prim.Native.Nat.{ℕ, _+_, _<_, _≤_, _^_}
 use native.Mathlib.Omega.{arith}
 use native.Mathlib.Nat.{zero-add}
 use mathlib.Core.Path.{_≡_, refl, sym, ap, _∙_}
-use mathlib.Core.List.{List, [], _∷_, _++_}
+use mathlib.Core.List.{List, [], _++_}
 use mathlib.Core.Bool.{Bool, true, false}
 use lib.ListN.{length, take, drop, length-append}
 use lib.Seq.{take-at, length-take-le}
 use lib.Dec.{ltb}
 use borrow.Author.Tests.{le-ltb, ltb-false}
-use Rattle.tree.specs.Pick.{pick}
 use Rattle.wire.specs.Bytes.{be32, placed}
 use Rattle.wire.specs.Limits.{minSize, maxSize}
 use Rattle.wire.specs.Layout.{Checked, checkedOf, numberOf, layoutOf}
@@ -18,7 +17,7 @@ use Rattle.wire.proofs.PlacedLaws.{placed-then, placed-front, placed-length}
 use Rattle.wire.proofs.ExtendLaws.{layout-is, over}
 use Rattle.wire.proofs.FaultLaws.{passed}
 use Rattle.writer.specs.Bytes.{bytes32}
-use Rattle.writer.specs.Add.{Sent, sentOf, beginSpec}
+use Rattle.writer.specs.Add.{sentOf, beginSpec}
 use Rattle.writer.specs.Lists.{Item, encode, AllFit, AreBytes, contentsOf, readAll, Rewritable, addAll, writeAll, datagramOf}
 use Rattle.writer.proofs.PlaceLaws.{size32}
 use Rattle.writer.proofs.NumberLaws.{joined32, split-word}

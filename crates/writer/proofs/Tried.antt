@@ -8,13 +8,12 @@ use Rattle.tree.specs.Bin.{lowOnes, height, first, last}
 use Rattle.wire.specs.Bytes.{begins}
 use Rattle.wire.specs.Options.{headSize, bodySize, optionSize, optionsFrom, optionsSize, isFixed}
 use Rattle.wire.specs.Read.{cursor, kindOf, handshakeAt, dataAt, ackAt, integrityAt, rangedAt, typed, stepOf}
-use Rattle.wire.specs.Layout.{Checked, checkedOf, seen, handshakeFault, handshakeLayout, layoutFrom, layoutOf}
+use Rattle.wire.specs.Layout.{checkedOf, handshakeFault, handshakeLayout, layoutFrom, layoutOf}
 use Rattle.wire.specs.declared.message.Options.the-variants.{Fixed, EndOnly}
 use Rattle.wire.specs.declared.message.Message.{Message}
 use Rattle.wire.specs.declared.message.Message.the-variants.{Handshake, Data, Ack, Have, Integrity, Request, Cancel, Choke, Unchoke}
 use Rattle.wire.specs.declared.message.Step.the-variants.{Read}
-use Rattle.wire.specs.declared.layout.Layout.{Layout}
-use Rattle.wire.specs.declared.layout.Layout.the-variants.{HandshakeAlone, Messages, MessagesAndData}
+use Rattle.wire.specs.declared.layout.Layout.the-variants.{HandshakeAlone}
 use Rattle.writer.specs.Bytes.{bytes32, bytes64, rangeBytes}
 use Rattle.writer.specs.Message.{optionBytes, bytesOf, optionSpan, sizeOf}
 use Rattle.writer.proofs.BackLaws.{moved}

@@ -1,18 +1,17 @@
 -- What was read is written back byte for byte. Assumes nothing.
-use Prim.Native.Nat.{ℕ, zero, suc, _+_, _-_, _<_, _≤_, _^_}
+use Prim.Native.Nat.{ℕ, zero, suc, _+_, _<_, _≤_}
 use native.Mathlib.Omega.{arith}
 use mathlib.Core.Path.{_≡_, refl, sym, ap, ap₂, _∙_}
-use mathlib.Core.List.{List, [], _∷_, _++_, append-assoc, append-nil}
+use mathlib.Core.List.{List, [], _∷_, _++_, append-assoc}
 use mathlib.Core.Bool.{Bool, true, false, not, true≢false}
 use lib.Dec.{ltb, eqb}
-use borrow.Author.Tests.{le-ltb, eq-eqb, eqb-true}
-use lib.ListN.{length, getD, take, drop, take-append-drop, length-append, length-drop}
+use borrow.Author.Tests.{le-ltb, eqb-true}
+use lib.ListN.{length, take, drop, take-append-drop, length-append, length-drop}
 use lib.Seq.{take-at, length-take-le, drop-length, getD-drop}
 use Rattle.tree.specs.Pick.{pick}
-use Rattle.tree.specs.Range.{covers}
 use Rattle.wire.specs.Bytes.{be32, placed}
 use Rattle.wire.specs.Limits.{minSize, maxSize}
-use Rattle.wire.specs.Read.{cursor, refusing, stepOf, stepAt}
+use Rattle.wire.specs.Read.{cursor, stepAt}
 use Rattle.wire.specs.Layout.{Checked, checkedOf, numberOf, seen, handshakeFault, orFault, handshakeLayout, layoutStep, layoutFrom, layoutOf}
 use Rattle.wire.specs.declared.message.Options.{Options}
 use Rattle.wire.specs.declared.message.Options.the-variants.{Fixed, EndOnly, Other}
@@ -20,12 +19,11 @@ use Rattle.wire.specs.declared.message.Message.{Message}
 use Rattle.wire.specs.declared.message.Message.the-variants.{Handshake, Data, Ack, Have, Integrity, Request, Cancel, Choke, Unchoke}
 use Rattle.wire.specs.declared.message.Step.{Step}
 use Rattle.wire.specs.declared.message.Step.the-variants.{Read, End, Refused}
-use Rattle.wire.specs.declared.layout.Layout.{Layout}
-use Rattle.wire.specs.declared.layout.Layout.the-variants.{Fault, HandshakeAlone, Messages, MessagesAndData}
-use Rattle.writer.specs.Message.{bytesOf, writable, sizeOf}
-use Rattle.writer.specs.Add.{Sent, sentOf, addAnswer, addSpec}
-use Rattle.writer.specs.Lists.{Item, itemOf, Fits, AreBytes, onStep, readFrom, Rewritable, addAll}
-use Rattle.writer.specs.Steps.{rangeFault, nodeFault, faultBehind}
+use Rattle.wire.specs.declared.layout.Layout.the-variants.{Fault, HandshakeAlone, Messages}
+use Rattle.writer.specs.Message.{bytesOf, sizeOf}
+use Rattle.writer.specs.Add.{sentOf, addAnswer, addSpec}
+use Rattle.writer.specs.Lists.{Item, itemOf, AreBytes, onStep, readFrom, Rewritable, addAll}
+use Rattle.writer.specs.Steps.{faultBehind}
 use Rattle.wire.proofs.PlacedLaws.{placed-none, placed-then, placed-front, placed-length}
 use Rattle.wire.proofs.LocalLaws.{be32-local}
 use Rattle.wire.proofs.ViewLaws.{View, the-end, refused, a-handshake, a-data, an-ack, a-have, an-integrity, a-request, a-cancel, a-choke, an-unchoke, view}
@@ -33,9 +31,9 @@ use Rattle.wire.specs.declared.message.Cursor.{Cursor}
 use Rattle.writer.proofs.AcceptLaws.{size-some}
 use Rattle.writer.proofs.ReadBackLaws.{read-over}
 use Rattle.writer.proofs.SizeLaws.{bytes-length}
-use Rattle.writer.proofs.BackLaws.{allowed, moved}
+use Rattle.writer.proofs.BackLaws.{allowed}
 use Rattle.writer.proofs.AddLaws.{joined, rest-is, behind-step, behind-number}
-use Rattle.writer.proofs.SplitLaws.{Split, Known, SplitStep, split}
+use Rattle.writer.proofs.SplitLaws.{Split, Known, split}
 
 -- ---- one message of a datagram that passes the checks, behind entries es
 

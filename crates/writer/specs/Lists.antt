@@ -1,10 +1,7 @@
 -- Lists of messages: added one after another, and read from a datagram. Assumes nothing.
 use Prim.Native.Nat.{ℕ, zero, suc, _+_, _<_, _^_}
-use mathlib.Core.Path.{_≡_}
 use mathlib.Core.List.{List, [], _∷_, _++_}
-use mathlib.Core.Bool.{Bool, true, false}
 use lib.ListN.{length, getD, take}
-use Rattle.wire.specs.Bytes.{be32}
 use Rattle.wire.specs.Limits.{minSize}
 use Rattle.wire.specs.Read.{stepAt}
 use Rattle.wire.specs.declared.message.Options.{Options}
