@@ -7,6 +7,7 @@
 pub mod bench;
 pub mod beside;
 pub mod came;
+pub mod datagrams;
 pub mod packs;
 pub mod proved;
 pub mod random;

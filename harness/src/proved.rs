@@ -1,5 +1,5 @@
-//! The proved SHA-256, through the C functions of `libhash_c.a`, and in
-//! [`store`] the proved chunk store.
+//! The proved SHA-256, through the C functions of `libhash_c.a`, in [`store`] the
+//! proved chunk store, and in [`wire`] the proved reader and writer of datagrams.
 //!
 //! A proof holds only where the caller ensures what the function requires, and
 //! nothing at this boundary proves that a caller does. So each wrapper tests it
@@ -8,6 +8,7 @@
 #![allow(unsafe_code)]
 
 pub mod store;
+pub mod wire;
 
 /// The eight words of a hash value.
 pub type Words = [u32; 8];

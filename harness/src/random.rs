@@ -55,6 +55,11 @@ impl Random {
         (0..length).map(|_| self.number()).collect()
     }
 
+    pub fn long_words(&mut self, length: usize) -> Vec<u64> {
+        let word = |_| u64::from(self.number()) << 32 | u64::from(self.number());
+        (0..length).map(word).collect()
+    }
+
     pub fn bytes(&mut self, length: usize) -> Vec<u8> {
         (0..length).map(|_| (self.number() >> 24) as u8).collect()
     }

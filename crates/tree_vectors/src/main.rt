@@ -1,7 +1,6 @@
 // Writes what the tree and the store say of many nodes, lengths, orders and packs, a line each, for a comparison with the
 // second program. It writes nothing unless a byte comes on standard input.
 mod content;
-mod line;
 mod nodes;
 mod offers;
 mod packs;

@@ -1,19 +1,18 @@
 // Nodes, ranges of chunks, and lengths of packs.
-use crate::line;
 use crate::sizes;
 use tree::bin;
 use tree::bin::RangeNode;
 use tree::pack;
 
 fn write_node(b: u32) {
-    let mut l = line::begin(b"node");
-    l = line::number(l, b as u64);
-    l = line::number(l, bin::height(b as u64) as u64);
-    l = line::number(l, bin::first(b) as u64);
-    l = line::number(l, bin::last(b) as u64);
-    l = line::number(l, bin::parent(b));
-    l = line::number(l, bin::sibling(b));
-    line::end(l);
+    let mut l = lines::begin(b"node");
+    l = lines::number(l, b as u64);
+    l = lines::number(l, bin::height(b as u64) as u64);
+    l = lines::number(l, bin::first(b) as u64);
+    l = lines::number(l, bin::last(b) as u64);
+    l = lines::number(l, bin::parent(b));
+    l = lines::number(l, bin::sibling(b));
+    lines::end(l);
 }
 
 pub fn write_nodes() {
@@ -28,12 +27,12 @@ pub fn write_nodes() {
 }
 
 fn write_range(start: u32, end: u32) {
-    let mut l = line::begin(b"range");
-    l = line::number(l, start as u64);
-    l = line::number(l, end as u64);
+    let mut l = lines::begin(b"range");
+    l = lines::number(l, start as u64);
+    l = lines::number(l, end as u64);
     match bin::node_of_range(start, end) {
-        RangeNode::Node(b) => line::end(line::number(l, b)),
-        RangeNode::NoNode => line::end(line::word(l, b"-")),
+        RangeNode::Node(b) => lines::end(lines::number(l, b)),
+        RangeNode::NoNode => lines::end(lines::word(l, b"-")),
     }
 }
 
@@ -60,13 +59,13 @@ pub fn write_ranges() {
 
 fn write_length(length: u32) {
     let n = pack::chunk_count(length);
-    let mut l = line::begin(b"length");
-    l = line::number(l, length as u64);
-    l = line::number(l, n as u64);
-    l = line::number(l, pack::leaf_places(n));
-    l = line::number(l, pack::root_node(n));
-    l = line::number(l, sizes::last_size(length) as u64);
-    line::end(l);
+    let mut l = lines::begin(b"length");
+    l = lines::number(l, length as u64);
+    l = lines::number(l, n as u64);
+    l = lines::number(l, pack::leaf_places(n));
+    l = lines::number(l, pack::root_node(n));
+    l = lines::number(l, sizes::last_size(length) as u64);
+    lines::end(l);
 }
 
 pub fn write_lengths() {

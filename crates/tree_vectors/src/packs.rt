@@ -1,21 +1,31 @@
 // Packs built, and taken chunk by chunk into a second store.
 ghost use Prim.Native.Nat.{_<_, _≤_};
 use crate::content;
-use crate::line;
-use crate::line::Line;
 use crate::offers;
 use crate::rooms;
 use crate::sizes;
 use crate::sum;
 use hash::value::HashValue;
+use lines::Line;
 use store::calls;
 use store::calls::Order;
 
 // A line that begins with a word and a pack: its chunks, and the last one's size.
 fn about(word: &[u8], length: u32) -> Line {
-    let mut l = line::begin(word);
-    l = line::number(l, tree::pack::chunk_count(length) as u64);
-    line::number(l, sizes::last_size(length) as u64)
+    let mut l = lines::begin(word);
+    l = lines::number(l, tree::pack::chunk_count(length) as u64);
+    lines::number(l, sizes::last_size(length) as u64)
+}
+
+// A space and the 64 digits of a hash value.
+fn hash(l: Line, v: HashValue) -> Line {
+    let mut out = lines::put(l, b' ');
+    let mut i: usize = 0;
+    while i < 8 {
+        out = lines::hex(out, v.words[i]);
+        i += 1;
+    }
+    out
 }
 
 // Builds a pack of this length from its content, with the hashes in a lent room, and writes its root and its checksum.
@@ -25,9 +35,9 @@ fn write_built(hashes: &mut [u32], content: &[u8], length: u32) -> HashValue {
     let mut trusted = [0u32; 32];
     let built = calls::build(length, &mut chunks, &mut map, hashes, &mut trusted, content);
     let root = built.root;
-    line::end(line::hash(about(b"pack", length), root));
+    lines::end(hash(about(b"pack", length), root));
     let s = sum::of(&chunks, &map, hashes, &trusted, length);
-    line::end(line::number(about(b"built", length), s));
+    lines::end(lines::number(about(b"built", length), s));
     root
 }
 
@@ -50,7 +60,7 @@ fn write_turn(
     k: u32,
     c: u32,
 ) {
-    let mut l = line::number(about(b"take", order.length), c as u64);
+    let mut l = lines::number(about(b"take", order.length), c as u64);
     let mut way: u32 = 1;
     while way <= 8 {
         let answer = offers::offer(
@@ -65,10 +75,10 @@ fn write_turn(
             c,
             way,
         );
-        l = line::number(l, answer as u64);
+        l = lines::number(l, answer as u64);
         way += 1;
     }
-    line::end(l);
+    lines::end(l);
 }
 
 // Every turn of a pack of n chunks.
@@ -112,9 +122,9 @@ fn write_taken(order: Order, built: &[u32], content: &[u8], n: u32)
         content,
         n,
     );
-    let l = line::number(about(b"state", length), bits::count(&map, n) as u64);
+    let l = lines::number(about(b"state", length), bits::count(&map, n) as u64);
     let s = sum::of(&chunks, &map, &hashes, &trusted, length);
-    line::end(line::number(l, s));
+    lines::end(lines::number(l, s));
 }
 
 // A content of n chunks, built and taken.

@@ -1,8 +1,7 @@
 // Peaks and sending orders.
-use crate::line;
-use crate::line::Line;
 use crate::reading;
 use crate::sizes;
+use lines::Line;
 use tree::peaks;
 
 // The first so many nodes of a list.
@@ -10,7 +9,7 @@ fn listed(l: Line, nodes: &[u64], count: usize) -> Line {
     let mut out = l;
     let mut i: usize = 0;
     while i < count {
-        out = line::number(out, reading::node_at(nodes, i));
+        out = lines::number(out, reading::node_at(nodes, i));
         i += 1;
     }
     out
@@ -19,20 +18,20 @@ fn listed(l: Line, nodes: &[u64], count: usize) -> Line {
 fn write_peaks(n: u32) {
     let mut nodes = [0u64; 80];
     let count = peaks::peaks(&mut nodes, n);
-    let mut l = line::begin(b"peaks");
-    l = line::number(l, n as u64);
+    let mut l = lines::begin(b"peaks");
+    l = lines::number(l, n as u64);
     l = listed(l, &nodes, count);
-    line::end(l);
+    lines::end(l);
 }
 
 fn write_sent(n: u32, c: u32) {
     let mut nodes = [0u64; 80];
     let count = peaks::sent(&mut nodes, n, c);
-    let mut l = line::begin(b"sent");
-    l = line::number(l, n as u64);
-    l = line::number(l, c as u64);
+    let mut l = lines::begin(b"sent");
+    l = lines::number(l, n as u64);
+    l = lines::number(l, c as u64);
     l = listed(l, &nodes, count);
-    line::end(l);
+    lines::end(l);
 }
 
 // What a pack of n chunks has: its peaks, then each chunk's sending order.

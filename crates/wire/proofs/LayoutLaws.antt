@@ -1,12 +1,15 @@
 -- Laws of the layout checks of one message, test by test as the code has them. Assumes nothing.
-use Prim.Native.Nat.{ℕ, zero, suc, _+_, _-_, _<_, _≤_}
+use Prim.Native.Nat.{ℕ, zero, suc, _+_, _-_, _*_, _<_, _≤_}
 use native.Mathlib.Omega.{arith}
 use native.Mathlib.Numerals.{add-one}
-use mathlib.Core.Path.{_≡_, refl, sym, _∙_}
+use mathlib.Core.Path.{_≡_, refl, sym, ap, _∙_}
 use mathlib.Core.List.{List, [], _∷_}
 use mathlib.Core.Bool.{Bool, true, false}
-use lib.ListN.{length, getD, take, drop, set}
+use lib.ListN.{length, getD, take, drop, set, length-drop}
+use lib.Seq.{drop-drop, getD-drop}
+use lib.Dec.{eqb}
 use borrow.Author.Tests.{lt-ltb, le-ltb, eq-eqb, ne-eqb}
+use Rattle.tree.specs.Pick.{pick}
 use Rattle.wire.specs.Bytes.{be32, placed}
 use Rattle.wire.specs.Limits.{minSize, maxSize, entryWords}
 use Rattle.wire.specs.Layout.{Checked, checkedOf, seen, isEndOnly, handshakeFault, orFault, handshakeLayout, layoutOf, checkSpec}
@@ -31,6 +34,31 @@ module _ (x : ℕ) where
   seen-on [] h e = absurd (omega arith)
   seen-on (n ∷ []) h e = absurd (omega arith)
   seen-on (n ∷ p ∷ es) h e = rw (ne-eqb n x e)
+
+  -- the entry with k before it is the node's
+  pub seen-at : (k : ℕ) (es : List ℕ) → 2 * k + 2 ≤ length es → getD es (2 * k) 0 ≡ x → seen x es ≡ true
+  unfolding seen
+  seen-at zero es h e = seen-here es (omega arith) e
+  seen-at (suc k) [] h e = absurd (omega arith)
+  seen-at (suc k) (n ∷ []) h e = absurd (omega arith)
+  seen-at (suc k) (n ∷ p ∷ es) h e =
+      let j : 2 * suc k ≡ suc (suc (2 * k)) = omega arith in
+      by (seen-at k es (omega arith) (ap (λ (i : ℕ). getD (n ∷ p ∷ es) i 0) (sym j) ∙ e)) (eqb n x)
+    where
+      by : seen x es ≡ true → (b : Bool) → pick b true (seen x es) ≡ true
+      by q true = refl
+      by q false = q
+
+  -- the first four entries are other nodes
+  pub seen-on-four : (es : List ℕ) → 8 ≤ length es → (getD es 0 0 ≡ x → ⊥) → (getD es 2 0 ≡ x → ⊥) → (getD es 4 0 ≡ x → ⊥) → (getD es 6 0 ≡ x → ⊥) → seen x es ≡ seen x (drop 8 es)
+  seen-on-four es h a b c d =
+      seen-on es (omega arith) a
+      ∙ seen-on (drop 2 es) (omega (arith, length-drop 2 es)) (λ e. b (sym (getD-drop 2 es 0 0) ∙ e))
+      ∙ ap (seen x) (drop-drop 2 2 es)
+      ∙ seen-on (drop 4 es) (omega (arith, length-drop 4 es)) (λ e. c (sym (getD-drop 4 es 0 0) ∙ e))
+      ∙ ap (seen x) (drop-drop 2 4 es)
+      ∙ seen-on (drop 6 es) (omega (arith, length-drop 6 es)) (λ e. d (sym (getD-drop 6 es 0 0) ∙ e))
+      ∙ ap (seen x) (drop-drop 2 6 es)
 
   -- no entry is left
   pub seen-out : (es : List ℕ) → length es < 2 → seen x es ≡ false

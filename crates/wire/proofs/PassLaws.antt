@@ -1,19 +1,21 @@
 -- Laws of the layout pass: a turn goes on or ends the pass as the definition has it, and the room suffices. Assumes nothing.
 use Prim.Native.Nat.{ℕ, zero, suc, _+_, _-_, _<_, _≤_}
 use native.Mathlib.Omega.{arith}
-use native.Mathlib.Nat.{zero-add}
+use native.Mathlib.Nat.{add-zero, zero-add}
 use mathlib.Core.Path.{_≡_, refl, sym, ap, _∙_}
 use mathlib.Core.Logic.{_⊎_, inl, inr}
 use mathlib.Core.List.{List, [], _∷_, _++_}
-use mathlib.Core.Bool.{Bool, true, false}
-use lib.ListN.{length, take, drop, length-drop}
-use lib.Seq.{length-take-le}
+use mathlib.Core.Bool.{Bool, true, false, true≢false}
+use lib.ListN.{length, getD, take, drop, length-drop}
+use lib.Seq.{length-take-le, getD-drop}
+use lib.Dec.{leb, eqb}
+use borrow.Author.Tests.{eqb-true, leb-false}
 use Rattle.tree.specs.Pick.{pick}
 use Rattle.wire.specs.Bytes.{placed}
 use Rattle.wire.specs.Limits.{minSize, maxSize, entryWords}
 use Rattle.wire.specs.Read.{stepAt}
 use Rattle.wire.specs.Layout.{Checked, checkedOf, seen, handshakeLayout, layoutStep, layoutFrom}
-use Rattle.wire.specs.Steps.{Turned, turnedOf, noted, turnOn, turnAt, Standing, passSpec}
+use Rattle.wire.specs.Steps.{Turned, turnedOf, noted, isSingle, turnOn, turnAt, Standing, passSpec}
 use Rattle.wire.specs.declared.message.Options.{Options}
 use Rattle.wire.specs.declared.message.Message.{Message}
 use Rattle.wire.specs.declared.message.Message.the-variants.{Handshake, Data, Ack, Have, Integrity, Request, Cancel, Choke, Unchoke}
@@ -25,6 +27,7 @@ use Rattle.wire.specs.declared.layout.Layout.the-variants.{Fault, Messag
 use Rattle.wire.specs.declared.layout.Turn.{Turn}
 use Rattle.wire.specs.declared.layout.Turn.the-variants.{On, Over}
 use Rattle.wire.proofs.PlacedLaws.{placed-length, placed-none, placed-then, placed-front}
+use Rattle.wire.proofs.ViewLaws.{choke-is, unchoke-is}
 use Rattle.wire.proofs.SpanLaws.{Reaches, step-reaches}
 
 -- ---- a turn by what was read, as the code has it
@@ -41,6 +44,31 @@ module _ (s room : List ℕ) (used at : ℕ) {st : Step} where
   -- a refusal
   pub turn-refused : st ≡ Refused → turnedOf (Over (Fault 2)) room ≡ turnAt s room used at st
   turn-refused e = rw e
+
+-- a message of one byte
+module _ (s room : List ℕ) (used at : ℕ) where
+  -- it stands in the datagram
+  single-type : isSingle s at ≡ true → (at < length s) × ((getD s at 0 ≡ 10) ⊎ (getD s at 0 ≡ 11))
+  unfolding isSingle
+  single-type = by (leb (length s) at) (eqb (getD s at 0) 10) refl refl
+    where
+      by : (x y : Bool) → leb (length s) at ≡ x → eqb (getD s at 0) 10 ≡ y → pick x false (pick y true (eqb (getD s at 0) 11)) ≡ true → (at < length s) × ((getD s at 0 ≡ 10) ⊎ (getD s at 0 ≡ 11))
+      by true y p q e = absurd (true≢false (sym e))
+      by false true p q e = (leb-false (length s) at p, inl (eqb-true (getD s at 0) 10 q))
+      by false false p q e = (leb-false (length s) at p, inr (eqb-true (getD s at 0) 11 e))
+
+  pub single-fits : {b : Bool} → b ≡ isSingle s at → b ≡ true → at < length s
+  single-fits e p = single-type (sym e ∙ p) .0
+
+  pub turn-single : {b : Bool} → b ≡ isSingle s at → b ≡ true → turnedOf (On (at + 1) used) room ≡ turnAt s room used at (stepAt s at)
+  turn-single e p = let h = single-type (sym e ∙ p) in by (h .0) (h .1)
+    where
+      here : getD (drop at s) 0 0 ≡ getD s at 0
+      here = getD-drop at s 0 0 ∙ ap (λ (k : ℕ). getD s k 0) (add-zero at)
+
+      by : at < length s → (getD s at 0 ≡ 10) ⊎ (getD s at 0 ≡ 11) → turnedOf (On (at + 1) used) room ≡ turnAt s room used at (stepAt s at)
+      by l (inl k) = ap (turnAt s room used at) (sym (choke-is at (drop at s) (here ∙ k) (omega (arith, length-drop at s, l))))
+      by l (inr k) = ap (turnAt s room used at) (sym (unchoke-is at (drop at s) (here ∙ k) (omega (arith, length-drop at s, l))))
 
 -- a message, by its variant
 module _ (s room : List ℕ) (used at next : ℕ) {m : Message} where

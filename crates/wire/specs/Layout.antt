@@ -18,7 +18,7 @@ use Rattle.wire.specs.declared.message.Step.the-variants.{Read, End, Ref
 use Rattle.wire.specs.declared.layout.Layout.{Layout}
 use Rattle.wire.specs.declared.layout.Layout.the-variants.{Fault, HandshakeAlone, Messages, MessagesAndData}
 
--- The number that refuses a datagram, or 0.
+-- The number that refuses a datagram, or a room for its nodes, or 0.
 abbrev pub numberOf : Layout → ℕ
 numberOf (Fault n) = n
 numberOf (HandshakeAlone a o) = 0
@@ -60,7 +60,8 @@ handshakeLayout s at next a o =
     (pick (eqb at minSize) (pick (eqb next (length s)) (handshakeFault (be32 s 0) a o) 3) 3)
     (HandshakeAlone a o)
 
--- A message from `at` to `next`, behind the entries es; `rest` gives what comes after it. DATA reaches to the end.
+-- A message from `at` to `next`, behind the entries es; `rest` gives what comes after it. DATA reaches to the end. The node
+-- over the chunks f..l has the number f + l (tree, Range).
 abbrev pub layoutOn : List ℕ → List ℕ → ℕ → ℕ → Message → (List ℕ → Checked) → Checked
 layoutOn s es at next (Handshake a o) rest = checkedOf (handshakeLayout s at next a o) es
 layoutOn s es at next (Data c x b n) rest = checkedOf (MessagesAndData c x b n (length es)) es
@@ -77,19 +78,21 @@ layoutStep s es at (Read m next) rest = layoutOn s es at (next .at) m (λ gs. re
 layoutStep s es at End rest = checkedOf (Messages (length es)) es
 layoutStep s es at Refused rest = checkedOf (Fault 2) es
 
--- The messages from `at` on, of which there are at most n.
+-- The messages from `at` on, of which there are at most n: n is the datagram's length at first, and each message has a byte
+-- at least, so it is never used up.
 unfoldable pub layoutFrom : ℕ → List ℕ → List ℕ → ℕ → Checked
 layoutFrom zero s es at = checkedOf (Messages (length es)) es
 layoutFrom (suc n) s es at = layoutStep s es at (stepAt s at) (λ gs next. layoutFrom n s gs next)
 
--- The size, then the messages behind the destination; each has a byte at least.
+-- The size, then the messages behind the destination.
 unfoldable pub layoutOf : List ℕ → Checked
 layoutOf s =
     pick (ltb (length s) minSize) (checkedOf (Fault 1) [])
     (pick (ltb maxSize (length s)) (checkedOf (Fault 1) [])
     (layoutFrom (length s) s [] minSize))
 
--- The checks, with a room for the entries: 11 where it is too small, before all else; what stands past them stays.
+-- The checks, with a room for the entries, which is scratch of the caller: 11 where it is too small, before all else; after
+-- a refusal it has those of the messages before; what stands past them stays.
 unfoldable pub checkSpec : List ℕ → List ℕ → Checked
 checkSpec room s =
     pick (ltb (length room) entryWords) (checkedOf (Fault 11) room)

@@ -50,6 +50,6 @@ fixedHead = 0 ∷ 1 ∷ 1 ∷ 1 ∷ 2 ∷ 0 ∷ 32 ∷ []
 abbrev pub fixedTail : List ℕ
 fixedTail = 3 ∷ 1 ∷ 4 ∷ 2 ∷ 6 ∷ 2 ∷ 9 ∷ 0 ∷ 0 ∷ 4 ∷ 0 ∷ 255 ∷ []
 
--- Whether t begins with the fixed options around some root.
+-- Whether t begins with the fixed options around some root; their last byte is End, so nothing can follow in the options.
 unfoldable pub isFixed : List ℕ → Bool
 isFixed t = pick (begins fixedHead t) (begins fixedTail (drop 39 t)) false

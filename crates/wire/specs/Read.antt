@@ -30,35 +30,35 @@ refusing bad m = pick bad Refused m
 unfoldable pub kindOf : ℕ → List ℕ → Options
 kindOf at t = pick (eqb (optionsSize t) 1) EndOnly (pick (isFixed t) (Fixed (at + 7)) Other)
 
--- 0, HANDSHAKE: source channel, options of sound layout.
+-- 0, HANDSHAKE (RFC 7574, 8.4): source channel, options of sound layout.
 unfoldable pub handshakeAt : ℕ → List ℕ → Step
 handshakeAt at t =
     refusing (ltb (length t) 5)
     (refusing (eqb (optionsSize (drop 5 t)) 0)
     (Read (Handshake (be32 t 1) (kindOf (at + 5) (drop 5 t))) (cursor (at + 5 + optionsSize (drop 5 t)))))
 
--- 1, DATA: range of one chunk, timestamp, chunk to the datagram's end.
+-- 1, DATA (8.6): range of one chunk, timestamp, chunk to the datagram's end.
 unfoldable pub dataAt : ℕ → List ℕ → Step
 dataAt at t =
     refusing (ltb (length t) 17)
     (refusing (not (eqb (firstOf t) (lastOf t)))
     (Read (Data (firstOf t) (be64 t 9) (at + 17) (length t - 17)) (cursor (at + length t))))
 
--- 2, ACK: range, delay.
+-- 2, ACK (8.7): range, delay.
 unfoldable pub ackAt : ℕ → List ℕ → Step
 ackAt at t =
     refusing (ltb (length t) 17)
     (refusing (ltb (lastOf t) (firstOf t))
     (Read (Ack (firstOf t) (lastOf t) (be64 t 9)) (cursor (at + 17))))
 
--- 4, INTEGRITY: range of a node, hash.
+-- 4, INTEGRITY (8.8): range of a node, whose number is first plus last, hash.
 unfoldable pub integrityAt : ℕ → List ℕ → Step
 integrityAt at t =
     refusing (ltb (length t) 41)
     (refusing (not (covers (firstOf t + lastOf t) (firstOf t) (lastOf t)))
     (Read (Integrity (firstOf t) (lastOf t) (at + 9)) (cursor (at + 41))))
 
--- 3, 8 and 9, HAVE, REQUEST and CANCEL: a range.
+-- 3, 8 and 9, HAVE, REQUEST and CANCEL (8.5, 8.10, 8.11): a range; k is one of the three.
 abbrev pub named : ℕ → ℕ → ℕ → Message
 named k f l = pick (eqb k 3) (Have f l) (pick (eqb k 8) (Request f l) (Cancel f l))
 
@@ -71,7 +71,7 @@ rangedAt k at t =
 abbrev pub row : ℕ → ℕ → Step → Step → Step
 row k n a b = pick (eqb k n) a b
 
--- The message of type k: a row of the table, or a refused type.
+-- The message of type k: a row of the table, 10 and 11 being CHOKE and UNCHOKE (8.12), or a refused type.
 unfoldable pub typed : ℕ → ℕ → List ℕ → Step
 typed k at t =
     row k 0 (handshakeAt at t)

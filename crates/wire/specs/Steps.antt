@@ -2,7 +2,9 @@
 use Prim.Native.Nat.{ℕ, _+_, _*_, _%_, _≤_}
 use mathlib.Core.Path.{_≡_}
 use mathlib.Core.List.{List, [], _∷_}
-use lib.ListN.{length, take}
+use mathlib.Core.Bool.{Bool, true, false}
+use lib.ListN.{length, getD, take}
+use lib.Dec.{leb, eqb}
 use Rattle.tree.specs.Pick.{pick}
 use Rattle.wire.specs.Bytes.{placed}
 use Rattle.wire.specs.Limits.{minSize, maxSize, entryWords}
@@ -40,6 +42,10 @@ turnOn s room used at next (Request f l) = turnedOf (On next used) room
 turnOn s room used at next (Cancel f l) = turnedOf (On next used) room
 turnOn s room used at next Choke = turnedOf (On next used) room
 turnOn s room used at next Unchoke = turnedOf (On next used) room
+
+-- Whether a message of one byte, CHOKE or UNCHOKE, stands at `at`.
+unfoldable pub isSingle : List ℕ → ℕ → Bool
+isSingle s at = pick (leb (length s) at) false (pick (eqb (getD s at 0) 10) true (eqb (getD s at 0) 11))
 
 -- What stands at `at`.
 abbrev pub turnAt : List ℕ → List ℕ → ℕ → ℕ → Step → Turned

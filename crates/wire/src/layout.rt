@@ -5,7 +5,7 @@ ghost use lib.ListN.{length};
 ghost use Rattle.wire.specs.Limits.{minSize, maxSize, entryWords};
 ghost use Rattle.wire.specs.Read.{cursor, stepAt};
 ghost use Rattle.wire.specs.Layout.{numberOf, seen, isEndOnly, handshakeFault, handshakeLayout, checkSpec, checkedOf};
-ghost use Rattle.wire.specs.Steps.{turnedOf, noted, turnOn, turnAt, Standing, passSpec};
+ghost use Rattle.wire.specs.Steps.{turnedOf, noted, isSingle, turnOn, turnAt, Standing, passSpec};
 use crate::bytes;
 use crate::limits::ENTRIES;
 use crate::limits::MAX_SIZE;
@@ -18,7 +18,7 @@ use crate::read;
 
 // What a datagram is. `entries` says how many words of the room for nodes are written.
 pub enum Layout {
-    // Refused with 1, 2 or 3.
+    // Refused with 1, 2 or 3; or 11, where the room for nodes is too small.
     Fault {
         number: u32,
     },
@@ -32,7 +32,7 @@ pub enum Layout {
     },
     MessagesAndData {
         chunk: u32,
-        time: u64,
+        timestamp: u64,
         start: usize,
         len: usize,
         entries: usize,
@@ -49,8 +49,8 @@ pub fn number(layout: Layout) -> u32
     }
 }
 
-// Whether a node is among the entries: a node's number and a place in turn.
-pub fn seen(entries: &[u64], node: u64) -> bool
+// Whether a node is among the entries, one after another.
+fn seen_among(entries: &[u64], node: u64) -> bool
     ensures { λ r. ⌜ r ≡ seen node (now (entries .entry)) ⌝ }
 {
     let mut rest = entries;
@@ -61,6 +61,29 @@ pub fn seen(entries: &[u64], node: u64) -> bool
         rest = &rest[2..];
     }
     false
+}
+
+// Whether a node is among the entries, a node's number and a place in turn: four at a time, which took half the time.
+pub fn seen(entries: &[u64], node: u64) -> bool
+    ensures { λ r. ⌜ r ≡ seen node (now (entries .entry)) ⌝ }
+{
+    let mut rest = entries;
+    while 8 <= rest.len() {
+        if rest[0] == node {
+            return true;
+        }
+        if rest[2] == node {
+            return true;
+        }
+        if rest[4] == node {
+            return true;
+        }
+        if rest[6] == node {
+            return true;
+        }
+        rest = &rest[8..];
+    }
+    seen_among(rest, node)
 }
 
 fn is_end_only(options: Options) -> bool
@@ -91,7 +114,7 @@ pub fn handshake_fault(destination: u32, source: u32, options: Options) -> u32
 
 // A HANDSHAKE from `at` to `next`: it is to be alone.
 fn handshake(datagram: &[u8], at: usize, next: usize, source: u32, options: Options) -> Layout
-    requires { ⌜ 4 ≤ length (now datagram) ⌝ }
+    requires { ⌜ minSize ≤ length (now datagram) ⌝ }
     ensures { λ r. ⌜ r ≡ handshakeLayout (now (datagram .entry)) at next source options ⌝ }
 {
     if at != MIN_SIZE {
@@ -150,13 +173,13 @@ fn take_message(
         },
         Message::Data {
             chunk,
-            time,
+            timestamp,
             start,
             len,
         } => Turn::Over {
             layout: Layout::MessagesAndData {
                 chunk,
-                time,
+                timestamp,
                 start,
                 len,
                 entries: used,
@@ -172,11 +195,32 @@ fn take_message(
     }
 }
 
+// Whether a message of one byte, CHOKE or UNCHOKE, stands at a place. A datagram has room for 2,044 of them: they are told
+// without a value.
+fn is_single(datagram: &[u8], at: usize) -> bool
+    ensures { λ r. ⌜ r ≡ isSingle (now (datagram .entry)) at ⌝ }
+{
+    if datagram.len() <= at {
+        return false;
+    }
+    let kind = datagram[at];
+    if kind == 10 {
+        return true;
+    }
+    kind == 11
+}
+
 // What stands at `at`.
 fn take_turn(datagram: &[u8], entries: &mut [u64], at: usize, used: usize) -> Turn
     requires { ⌜ Standing (now datagram) (length (now entries)) at used ⌝ }
     ensures { λ r. ⌜ turnedOf r (now (entries .exit)) ≡ turnAt (now (datagram .entry)) (now (entries .entry)) used at (stepAt (now (datagram .entry)) at) ⌝ }
 {
+    if is_single(datagram, at) {
+        return Turn::On {
+            at: at + 1,
+            entries: used,
+        };
+    }
     match read::read(datagram, Cursor { at }) {
         Step::Read { message, next } => {
             take_message(datagram, entries, at, used, next.at, message)
@@ -219,7 +263,7 @@ fn pass(datagram: &[u8], entries: &mut [u64]) -> Layout
 }
 
 // The checks of size and layout. The nodes of INTEGRITY messages and the places of their hashes are written to `entries`,
-// from its front; 11 where it has no room for a datagram's.
+// from its front, as far as the messages were read; 11 where it has no room for a datagram's. It is scratch of the caller.
 pub fn check(datagram: &[u8], entries: &mut [u64]) -> Layout
     ensures { λ r. ⌜ checkedOf r (now (entries .exit)) ≡ checkSpec (now (entries .entry)) (now (datagram .entry)) ⌝ }
 {

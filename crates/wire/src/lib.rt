@@ -5,5 +5,5 @@ pub mod layout; // the size and layout checks
 pub mod limits; // the sizes of the yard profile
 pub mod message; // the messages as values
 pub mod options; // the options of a HANDSHAKE
-pub mod range; // the chunks that a message names
+mod range; // the chunks that a message names
 pub mod read; // one message at a cursor

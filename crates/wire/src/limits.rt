@@ -1,4 +1,4 @@
-// The sizes of a datagram in the yard profile. They stand here alone.
+// The sizes of a datagram in the yard profile.
 
 // A datagram has its destination, four bytes, at least.
 pub const MIN_SIZE: usize = 4;

@@ -16,7 +16,7 @@ pub enum Message {
     // The chunk's bytes begin at start and are len many.
     Data {
         chunk: u32,
-        time: u64,
+        timestamp: u64,
         start: usize,
         len: usize,
     },
@@ -52,7 +52,7 @@ pub struct Cursor {
     pub at: usize,
 }
 
-// What stands at a cursor.
+// What stands at a cursor. Refused is the number 2.
 pub enum Step {
     Read { message: Message, next: Cursor },
     End,

@@ -5,6 +5,11 @@ ghost use lib.ListN.{length, getD};
 ghost use Rattle.wire.specs.Options.{headSize, bodySize, optionSize, optionsSize, isFixed};
 use crate::bytes;
 
+// The fixed options before and after the root's 32 bytes.
+pub const FIXED_HEAD: [u8; 7] = [0, 1, 1, 1, 2, 0, 32];
+
+pub const FIXED_TAIL: [u8; 12] = [3, 1, 4, 2, 6, 2, 9, 0, 0, 4, 0, 255];
+
 fn index(x: u32) -> usize
     ensures { λ r. ⌜ r ≡ x ⌝ }
 {
@@ -95,11 +100,8 @@ pub fn is_fixed(options: &[u8]) -> bool
     if options.len() < 51 {
         return false;
     }
-    if !bytes::begins(options, b"\x00\x01\x01\x01\x02\x00\x20") {
+    if !bytes::begins(options, &FIXED_HEAD) {
         return false;
     }
-    bytes::begins(
-        &options[39..],
-        b"\x03\x01\x04\x02\x06\x02\x09\x00\x00\x04\x00\xff",
-    )
+    bytes::begins(&options[39..], &FIXED_TAIL)
 }

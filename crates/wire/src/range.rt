@@ -1,13 +1,9 @@
-// The chunks that a message names: first and last, both included. How a range stands in a datagram is known here alone,
-// and to its writer.
+// The chunks that a message names: first and last, both included. Its two numbers are read here alone.
 ghost use mathlib.Core.Path.{_≡_};
 ghost use Prim.Native.Nat.{_≤_};
 ghost use lib.ListN.{length};
 ghost use Rattle.wire.specs.Range.{rangeOf};
 use crate::bytes;
-
-// The bytes of a message's type and range.
-pub const END: usize = 9;
 
 pub struct Range {
     pub first: u32,

@@ -64,7 +64,7 @@ fn chunk(rest: &[u8], at: usize) -> Step
     }
     let message = Message::Data {
         chunk: r.first,
-        time: bytes::load64(rest, 9),
+        timestamp: bytes::load64(rest, 9),
         start: at + 17,
         len: rest.len() - 17,
     };

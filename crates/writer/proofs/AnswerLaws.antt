@@ -27,7 +27,7 @@ use Rattle.wire.proofs.FaultLaws.{Passed, passed, too-long}
 use Rattle.wire.proofs.CountLaws.{Says, entries-fit}
 use Rattle.writer.specs.Bytes.{bytes32}
 use Rattle.writer.specs.Message.{bytesOf, writable, sizeOf}
-use Rattle.writer.specs.Add.{hasData, addAnswer, sentOf, decide, beginSpec, addSpec}
+use Rattle.writer.specs.Add.{hasData, addAnswer, writtenOf, decide, beginSpec, addSpec}
 use Rattle.writer.specs.Lists.{Fits}
 use Rattle.writer.specs.Steps.{nodeFault, faultBehind, Roomy, faultAfter, FitsBehind, Addable}
 use Rattle.writer.proofs.SizeLaws.{bytes-length}
@@ -148,26 +148,26 @@ module _ (room : List ℕ) (len : ℕ) (m : Message) (bytes : List ℕ) where
 
   -- the whole call
   module _ {w : ℕ} (e : w ≡ addAnswer room len m bytes) where
-    pub add-refused : (w ≡ 0 → ⊥) → sentOf w 0 room ≡ addSpec room len m bytes
+    pub add-refused : (w ≡ 0 → ⊥) → writtenOf w 0 room ≡ addSpec room len m bytes
     unfolding addSpec
     add-refused p = rw (← e) (stop w p)
       where
-        stop : (v : ℕ) → (v ≡ 0 → ⊥) → sentOf v 0 room ≡ decide v room (len + sizeOf m) (placed room len (bytesOf bytes m))
+        stop : (v : ℕ) → (v ≡ 0 → ⊥) → writtenOf v 0 room ≡ decide v room (len + sizeOf m) (placed room len (bytesOf bytes m))
         stop zero q = absurd (q refl)
         stop (suc v) q = refl
 
-    pub add-done : w ≡ 0 → {n : ℕ} → n ≡ sizeOf m → {r : List ℕ} → r ≡ placed room len (bytesOf bytes m) → sentOf 0 (len + n) r ≡ addSpec room len m bytes
+    pub add-done : w ≡ 0 → {n : ℕ} → n ≡ sizeOf m → {r : List ℕ} → r ≡ placed room len (bytesOf bytes m) → writtenOf 0 (len + n) r ≡ addSpec room len m bytes
     unfolding addSpec
-    add-done z p q = rw (← e) (rw z (rw p (ap (sentOf 0 (len + sizeOf m)) q)))
+    add-done z p q = rw (← e) (rw z (rw p (ap (writtenOf 0 (len + sizeOf m)) q)))
 
 module _ (room : List ℕ) (to : ℕ) where
-  pub begin-refused : length room < maxSize → sentOf 11 0 room ≡ beginSpec room to
+  pub begin-refused : length room < maxSize → writtenOf 11 0 room ≡ beginSpec room to
   unfolding beginSpec
   begin-refused h = simp (lt-ltb (length room) maxSize h)
 
-  pub begin-done : maxSize ≤ length room → {r : List ℕ} → r ≡ placed room 0 (bytes32 to) → sentOf 0 4 r ≡ beginSpec room to
+  pub begin-done : maxSize ≤ length room → {r : List ℕ} → r ≡ placed room 0 (bytes32 to) → writtenOf 0 4 r ≡ beginSpec room to
   unfolding beginSpec
-  begin-done h q = simp (le-ltb (length room) maxSize h) (ap (sentOf 0 4) q)
+  begin-done h q = simp (le-ltb (length room) maxSize h) (ap (writtenOf 0 4) q)
 
 -- ---- a message behind others, as the code tests it
 module _ (es : List ℕ) (f l : ℕ) {r : RangeNode} (e : r ≡ nodeOfRange f l) where

@@ -11,5 +11,5 @@ pub mod SplitLaws
 pub mod ReadBackLaws
 pub mod WriteBackLaws
 pub mod RoundTrips
-pub mod Tried
+pub mod Examples
 pub mod Promise

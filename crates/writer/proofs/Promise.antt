@@ -14,7 +14,7 @@ use Rattle.writer.proofs.SizeLaws.{bytes-length}
 use Rattle.writer.proofs.RoundTrips.{written-reads, read-writes}
 pub use Rattle.writer.specs.Bytes.{bytes32, bytes64}
 pub use Rattle.writer.specs.Message.{within, bytesOf, writable, sizeOf}
-pub use Rattle.writer.specs.Add.{Sent, sentOf, decide, addAnswer, addSpec, beginSpec}
+pub use Rattle.writer.specs.Add.{Written, writtenOf, decide, addAnswer, addSpec, beginSpec}
 pub use Rattle.writer.specs.Lists.{Item, itemOf, encode, AllFit, AreBytes, contentsOf, readAll, Rewritable, writeAll, datagramOf}
 pub use Rattle.writer.proofs.RoundTrips.{Reads}
 
@@ -38,12 +38,12 @@ add-refused-same room len m source = refused (addAnswer room len m source) room 
 
 -- ---- the round trips
 
--- Every list of messages that begin and add accepted reads back as exactly those messages.
+-- Every list of messages that begin and add accepted, whose numbers have their widths, reads back as exactly those messages.
 pub round-trip-written : (room : List ℕ) (to : ℕ) (is : List Item) → to < 2 ^ 32 → AllFit is → writeAll room to is .answer ≡ 0 → Reads (datagramOf (writeAll room to is)) to is
 round-trip-written = written-reads
 
 -- Every datagram that passes the checks, with the fixed options or End alone where it is a HANDSHAKE, is byte for byte what
 -- begin and add give for the messages read from it.
 pub round-trip-read : (room s : List ℕ) → AreBytes s → maxSize ≤ length room → numberOf (layoutOf s .layout) ≡ 0 → Rewritable (layoutOf s .layout)
-    → writeAll room (be32 s 0) (readAll s) ≡ sentOf 0 (length s) (placed room 0 s)
+    → writeAll room (be32 s 0) (readAll s) ≡ writtenOf 0 (length s) (placed room 0 s)
 round-trip-read = read-writes

@@ -22,7 +22,7 @@ use Rattle.wire.proofs.PlacedLaws.{placed-none, placed-then, placed-front}
 use Rattle.wire.proofs.ViewLaws.{end-is}
 use Rattle.writer.specs.Bytes.{bytes32, bytes64, rangeBytes}
 use Rattle.writer.specs.Message.{within, optionBytes, bytesOf, writable, writableOptions, sizeOf}
-use Rattle.writer.specs.Add.{Sent, sentOf, hasData, addAnswer, addSpec}
+use Rattle.writer.specs.Add.{Written, writtenOf, hasData, addAnswer, addSpec}
 use Rattle.writer.specs.Lists.{Item, itemOf, encode, Fits, AllFit, contentOf, contentsOf, onStep, readFrom, andThen, addAll}
 use Rattle.writer.proofs.PlaceLaws.{size64, sizeRange}
 use Rattle.writer.proofs.PutLaws.{within-length}
@@ -104,15 +104,15 @@ list-back (i ∷ is) f c p (suc n) h =
 -- ---- messages that were accepted one after another
 
 -- one accepted message, and what is added behind it
-one-more : (room : List ℕ) (len : ℕ) (m : Message) (source : List ℕ) (w : ℕ) → addAnswer room len m source ≡ w → (rest : List ℕ → ℕ → Sent)
+one-more : (room : List ℕ) (len : ℕ) (m : Message) (source : List ℕ) (w : ℕ) → addAnswer room len m source ≡ w → (rest : List ℕ → ℕ → Written)
     → andThen (addSpec room len m source) rest .answer ≡ 0
     → (addAnswer room len m source ≡ 0) × (andThen (addSpec room len m source) rest ≡ rest (placed room len (bytesOf source m)) (len + sizeOf m))
 unfolding addSpec
 one-more room len m source zero e rest z = (e, rw e)
 one-more room len m source (suc w) e rest z =
-    absurd (omega (arith, ap (λ (r : Sent). r .answer) (sym (refused e)), z))
+    absurd (omega (arith, ap (λ (r : Written). r .answer) (sym (refused e)), z))
   where
-    refused : addAnswer room len m source ≡ suc w → andThen (addSpec room len m source) rest ≡ sentOf (suc w) 0 room
+    refused : addAnswer room len m source ≡ suc w → andThen (addSpec room len m source) rest ≡ writtenOf (suc w) 0 room
     refused q = rw q
 
 -- DATA ends a datagram: nothing is accepted behind it
@@ -141,9 +141,9 @@ accepted-behind p s (Data c x b n) f w room len e (i ∷ is) g z =
 
 -- What was accepted stands behind the datagram so far, and the rest of the room is as it was.
 pub added : (is : List Item) (room : List ℕ) (len : ℕ) → AllFit is → addAll room len is .answer ≡ 0
-    → (addAll room len is ≡ sentOf 0 (len + length (encode is)) (placed room len (encode is))) × Chain is
+    → (addAll room len is ≡ writtenOf 0 (len + length (encode is)) (placed room len (encode is))) × Chain is
     × (numberOf (layoutOf (take len room) .layout) ≡ 0 → numberOf (layoutOf (take len room ++ encode is) .layout) ≡ 0)
-added [] room len f z = (ap₂ (sentOf 0) (sym (add-zero len)) (placed-none room len), tt, λ e. rw (append-nil (take len room)) e)
+added [] room len f z = (ap₂ (writtenOf 0) (sym (add-zero len)) (placed-none room len), tt, λ e. rw (append-nil (take len room)) e)
 added (i ∷ is) room len f z =
     let s = i .source in let m = i .message in let b = bytesOf s m in
     let o = one-more room len m s (addAnswer room len m s) refl (λ room′ len′. addAll room′ len′ is) z in
@@ -153,12 +153,12 @@ added (i ∷ is) room len f z =
     let p = take len room in
     let l : length p ≡ len = length-take-le len room (omega (arith, t .short, t .big)) in
     let new = placed room len b in
-    let y : addAll new (len + sizeOf m) is .answer ≡ 0 = sym (ap (λ (k : Sent). k .answer) (o .1)) ∙ z in
+    let y : addAll new (len + sizeOf m) is .answer ≡ 0 = sym (ap (λ (k : Written). k .answer) (o .1)) ∙ z in
     let r = added is new (len + sizeOf m) (f .1) y in
     let front : take (len + sizeOf m) new ≡ p ++ b = rw (← n) (placed-front room len b (omega (arith, n, a .fits, l, t .big))) in
     let join : placed new (len + sizeOf m) (encode is) ≡ placed room len (b ++ encode is) = placed-then room len b (encode is) (len + sizeOf m) (ap (λ (k : ℕ). len + k) n) refl refl in
     let size : len + sizeOf m + length (encode is) ≡ len + length (b ++ encode is) = omega (arith, n, length-append b (encode is)) in (
-      o .1 ∙ r .0 ∙ ap₂ (sentOf 0) size join,
+      o .1 ∙ r .0 ∙ ap₂ (writtenOf 0) size join,
       (a .can, a .good, accepted-behind p s m (f .0) a new (len + sizeOf m) front is (f .1) y, r .1),
       λ e. rw (← append-assoc p b (encode is)) (rw (← front) (r .2 (rw front (t .longer)))),
     )

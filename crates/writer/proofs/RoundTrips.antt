@@ -17,7 +17,7 @@ use Rattle.wire.proofs.PlacedLaws.{placed-then, placed-front, placed-length}
 use Rattle.wire.proofs.ExtendLaws.{layout-is, over}
 use Rattle.wire.proofs.FaultLaws.{passed}
 use Rattle.writer.specs.Bytes.{bytes32}
-use Rattle.writer.specs.Add.{sentOf, beginSpec}
+use Rattle.writer.specs.Add.{writtenOf, beginSpec}
 use Rattle.writer.specs.Lists.{Item, encode, AllFit, AreBytes, contentsOf, readAll, Rewritable, addAll, writeAll, datagramOf}
 use Rattle.writer.proofs.PlaceLaws.{size32}
 use Rattle.writer.proofs.NumberLaws.{joined32, split-word}
@@ -26,7 +26,7 @@ use Rattle.writer.proofs.WriteBackLaws.{Here, write-back}
 
 -- ---- a datagram begun
 module _ (room : List ℕ) (to : ℕ) where
-  begun : maxSize ≤ length room → beginSpec room to ≡ sentOf 0 minSize (placed room 0 (bytes32 to))
+  begun : maxSize ≤ length room → beginSpec room to ≡ writtenOf 0 minSize (placed room 0 (bytes32 to))
   unfolding beginSpec
   begun big = rw (le-ltb (length room) maxSize big)
 
@@ -80,7 +80,7 @@ written-reads room to is h f z =
 -- Every datagram that passes the checks, with the fixed options or End alone where it is a HANDSHAKE, is byte for byte
 -- what begin and add give for the messages read from it.
 pub read-writes : (room s : List ℕ) → AreBytes s → maxSize ≤ length room → numberOf (layoutOf s .layout) ≡ 0 → Rewritable (layoutOf s .layout)
-    → writeAll room (be32 s 0) (readAll s) ≡ sentOf 0 (length s) (placed room 0 s)
+    → writeAll room (be32 s 0) (readAll s) ≡ writtenOf 0 (length s) (placed room 0 s)
 read-writes room s small big z r =
     let to = be32 s 0 in
     let p = passed s z in
@@ -99,4 +99,4 @@ read-writes room s small big z r =
     } in
     rw (begun room to big)
     (write-back (length s) s [] start minSize small here (omega arith) (rw l at z) (rw l at r)
-    ∙ ap (sentOf 0 (length s)) (placed-then room 0 (bytes32 to) (drop minSize s) minSize (omega (arith, size32 to)) refl refl ∙ ap (placed room 0) cut))
+    ∙ ap (writtenOf 0 (length s)) (placed-then room 0 (bytes32 to) (drop minSize s) minSize (omega (arith, size32 to)) refl refl ∙ ap (placed room 0) cut))

@@ -17,19 +17,19 @@ use Rattle.wire.specs.declared.message.Message.{Message}
 use Rattle.wire.specs.declared.message.Message.the-variants.{Handshake, Data, Ack, Have, Integrity, Request, Cancel, Choke, Unchoke}
 use Rattle.wire.proofs.message.Message as message
 use Rattle.writer.specs.Bytes.{bytes32, bytes64, rangeBytes}
-use Rattle.writer.specs.Message.{within, optionBytes, bytesOf, lies, writable, writableOptions, sizeOf, optionSpan}
+use Rattle.writer.specs.Message.{within, optionBytes, bytesOf, inBounds, writable, writableOptions, sizeOf, optionSpan}
 use Rattle.writer.proofs.PlaceLaws.{size32, size64, sizeRange}
 use Rattle.writer.proofs.PutLaws.{within-length}
 
--- ---- what lies in the source
+-- ---- what inBounds in the source
 
 -- the test, as an order of numbers
-pub lies-in : (size at n : ℕ) → lies size at n ≡ true → at + n ≤ size
+pub lies-in : (size at n : ℕ) → inBounds size at n ≡ true → at + n ≤ size
 lies-in size at n h =
     let g = both-true (leb n size) (leb at (size - n)) h in
     omega (arith, leb-true n size (g .0), leb-true at (size - n) (g .1))
 
--- a chunk lies in the source
+-- a chunk inBounds in the source
 pub data-in : (size : ℕ) {m : Message} {c t b n : ℕ} → writable size m ≡ true → m ≡ Data c t b n → b + n ≤ size
 unfolding writable
 data-in size {b = b} {n = n} w e = lies-in size b n (rw e at w)

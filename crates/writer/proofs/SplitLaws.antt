@@ -24,7 +24,7 @@ use Rattle.wire.specs.declared.message.Step.the-variants.{Read, End, Refused}
 use Rattle.wire.proofs.ViewLaws.{View, the-end, refused, a-handshake, a-data, an-ack, a-have, an-integrity, a-request, a-cancel, a-choke, an-unchoke}
 use Rattle.wire.proofs.BehindLaws.{only-end}
 use Rattle.writer.specs.Bytes.{bytes32, bytes64, rangeBytes}
-use Rattle.writer.specs.Message.{within, optionBytes, bytesOf, writable, writableOptions, lies, optionSpan, sizeOf}
+use Rattle.writer.specs.Message.{within, optionBytes, bytesOf, writable, writableOptions, inBounds, optionSpan, sizeOf}
 use Rattle.writer.specs.Lists.{Fits, AreBytes}
 use Rattle.writer.proofs.NumberLaws.{be32-fits, be64-fits, peel, split-word, split-long, split-range}
 use Rattle.writer.proofs.BackLaws.{allowed, movedOptions, moved, fixed-size-is}
@@ -71,7 +71,7 @@ SplitStep s at End = Unit {0}
 SplitStep s at Refused = Unit {0}
 SplitStep s at (Read m next) = Split s at m (next .at)
 
-pub lies-is : (size at n : ℕ) → at + n ≤ size → lies size at n ≡ true
+pub lies-is : (size at n : ℕ) → at + n ≤ size → inBounds size at n ≡ true
 lies-is size at n h = rw (le-leb n size (omega arith), le-leb at (size - n) (omega arith))
 
 -- ---- the fixed options around a root, in bytes u that begin with them

@@ -21,7 +21,7 @@ use Rattle.wire.specs.declared.message.Step.{Step}
 use Rattle.wire.specs.declared.message.Step.the-variants.{Read, End, Refused}
 use Rattle.wire.specs.declared.layout.Layout.the-variants.{Fault, HandshakeAlone, Messages}
 use Rattle.writer.specs.Message.{bytesOf, sizeOf}
-use Rattle.writer.specs.Add.{sentOf, addAnswer, addSpec}
+use Rattle.writer.specs.Add.{writtenOf, addAnswer, addSpec}
 use Rattle.writer.specs.Lists.{Item, itemOf, AreBytes, onStep, readFrom, Rewritable, addAll}
 use Rattle.writer.specs.Steps.{faultBehind}
 use Rattle.wire.proofs.PlacedLaws.{placed-none, placed-then, placed-front, placed-length}
@@ -193,35 +193,35 @@ known (suc k) a o next z w = absurd (omega (arith, z))
 -- one message, and those behind it
 module _ (n : ℕ) (s es room : List ℕ) (at : ℕ) (small : AreBytes s) (h : Here s es room at) (turns : length s < at + suc n)
     (more : (gs room′ : List ℕ) (next : ℕ) → Here s gs room′ next → length s < next + n → numberOf (layoutFrom n s gs next .layout) ≡ 0
-    → Rewritable (layoutFrom n s gs next .layout) → addAll room′ next (readFrom n s next) ≡ sentOf 0 (length s) (placed room′ next (drop next s))) where
+    → Rewritable (layoutFrom n s gs next .layout) → addAll room′ next (readFrom n s next) ≡ writtenOf 0 (length s) (placed room′ next (drop next s))) where
   abbrev rest : List ℕ → ℕ → Checked
   rest gs next = layoutFrom n s gs next
 
-  abbrev Written : List Item → Type 0
-  Written is = addAll room at is ≡ sentOf 0 (length s) (placed room at (drop at s))
+  abbrev AllWritten : List Item → Type 0
+  AllWritten is = addAll room at is ≡ writtenOf 0 (length s) (placed room at (drop at s))
 
   bytes-here : AreBytes (drop at s)
   bytes-here i = rw (getD-drop at s i 0) (small (at + i))
 
   -- the last one
-  ends : (m : Message) (next : ℕ) → Split s at m next → next ≡ length s → numberOf (layoutStep s es at (Read m (cursor next)) rest .layout) ≡ 0 → Written (itemOf s m ∷ readFrom n s next)
+  ends : (m : Message) (next : ℕ) → Split s at m next → next ≡ length s → numberOf (layoutStep s es at (Read m (cursor next)) rest .layout) ≡ 0 → AllWritten (itemOf s m ∷ readFrom n s next)
   ends m next x e z =
       let none : drop next s ≡ [] = rw e (drop-length s) in
       step-added s es room at h m next x rest z (readFrom n s next)
       ∙ ap (addAll (placed room at (bytesOf s m)) next) (read-over n s next (omega (arith, e)))
-      ∙ ap₂ (sentOf 0) e (placed-none (placed room at (bytesOf s m)) next ∙ ap (placed (placed room at (bytesOf s m)) next) (sym none) ∙ step-joined s es room at h m next x rest z)
+      ∙ ap₂ (writtenOf 0) e (placed-none (placed room at (bytesOf s m)) next ∙ ap (placed (placed room at (bytesOf s m)) next) (sym none) ∙ step-joined s es room at h m next x rest z)
 
   -- one that does not end the datagram
   goes : (m : Message) (next : ℕ) → Goes m → Split s at m next → numberOf (layoutStep s es at (Read m (cursor next)) rest .layout) ≡ 0
-      → Rewritable (layoutStep s es at (Read m (cursor next)) rest .layout) → Written (itemOf s m ∷ readFrom n s next)
+      → Rewritable (layoutStep s es at (Read m (cursor next)) rest .layout) → AllWritten (itemOf s m ∷ readFrom n s next)
   goes m next g x z w =
       let e = goes-on s es at next rest m g z in
       step-added s es room at h m next x rest z (readFrom n s next)
       ∙ more (noted es m) (placed room at (bytesOf s m)) next (step-here s es room at h m next x rest z g) (omega (arith, turns, x .size, size-some m)) (rw e at z) (rw e at w)
-      ∙ ap (sentOf 0 (length s)) (step-joined s es room at h m next x rest z)
+      ∙ ap (writtenOf 0 (length s)) (step-joined s es room at h m next x rest z)
 
   alone : (a : ℕ) (o : Options) (next : ℕ) → View at (drop at s) (Read (Handshake a o) (cursor next)) → numberOf (layoutStep s es at (Read (Handshake a o) (cursor next)) rest .layout) ≡ 0
-      → Rewritable (layoutStep s es at (Read (Handshake a o) (cursor next)) rest .layout) → Written (itemOf s (Handshake a o) ∷ readFrom n s next)
+      → Rewritable (layoutStep s es at (Read (Handshake a o) (cursor next)) rest .layout) → AllWritten (itemOf s (Handshake a o) ∷ readFrom n s next)
   unfolding handshakeLayout
   alone a o next v z w =
       let k = pick (eqb at minSize) (pick (eqb next (length s)) (handshakeFault (be32 s 0) a o) 3) 3 in
@@ -229,10 +229,10 @@ module _ (n : ℕ) (s es room : List ℕ) (at : ℕ) (small : AreBytes s) (h : H
       ends (Handshake a o) next (split s at bytes-here (h .inside) (Read (Handshake a o) (cursor next)) v (known k a o (cursor next) z w)) (eqb-true next (length s) (f .1)) z
 
   pub step-back : (st : Step) → View at (drop at s) st → numberOf (layoutStep s es at st rest .layout) ≡ 0 → Rewritable (layoutStep s es at st rest .layout)
-      → Written (onStep s st (λ next. readFrom n s next))
+      → AllWritten (onStep s st (λ next. readFrom n s next))
   step-back End (the-end l) z w =
       let e : at ≡ length s = omega (arith, h .inside, length-drop at s, l) in
-      ap₂ (sentOf 0) e (placed-none room at ∙ ap (placed room at) (sym (rw e (drop-length s))))
+      ap₂ (writtenOf 0) e (placed-none room at ∙ ap (placed room at) (sym (rw e (drop-length s))))
   step-back Refused refused z w = absurd (omega (arith, z))
   step-back _ (a-handshake e l o) z w = alone _ _ _ (a-handshake e l o) z w
   step-back _ (a-data e l o) z w = ends _ _ (split s at bytes-here (h .inside) _ (a-data e l o) tt) (omega (arith, length-drop at s, h .inside)) z
@@ -246,7 +246,7 @@ module _ (n : ℕ) (s es room : List ℕ) (at : ℕ) (small : AreBytes s) (h : H
 
 pub write-back : (n : ℕ) (s es room : List ℕ) (at : ℕ) → AreBytes s → Here s es room at → length s < at + n
     → numberOf (layoutFrom n s es at .layout) ≡ 0 → Rewritable (layoutFrom n s es at .layout)
-    → addAll room at (readFrom n s at) ≡ sentOf 0 (length s) (placed room at (drop at s))
+    → addAll room at (readFrom n s at) ≡ writtenOf 0 (length s) (placed room at (drop at s))
 unfolding layoutFrom readFrom
 write-back zero s es room at small h k z r = absurd (omega (arith, h .inside))
 write-back (suc n) s es room at small h k z r =

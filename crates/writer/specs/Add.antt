@@ -14,15 +14,15 @@ use Rattle.wire.specs.declared.layout.Layout.the-variants.{Fault, HandshakeAlon
 use Rattle.writer.specs.Bytes.{bytes32}
 use Rattle.writer.specs.Message.{bytesOf, writable, sizeOf}
 
--- Whether a datagram has DATA, which would swallow what is added.
+-- Whether a datagram has DATA: what is added behind it would be read as chunk bytes.
 abbrev pub hasData : Layout → Bool
 hasData (Fault n) = false
 hasData (HandshakeAlone a o) = false
 hasData (Messages k) = false
 hasData (MessagesAndData c x b n k) = true
 
--- The number for adding a message to the first len bytes of a room: 11 for a room under the limit; the reader's number for
--- the datagram so far; 2 for a message that cannot be written; the reader's number for the lengthened datagram; 2 behind
+-- The number for adding a message to the first len bytes of a room: 11 for a room under the limit; 1 for a length over it;
+-- the reader's number for the datagram so far; 2 for a message that cannot be written; the reader's number for the lengthened datagram; 2 behind
 -- DATA.
 unfoldable pub addAnswer : List ℕ → ℕ → Message → List ℕ → ℕ
 addAnswer room len m bytes =
@@ -35,23 +35,23 @@ addAnswer room len m bytes =
     0)))))
 
 -- What a call gives and leaves.
-pub record Sent : Type 0 where
+pub record Written : Type 0 where
   pub answer : ℕ
   pub len : ℕ
   pub room : List ℕ
 
-abbrev pub sentOf : ℕ → ℕ → List ℕ → Sent
-sentOf n len room = record { answer = n; len = len; room = room }
+abbrev pub writtenOf : ℕ → ℕ → List ℕ → Written
+writtenOf n len room = record { answer = n; len = len; room = room }
 
 -- A refusal gives length 0 and leaves the room.
-abbrev pub decide : ℕ → List ℕ → ℕ → List ℕ → Sent
-decide zero old len new = sentOf 0 len new
-decide (suc n) old len new = sentOf (suc n) 0 old
+abbrev pub decide : ℕ → List ℕ → ℕ → List ℕ → Written
+decide zero old len new = writtenOf 0 len new
+decide (suc n) old len new = writtenOf (suc n) 0 old
 
 -- A datagram begins with its destination.
-unfoldable pub beginSpec : List ℕ → ℕ → Sent
+unfoldable pub beginSpec : List ℕ → ℕ → Written
 beginSpec room to = decide (pick (ltb (length room) maxSize) 11 0) room minSize (placed room 0 (bytes32 to))
 
 -- The message is written behind the datagram so far; what stands past it stays.
-unfoldable pub addSpec : List ℕ → ℕ → Message → List ℕ → Sent
+unfoldable pub addSpec : List ℕ → ℕ → Message → List ℕ → Written
 addSpec room len m bytes = decide (addAnswer room len m bytes) room (len + sizeOf m) (placed room len (bytesOf bytes m))

@@ -13,7 +13,7 @@ use Rattle.wire.specs.declared.message.Step.the-variants.{Read, End, Refused}
 use Rattle.wire.specs.declared.layout.Layout.{Layout}
 use Rattle.wire.specs.declared.layout.Layout.the-variants.{Fault, HandshakeAlone, Messages, MessagesAndData}
 use Rattle.writer.specs.Message.{within, bytesOf}
-use Rattle.writer.specs.Add.{Sent, sentOf, beginSpec, addSpec}
+use Rattle.writer.specs.Add.{Written, writtenOf, beginSpec, addSpec}
 
 -- A message, and the bytes that its hash, chunk or root is taken from.
 pub record Item : Type 0 where
@@ -49,42 +49,43 @@ abbrev pub AreBytes : List ℕ → Type 0
 AreBytes s = (i : ℕ) → getD s i 0 < 256
 
 -- The bytes that a message names in s: its hash, its chunk or its root.
-abbrev pub heldOptions : List ℕ → Options → List ℕ
-heldOptions s (Fixed root) = within s root 32
-heldOptions s EndOnly = []
-heldOptions s Other = []
+abbrev pub payloadOptions : List ℕ → Options → List ℕ
+payloadOptions s (Fixed root) = within s root 32
+payloadOptions s EndOnly = []
+payloadOptions s Other = []
 
-abbrev pub held : List ℕ → Message → List ℕ
-held s (Handshake a o) = heldOptions s o
-held s (Data c x b n) = within s b n
-held s (Ack f l d) = []
-held s (Have f l) = []
-held s (Integrity f l h) = within s h 32
-held s (Request f l) = []
-held s (Cancel f l) = []
-held s Choke = []
-held s Unchoke = []
+abbrev pub payload : List ℕ → Message → List ℕ
+payload s (Handshake a o) = payloadOptions s o
+payload s (Data c x b n) = within s b n
+payload s (Ack f l d) = []
+payload s (Have f l) = []
+payload s (Integrity f l h) = within s h 32
+payload s (Request f l) = []
+payload s (Cancel f l) = []
+payload s Choke = []
+payload s Unchoke = []
 
 -- A message whose hash, chunk or root stands at place 0.
-abbrev pub bareOptions : Options → Options
-bareOptions (Fixed root) = Fixed 0
-bareOptions EndOnly = EndOnly
-bareOptions Other = Other
+abbrev pub atZeroOptions : Options → Options
+atZeroOptions (Fixed root) = Fixed 0
+atZeroOptions EndOnly = EndOnly
+atZeroOptions Other = Other
 
-abbrev pub bare : Message → Message
-bare (Handshake a o) = Handshake a (bareOptions o)
-bare (Data c x b n) = Data c x 0 n
-bare (Ack f l d) = Ack f l d
-bare (Have f l) = Have f l
-bare (Integrity f l h) = Integrity f l 0
-bare (Request f l) = Request f l
-bare (Cancel f l) = Cancel f l
-bare Choke = Choke
-bare Unchoke = Unchoke
+abbrev pub atZero : Message → Message
+atZero (Handshake a o) = Handshake a (atZeroOptions o)
+atZero (Data c x b n) = Data c x 0 n
+atZero (Ack f l d) = Ack f l d
+atZero (Have f l) = Have f l
+atZero (Integrity f l h) = Integrity f l 0
+atZero (Request f l) = Request f l
+atZero (Cancel f l) = Cancel f l
+atZero Choke = Choke
+atZero Unchoke = Unchoke
 
--- A message with the very bytes that it names, and no others: what two of the same meaning have in common.
+-- A message with its payload alone as its source, at place 0. Equal contents: the same type, numbers and payload; only the
+-- place is left out. Options other than the fixed ones and End are not kept; they cannot be added.
 abbrev pub contentOf : Item → Item
-contentOf i = itemOf (held (i .source) (i .message)) (bare (i .message))
+contentOf i = itemOf (payload (i .source) (i .message)) (atZero (i .message))
 
 abbrev pub contentsOf : List Item → List Item
 contentsOf [] = []
@@ -106,7 +107,7 @@ readAll s = readFrom (length s) s minSize
 
 -- A datagram whose messages can be written: a HANDSHAKE has the fixed options or End alone.
 abbrev pub Rewritable : Layout → Type 0
-Rewritable (Fault n) = Unit {0}
+Rewritable (Fault n) = ⊥
 Rewritable (HandshakeAlone a (Fixed r)) = Unit {0}
 Rewritable (HandshakeAlone a EndOnly) = Unit {0}
 Rewritable (HandshakeAlone a Other) = ⊥
@@ -114,21 +115,21 @@ Rewritable (Messages k) = Unit {0}
 Rewritable (MessagesAndData c x b n k) = Unit {0}
 
 -- Messages added one after another, up to the first refusal.
-abbrev pub onAnswer : ℕ → Sent → Sent → Sent
+abbrev pub onAnswer : ℕ → Written → Written → Written
 onAnswer zero r rest = rest
 onAnswer (suc n) r rest = r
 
-abbrev pub andThen : Sent → (List ℕ → ℕ → Sent) → Sent
+abbrev pub andThen : Written → (List ℕ → ℕ → Written) → Written
 andThen r rest = onAnswer (r .answer) r (rest (r .room) (r .len))
 
-abbrev pub addAll : List ℕ → ℕ → List Item → Sent
-addAll room len [] = sentOf 0 len room
+abbrev pub addAll : List ℕ → ℕ → List Item → Written
+addAll room len [] = writtenOf 0 len room
 addAll room len (i ∷ is) = andThen (addSpec room len (i .message) (i .source)) (λ room′ len′. addAll room′ len′ is)
 
 -- A datagram begun, and the messages added to it.
-abbrev pub writeAll : List ℕ → ℕ → List Item → Sent
+abbrev pub writeAll : List ℕ → ℕ → List Item → Written
 writeAll room to is = andThen (beginSpec room to) (λ room′ len′. addAll room′ len′ is)
 
 -- The datagram that a call left.
-abbrev pub datagramOf : Sent → List ℕ
+abbrev pub datagramOf : Written → List ℕ
 datagramOf r = take (r .len) (r .room)

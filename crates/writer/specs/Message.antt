@@ -35,21 +35,21 @@ bytesOf s Choke = 10 ∷ []
 bytesOf s Unchoke = 11 ∷ []
 
 -- Whether n bytes from `at` on lie in a source of size bytes.
-abbrev pub lies : ℕ → ℕ → ℕ → Bool
-lies size at n = pick (leb n size) (leb at (size - n)) false
+abbrev pub inBounds : ℕ → ℕ → ℕ → Bool
+inBounds size at n = pick (leb n size) (leb at (size - n)) false
 
--- Whether a message can be written: its hash, chunk or root lies in the source, and its options are not others.
+-- Whether a message can be written: its hash, chunk or root inBounds in the source, and its options are not others.
 unfoldable pub writableOptions : ℕ → Options → Bool
-writableOptions size (Fixed root) = lies size root 32
+writableOptions size (Fixed root) = inBounds size root 32
 writableOptions size EndOnly = true
 writableOptions size Other = false
 
 unfoldable pub writable : ℕ → Message → Bool
 writable size (Handshake source options) = writableOptions size options
-writable size (Data chunk time start len) = lies size start len
+writable size (Data chunk time start len) = inBounds size start len
 writable size (Ack first last delay) = true
 writable size (Have first last) = true
-writable size (Integrity first last hash) = lies size hash 32
+writable size (Integrity first last hash) = inBounds size hash 32
 writable size (Request first last) = true
 writable size (Cancel first last) = true
 writable size Choke = true

@@ -3,7 +3,7 @@ ghost use mathlib.Core.Path.{_≡_};
 ghost use Prim.Native.Nat.{_+_, _≤_, _<_};
 ghost use mathlib.Core.Bool.{true};
 ghost use lib.ListN.{length};
-ghost use Rattle.writer.specs.Add.{addAnswer, addSpec, beginSpec, sentOf};
+ghost use Rattle.writer.specs.Add.{addAnswer, addSpec, beginSpec, writtenOf};
 ghost use Rattle.writer.specs.Lists.{Fits};
 ghost use Rattle.writer.specs.Steps.{rangeFault, nodeFault, faultBehind, Roomy, faultAfter, FitsBehind, Addable};
 use crate::place;
@@ -14,6 +14,7 @@ use tree::bin::RangeNode;
 use wire::bytes;
 use wire::layout;
 use wire::layout::Layout;
+use wire::limits::ENTRIES;
 use wire::limits::MAX_SIZE;
 use wire::limits::MIN_SIZE;
 use wire::message::Message;
@@ -52,7 +53,7 @@ fn fault_behind(entries: &[u64], destination: u32, len: usize, message: Message)
         }
         Message::Data {
             chunk,
-            time: _,
+            timestamp: _,
             start: _,
             len: _,
         } => range_fault(chunk, chunk),
@@ -96,7 +97,7 @@ fn fault_after(
         }
         Layout::MessagesAndData {
             chunk: _,
-            time: _,
+            timestamp: _,
             start: _,
             len: _,
             entries: _,
@@ -115,7 +116,7 @@ fn add_answer(room: &[u8], len: usize, message: Message, bytes: &[u8]) -> u32
         return 1;
     }
     let prefix = &room[0..len];
-    let mut entries = [0u64; 98];
+    let mut entries = [0u64; ENTRIES];
     let layout = layout::check(prefix, &mut entries);
     let fault = layout::number(layout);
     if fault != 0 {
@@ -138,18 +139,21 @@ pub struct Added {
 
 // Begins a datagram: its destination channel.
 pub fn begin(room: &mut [u8], destination: u32) -> Added
-    ensures { λ r. ⌜ sentOf (r .answer) (r .len) (now (room .exit)) ≡ beginSpec (now (room .entry)) destination ⌝ }
+    ensures { λ r. ⌜ writtenOf (r .answer) (r .len) (now (room .exit)) ≡ beginSpec (now (room .entry)) destination ⌝ }
 {
     if room.len() < MAX_SIZE {
         return Added { answer: 11, len: 0 };
     }
     place::place32(room, 0, destination);
-    Added { answer: 0, len: 4 }
+    Added {
+        answer: 0,
+        len: MIN_SIZE,
+    }
 }
 
 // Adds a message to the datagram in the first `len` bytes of the room; its hash, chunk or root is taken from `bytes`.
 pub fn add(room: &mut [u8], len: usize, message: Message, bytes: &[u8]) -> Added
-    ensures { λ r. ⌜ sentOf (r .answer) (r .len) (now (room .exit)) ≡ addSpec (now (room .entry)) len message (now (bytes .entry)) ⌝ }
+    ensures { λ r. ⌜ writtenOf (r .answer) (r .len) (now (room .exit)) ≡ addSpec (now (room .entry)) len message (now (bytes .entry)) ⌝ }
 {
     let answer = add_answer(room, len, message, bytes);
     if answer != 0 {

@@ -42,7 +42,7 @@ pub fn place_all(room: &mut [u8], at: usize, bytes: &[u8])
     }
 }
 
-// A message's type and range. How a range stands in a datagram is known here alone, and to its reader.
+// A message's type and range, whose two numbers are written here alone.
 pub fn place_range(room: &mut [u8], at: usize, kind: u8, first: u32, last: u32)
     requires { ⌜ at + 9 ≤ length (now room) ⌝ }
     ensures { λ _. ⌜ now (room .exit) ≡ placed (now (room .entry)) at (rangeBytes kind first last) ⌝ }

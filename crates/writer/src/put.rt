@@ -10,6 +10,8 @@ ghost use Rattle.writer.specs.Message.{optionBytes, optionSpan, bytesOf,
 use crate::place;
 use wire::message::Message;
 use wire::message::Options;
+use wire::options::FIXED_HEAD;
+use wire::options::FIXED_TAIL;
 
 // The fixed options, around the root.
 fn put_fixed(room: &mut [u8], at: usize, root: usize, bytes: &[u8])
@@ -17,14 +19,10 @@ fn put_fixed(room: &mut [u8], at: usize, root: usize, bytes: &[u8])
     requires { ⌜ root + 32 ≤ length (now bytes) ⌝ }
     ensures { λ _. ⌜ now (room .exit) ≡ placed (now (room .entry)) at (optionBytes (now (bytes .entry)) (Options.Fixed root)) ⌝ }
 {
-    place::place_all(room, at, b"\x00\x01\x01\x01\x02\x00\x20");
+    place::place_all(room, at, &FIXED_HEAD);
     let end = root + 32;
     place::place_all(room, at + 7, &bytes[root..end]);
-    place::place_all(
-        room,
-        at + 39,
-        b"\x03\x01\x04\x02\x06\x02\x09\x00\x00\x04\x00\xff",
-    );
+    place::place_all(room, at + 39, &FIXED_TAIL);
 }
 
 fn put_options(room: &mut [u8], at: usize, options: Options, bytes: &[u8])
@@ -57,17 +55,17 @@ fn put_data(
     room: &mut [u8],
     at: usize,
     chunk: u32,
-    time: u64,
+    timestamp: u64,
     start: usize,
     len: usize,
     bytes: &[u8],
 )
     requires { ⌜ at + (17 + len) ≤ length (now room) ⌝ }
     requires { ⌜ start + len ≤ length (now bytes) ⌝ }
-    ensures { λ _. ⌜ now (room .exit) ≡ placed (now (room .entry)) at (bytesOf (now (bytes .entry)) (Message.Data chunk time start len)) ⌝ }
+    ensures { λ _. ⌜ now (room .exit) ≡ placed (now (room .entry)) at (bytesOf (now (bytes .entry)) (Message.Data chunk timestamp start len)) ⌝ }
 {
     place::place_range(room, at, 1, chunk, chunk);
-    place::place64(room, at + 9, time);
+    place::place64(room, at + 9, timestamp);
     let end = start + len;
     place::place_all(room, at + 17, &bytes[start..end]);
 }
@@ -102,11 +100,11 @@ pub fn put(room: &mut [u8], at: usize, message: Message, bytes: &[u8])
         }
         Message::Data {
             chunk,
-            time,
+            timestamp,
             start,
             len,
         } => {
-            put_data(room, at, chunk, time, start, len, bytes);
+            put_data(room, at, chunk, timestamp, start, len, bytes);
         }
         Message::Ack { first, last, delay } => {
             put_ack(room, at, first, last, delay, bytes);

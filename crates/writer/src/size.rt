@@ -3,13 +3,13 @@ ghost use mathlib.Core.Path.{_≡_};
 ghost use Prim.Native.Nat.{_+_, _≤_, _<_};
 ghost use mathlib.Core.Bool.{true};
 ghost use lib.ListN.{length};
-ghost use Rattle.writer.specs.Message.{lies, writable, writableOptions, optionSpan, sizeOf};
+ghost use Rattle.writer.specs.Message.{inBounds, writable, writableOptions, optionSpan, sizeOf};
 use wire::message::Message;
 use wire::message::Options;
 
 // Whether n bytes from `at` on lie in `size` bytes.
-fn lies(size: usize, at: usize, n: usize) -> bool
-    ensures { λ r. ⌜ r ≡ lies size at n ⌝ }
+fn in_bounds(size: usize, at: usize, n: usize) -> bool
+    ensures { λ r. ⌜ r ≡ inBounds size at n ⌝ }
 {
     if size < n {
         return false;
@@ -21,7 +21,7 @@ fn writable_options(size: usize, options: Options) -> bool
     ensures { λ r. ⌜ r ≡ writableOptions size options ⌝ }
 {
     match options {
-        Options::Fixed { root } => lies(size, root, 32),
+        Options::Fixed { root } => in_bounds(size, root, 32),
         Options::EndOnly => true,
         Options::Other => false,
     }
@@ -35,15 +35,15 @@ pub fn writable(size: usize, message: Message) -> bool
         Message::Handshake { source: _, options } => writable_options(size, options),
         Message::Data {
             chunk: _,
-            time: _,
+            timestamp: _,
             start,
             len,
-        } => lies(size, start, len),
+        } => in_bounds(size, start, len),
         Message::Integrity {
             first: _,
             last: _,
             hash,
-        } => lies(size, hash, 32),
+        } => in_bounds(size, hash, 32),
         _ => true,
     }
 }
@@ -67,7 +67,7 @@ pub fn size_of(message: Message, bytes: &[u8]) -> usize
         Message::Handshake { source: _, options } => 5 + option_span(options),
         Message::Data {
             chunk: _,
-            time: _,
+            timestamp: _,
             start: _,
             len,
         } => 17 + len,

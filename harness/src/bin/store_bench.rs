@@ -5,7 +5,7 @@
 //! best time of each counts. The rooms are made and written before a time
 //! begins. The numbers are printed; none decides anything.
 
-use harness::bench::machine;
+use harness::bench::{print_table, run, Job};
 use harness::beside::least_lengths;
 use harness::came::{all, least, Came};
 use harness::packs::Pack;
@@ -35,19 +35,7 @@ fn main() {
     jobs.push(take_job("the sending order's hashes", largest, &sending));
     jobs.push(take_job("the least hashes", largest, &least));
 
-    let start = Instant::now();
-    let mut rounds = 0;
-    while start.elapsed() < RUN {
-        for job in &mut jobs {
-            job.run(rounds % 2 == 0);
-        }
-        rounds += 1;
-    }
-
-    println!("machine: {}", machine());
-    println!("rounds: {rounds}, of one run of each job for each; the best counts");
-    println!("the ratio is one of speeds, larger is faster");
-    println!();
+    run(&mut jobs, RUN);
     print_table(&jobs);
     print_growth(&jobs[..SIZES.len()]);
 }
@@ -73,47 +61,6 @@ fn least_download(pack: &Pack, order: &[u32]) -> Download {
         (chunk, Came::new(&hashes), hashes)
     });
     came.collect()
-}
-
-/// Work for both stores: each run gives the time it took.
-struct Job<'a> {
-    name: String,
-    proved: Box<dyn Fn() -> Duration + 'a>,
-    second: Box<dyn Fn() -> Duration + 'a>,
-    proved_best: Duration,
-    second_best: Duration,
-}
-
-impl<'a> Job<'a> {
-    fn new(
-        name: String,
-        proved: impl Fn() -> Duration + 'a,
-        second: impl Fn() -> Duration + 'a,
-    ) -> Self {
-        Job {
-            name,
-            proved: Box::new(proved),
-            second: Box::new(second),
-            proved_best: Duration::MAX,
-            second_best: Duration::MAX,
-        }
-    }
-
-    /// One run of each.
-    fn run(&mut self, proved_first: bool) {
-        if proved_first {
-            self.proved_best = self.proved_best.min((self.proved)());
-        }
-        self.second_best = self.second_best.min((self.second)());
-        if !proved_first {
-            self.proved_best = self.proved_best.min((self.proved)());
-        }
-    }
-
-    /// The microseconds of the proved store and of `second`'s.
-    fn microseconds(&self) -> [f64; 2] {
-        [self.proved_best, self.second_best].map(|time| time.as_secs_f64() * 1e6)
-    }
 }
 
 fn build_job(pack: &Pack) -> Job<'_> {
@@ -208,22 +155,11 @@ fn started(pack: &Pack, rooms: SecondRooms) -> Store {
     }
 }
 
-/// A row for each job: the times and the ratio.
-fn print_table(jobs: &[Job]) {
-    print!("{:44}{:>11}{:>11}", "best times, us", "proved", "second");
-    println!("{:>16}", "proved/second");
-    for job in jobs {
-        let [proved, second] = job.microseconds();
-        print!("{:44}{proved:>11.1}{second:>11.1}", job.name);
-        println!("{:>16.3}", second / proved);
-    }
-}
-
 /// How many times as long each build takes as the one before it.
 fn print_growth(builds: &[Job]) {
     for pair in builds.windows(2) {
         let [before, after] = [&pair[0], &pair[1]].map(Job::microseconds);
-        let name = format!("{} / {}", pair[1].name, pair[0].name);
+        let name = format!("{} / {}", pair[1].name(), pair[0].name());
         print!("{name:44}");
         println!(
             "{:>11.3}{:>11.3}",

@@ -13,14 +13,14 @@ writable-options-requires c κs = search needs
 enum-known-message-2 : tie.Need-enum-known-message-2
 enum-known-message-2 c = search needs
 
-lies-requires : tie.Need-lies-requires
-lies-requires c κs = search needs
+in-bounds-requires : tie.Need-in-bounds-requires
+in-bounds-requires c κs = search needs
 
 enum-known-message-3 : tie.Need-enum-known-message-3
 enum-known-message-3 c = search needs
 
-lies-requires-2 : tie.Need-lies-requires-2
-lies-requires-2 c κs = search needs
+in-bounds-requires-2 : tie.Need-in-bounds-requires-2
+in-bounds-requires-2 c κs = search needs
 
 returns : tie.Need-returns
 unfolding writable
@@ -28,11 +28,11 @@ returns c = rw (c .before .before .message .given .1) (c .writable-options .ensu
 
 returns-2 : tie.Need-returns-2
 unfolding writable
-returns-2 c = rw (c .before .before .message2 .given .1) (c .lies .ensures)
+returns-2 c = rw (c .before .before .message2 .given .1) (c .in-bounds .ensures)
 
 returns-3 : tie.Need-returns-3
 unfolding writable
-returns-3 c = rw (c .before .before .message3 .given .1) (c .lies2 .ensures)
+returns-3 c = rw (c .before .before .message3 .given .1) (c .in-bounds2 .ensures)
 
 returns-4 : tie.Need-returns-4
 returns-4 c = let a = c .before .args in writable-other (a .size) (a .message) (c .match .keys4)
@@ -44,9 +44,9 @@ writable-spec =
     enum-known-message
     writable-options-requires
     enum-known-message-2
-    lies-requires
+    in-bounds-requires
     enum-known-message-3
-    lies-requires-2
+    in-bounds-requires-2
     returns
     returns-2
     returns-3

@@ -1,4 +1,4 @@
--- Worked datagrams, one of each message of 01's table (RFC 7574, 8.4 to 8.15), and the opening HANDSHAKE: antt computes both
+-- Worked datagrams, one of each message of 01's table (RFC 7574, 8.4 to 8.12), and the opening HANDSHAKE: antt computes both
 -- ways. Assumes nothing.
 use Prim.Native.Nat.{ℕ, _+_}
 use mathlib.Core.Path.{_≡_, refl}

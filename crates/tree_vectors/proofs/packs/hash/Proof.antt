@@ -1,7 +1,7 @@
 use Prim.Native.Nat.{_≤_, _-_}
 use borrow.Author.Needs.{needs}
-use Rattle.tree_vectors.proofs.line.hash.Statement.{statement}
-use Rattle.tree_vectors.proofs.line.hash.Tie as tie
+use Rattle.tree_vectors.proofs.packs.hash.Statement.{statement}
+use Rattle.tree_vectors.proofs.packs.hash.Tie as tie
 
 abbrev Inv-loop : tie.InvT-loop
 Inv-loop v out₀ i₀ out i = i ≤ 8

@@ -1,8 +1,8 @@
 use Prim.Native.Nat.{_≤_, _-_}
 use lib.ListN.{length}
 use borrow.Author.Needs.{needs}
-use Rattle.tree_vectors.proofs.line.text.Statement.{statement}
-use Rattle.tree_vectors.proofs.line.text.Tie as tie
+use Rattle.lines.proofs.text.Statement.{statement}
+use Rattle.lines.proofs.text.Tie as tie
 
 abbrev Inv-loop : tie.InvT-loop
 Inv-loop s out₀ i₀ out i = i ≤ length s

@@ -1,0 +1,42 @@
+use native.Mathlib.Omega.{arith}
+use Rattle.wire_c.proofs.CallLaws.{layout-short, layout-done}
+use borrow.Author.Needs.{needs}
+use Rattle.wire_c.proofs.wire_layout.Statement.{statement}
+use Rattle.wire_c.proofs.wire_layout.Tie as tie
+
+returns : tie.Need-returns
+returns c =
+    let a = c .before .before .before .before .args in
+    layout-short (a .datagram .now) (a .entries .now) (a .out .now) (c .if1 .taken)
+
+check-requires : tie.Need-check-requires
+check-requires c κs = search needs
+
+put-layout-requires : tie.Need-put-layout-requires
+put-layout-requires c κs = search needs
+
+number-requires : tie.Need-number-requires
+number-requires c κs = search needs
+
+same-length : tie.Need-same-length
+same-length c = search needs
+
+same-length-2 : tie.Need-same-length-2
+same-length-2 c = search needs
+
+returns-2 : tie.Need-returns-2
+returns-2 c =
+    let a = c .before .before .before .before .before .before .before .before .before .before .before .before .before .args in
+    layout-done (a .datagram .now) (a .entries .now) (a .out .now) (omega arith) (c .before .before .before .before .before .before .before .check .ensures) (c .before .before .before .put-layout .ensures) (c .number .ensures)
+
+pub wire-layout-spec : {M : Type 1} → statement M
+wire-layout-spec =
+    tie.close
+    (tie.spec
+    returns
+    check-requires
+    put-layout-requires
+    number-requires
+    same-length
+    same-length-2
+    returns-2)
