@@ -1,4 +1,5 @@
--- Lists of messages: added one after another, and read from a datagram. Assumes nothing.
+-- Lists of messages, added one after another and read from a datagram: what the round trips speak of (demand 2, "round
+-- trips both ways"). Assumes nothing.
 use Prim.Native.Nat.{ℕ, zero, suc, _+_, _<_, _^_}
 use mathlib.Core.List.{List, [], _∷_, _++_}
 use lib.ListN.{length, getD, take}
@@ -28,7 +29,7 @@ abbrev pub encode : List Item → List ℕ
 encode [] = []
 encode (i ∷ is) = bytesOf (i .source) (i .message) ++ encode is
 
--- The numbers of a message have the widths of the table: 32 bits for channels and chunks, 64 for times and delays.
+-- The numbers of a message have the widths of the table: 32 bits for channels and chunks, 64 for timestamps and delays.
 abbrev pub Fits : Message → Type 0
 Fits (Handshake a o) = a < 2 ^ 32
 Fits (Data c x b n) = (c < 2 ^ 32) × (x < 2 ^ 64)
