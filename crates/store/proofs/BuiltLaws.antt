@@ -33,7 +33,7 @@ use Rattle.tree.proofs.NodeLaws.{split, above-top}
 use Rattle.tree.proofs.PackLaws.{levels-holds, high-bound}
 use Rattle.tree.proofs.SoundLaws.{sound-agree}
 
-root-is : (s : List ℕ) → rootOf s ≡ treeOf s (levels (countOf (length s))) 0
+pub root-is : (s : List ℕ) → rootOf s ≡ treeOf s (levels (countOf (length s))) 0
 unfolding rootOf treeOf root
 root-is s = refl
 

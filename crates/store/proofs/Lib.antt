@@ -15,4 +15,5 @@ pub mod CallLaws
 pub mod BegunLaws
 pub mod TakenLaws
 pub mod AlikeLaws
+pub mod AcceptLaws
 pub mod Promise

@@ -4,30 +4,63 @@ use mathlib.Core.Path.{_≡_}
 use mathlib.Core.Logic.{_≢_}
 use mathlib.Core.Bool.{true, false}
 use mathlib.Core.List.{List, map}
-use Prim.Native.Nat.{ℕ, _<_}
+use Prim.Native.Nat.{ℕ, _*_, _<_, _≤_}
 use lib.Dec.{eqb}
 use lib.ListN.{length, take}
 use Rattle.hash.proofs.Promise.{bytesOf}
-use Rattle.bits.proofs.Promise.{bitAt}
+use Rattle.bits.proofs.Promise.{bitAt, rowWords}
 use Rattle.tree.specs.Pick.{pick}
-use Rattle.tree.specs.Pack.{chunkSize, size}
+use Rattle.tree.specs.Pack.{chunkSize, maxLength, size, leafPlaces}
 use Rattle.store.proofs.RoomLaws.{digest-words}
 use Rattle.store.proofs.BegunLaws.{start-running, start-not-same, start-same-sizes, start-empty, build-running, build-not-same, build-same-sizes, build-bytes, build-whole}
 use Rattle.store.proofs.TakenLaws.{take-refused-same, take-means, take-sizes, take-running, take-map, take-bytes}
 use Rattle.store.proofs.AlikeLaws.{hangs, alike}
+use Rattle.store.proofs.AnswerLaws as answers
+use Rattle.store.proofs.AcceptLaws as accept
 pub use Rattle.store.specs.Room.{filler, Digest, hashIn}
 pub use Rattle.store.specs.Integrity.{Integrity, integrityOf}
 pub use Rattle.store.specs.Rooms.{Rooms, roomsOf, countOf, chunkIn, stateOf, SoundRooms}
 pub use Rattle.store.specs.Building.{rootOf}
 pub use Rattle.store.specs.Answers.{refuse, earlier, lengthAnswer, roomAnswer, orderAnswer, chunkAnswer}
-pub use Rattle.store.specs.Calls.{Out, outOf, roomsAnswer, startSpec, buildSpec, foundRoot, takeSpec}
+pub use Rattle.store.specs.Calls.{Out, outOf, roomsAnswer, startSpec, buildAnswer, buildSpec, foundRoot, takeSpec}
 pub use Rattle.store.specs.Whole.{Roomy, SameSizes, Running, HangsIn, Whole, Alike}
 
 -- The words of an order's root stand for 32 bytes.
 pub root-words : (u : List ℕ) → length u ≡ 8 → Digest (bytesOf u)
 root-words = digest-words
 
+-- The root of a content is 32 bytes.
+pub content-root : (s : List ℕ) → Digest (rootOf s)
+content-root = accept.root-digest
+
+-- ---- what an answer of 0 says
+
+-- Of two numbers that refuse in turn, neither does.
+pub both-zero : (m n : ℕ) → earlier m n ≡ 0 → (m ≡ 0) × (n ≡ 0)
+both-zero = answers.both-zero
+
+-- Not 12, and not 11.
+pub order-accepted : (L b m h t : ℕ) → orderAnswer L b m h t ≡ 0 → (lengthAnswer L ≡ 0) × (roomAnswer L b m h t ≡ 0)
+order-accepted = accept.order-accepted
+
+-- Not 12: the length is within the limit.
+pub length-accepted : (L : ℕ) → lengthAnswer L ≡ 0 → (0 < L) × (L ≤ maxLength)
+length-accepted = accept.length-accepted
+
+-- Not 11: the rooms are large enough.
+pub rooms-accepted : (L b m h t : ℕ) → roomAnswer L b m h t ≡ 0
+    → (L ≤ b) × (rowWords (countOf L) ≤ m) × (16 * leafPlaces (countOf L) ≤ h) × (rowWords (2 * leafPlaces (countOf L)) ≤ t)
+rooms-accepted = answers.room-facts
+
+-- Neither, and the content has the order's length.
+pub build-accepted : (L n b m h t : ℕ) → buildAnswer L n b m h t ≡ 0 → (lengthAnswer L ≡ 0) × (n ≡ L) × (roomAnswer L b m h t ≡ 0)
+build-accepted = accept.build-accepted
+
 -- ---- starting
+
+-- A start that neither 12 nor 11 refuses answers 0.
+pub start-zero : (w : Rooms) (r : List ℕ) (L : ℕ) → roomsAnswer L w ≡ 0 → startSpec w r L .answer ≡ 0
+start-zero = accept.start-zero
 
 -- A start that answers 0 leaves a running store under its order,
 pub started-running : (w : Rooms) (r : List ℕ) (L : ℕ) → Digest r → startSpec w r L .answer ≡ 0 → Running L r (startSpec w r L .rooms)
@@ -46,6 +79,11 @@ pub start-refused-same : (w : Rooms) (r : List ℕ) (L : ℕ) → startSpec w r 
 start-refused-same = start-not-same
 
 -- ---- building
+
+-- A building that neither 12 nor 11 refuses answers 0.
+pub build-zero : (w : Rooms) (L : ℕ) (s : List ℕ)
+    → buildAnswer L (length s) (length (w .bytes)) (length (w .map)) (length (w .hashes)) (length (w .trusted)) ≡ 0 → buildSpec w L s .answer ≡ 0
+build-zero = accept.build-zero
 
 -- A building that answers 0 leaves a running store under the root that it found; its content has the order's length,
 pub built-running : (w : Rooms) (L : ℕ) (s : List ℕ) → buildSpec w L s .answer ≡ 0 → (length s ≡ L) × Running L (rootOf s) (buildSpec w L s .rooms)

@@ -4,7 +4,7 @@ ghost use Rattle.store.specs.Answers.{earlier, lengthAnswer, roomAnswer,
 ghost use Rattle.store.specs.Calls.{buildAnswer};
 
 // 12: the order's length is 0 or over the limit.
-fn length_answer(length: u32) -> u32
+pub fn length_answer(length: u32) -> u32
     ensures { λ r. ⌜ r ≡ lengthAnswer length ⌝ }
 {
     if length == 0 {

@@ -13,4 +13,5 @@ pub mod BehindLaws
 pub mod ExtendLaws
 pub mod FaultLaws
 pub mod CountLaws
+pub mod DataLaws
 pub mod Promise

@@ -3,9 +3,11 @@
 use mathlib.Core.Path.{_≡_}
 use mathlib.Core.List.{List}
 use Prim.Native.Nat.{ℕ, _≤_}
-use lib.ListN.{length}
+use lib.ListN.{length, take}
 use Rattle.wire.proofs.FaultLaws.{numbered, passed}
 use Rattle.wire.proofs.CountLaws.{entries-fit}
+use Rattle.wire.proofs.DataLaws as data-laws
+use Rattle.wire.specs.declared.layout.Layout.{Layout}
 pub use Rattle.wire.specs.Bytes.{be32, be64, placed}
 pub use Rattle.wire.specs.Limits.{minSize, maxSize, entryWords}
 pub use Rattle.wire.specs.Options.{fixedHead, fixedTail}
@@ -13,6 +15,7 @@ pub use Rattle.wire.specs.Read.{cursor, stepAt}
 pub use Rattle.wire.specs.Layout.{Checked, checkedOf, numberOf, isEndOnly, layoutOf, checkSpec}
 pub use Rattle.wire.proofs.FaultLaws.{Passed, Numbered}
 pub use Rattle.wire.proofs.CountLaws.{Says}
+pub use Rattle.wire.proofs.DataLaws.{ToEnd}
 
 -- A refusal is 1, 2 or 3.
 pub layout-numbered : (s : List ℕ) → Numbered (layoutOf s .layout)
@@ -25,3 +28,12 @@ layout-passed = passed
 -- Its layout says how many words its entries have, and a room for them has as many.
 pub layout-entries : (s : List ℕ) → Says (layoutOf s .layout) (length (layoutOf s .entries)) × (length (layoutOf s .entries) ≤ entryWords)
 layout-entries = entries-fit
+
+-- The chunk of its DATA reaches to its end.
+pub layout-data : (s : List ℕ) → ToEnd (layoutOf s .layout) (length s)
+layout-data = data-laws.to-end
+
+-- The checks with a room that is large enough: the layout is the datagram's, and its entries stand at the room's front.
+pub layout-told : (room s : List ℕ) {l : Layout} {after : List ℕ} → entryWords ≤ length room → checkedOf l after ≡ checkSpec room s
+    → (l ≡ layoutOf s .layout) × (take (length (layoutOf s .entries)) after ≡ layoutOf s .entries)
+layout-told = data-laws.check-told

@@ -1,0 +1,155 @@
+-- Demand 3, proved of every list of calls on a fresh or built store. Assumes nothing.
+use Prim.Native.Nat.{ℕ, _*_, _≤_, _<_}
+use native.Mathlib.Omega.{arith}
+use mathlib.Core.Path.{_≡_, refl, sym, ap, _∙_}
+use mathlib.Core.Bool.{true}
+use mathlib.Core.List.{List}
+use borrow.Author.Tests.{eq-eqb, eqb-true, le-ltb}
+use lib.Dec.{eqb, ltb}
+use lib.ListN.{length}
+use lib.Seq.{take-all}
+use Rattle.bits.proofs.Promise.{bitAt, countBits, rowWords, count-full, full-count}
+use Rattle.hash.proofs.Promise.{bytesOf, words, bytes-words}
+use Rattle.store.specs.Room.{Digest}
+use Rattle.store.specs.Whole.{Whole}
+use Rattle.store.proofs.Promise.{Rooms, countOf, Roomy, Running, HangsIn, Alike, lengthAnswer, roomsAnswer, rootOf, both-zero, order-accepted, build-accepted, start-zero, started-running, build-zero, built-running, content-root, running-hangs, whole-alike}
+use Rattle.store.specs.declared.calls.Order.{Order}
+use Rattle.channel.specs.declared.state.State.{State}
+use Rattle.channel.specs.World.{World, lengthOf, chunksOf}
+use Rattle.channel.specs.Answers.{worldAnswer}
+use Rattle.channel.specs.Begin.{freshChannels, startSpec, packAnswer, buildSpec}
+use Rattle.channel.specs.Ask.{Asked, askedOf, askAnswer, askSpec}
+use Rattle.channel.specs.Run.{Call, run, Begun, fresh, built}
+use Rattle.channel.specs.Demand.{rootIn, lengthIn, chunksIn, ask, BothWhole, Demand}
+use Rattle.channel.proofs.OutLaws.{unless-zero, unless-done}
+use Rattle.channel.proofs.RunLaws.{Under, run-order, run-under, run-map, run-bytes}
+
+-- A store under its own order, whose length is within the limit.
+record Ready (w : World) : Type 0 where
+  pub limit : lengthAnswer (lengthIn w) ≡ 0
+  pub under : Under (lengthIn w) (rootIn w) w
+
+-- ---- a fresh or built store
+
+-- What a start that nothing refuses leaves.
+fresh-ready : (w : World) (o : Order) → Digest (bytesOf (o .root .words)) → startSpec w o .answer ≡ 0 → Ready (startSpec w o .after)
+unfolding startSpec freshChannels
+fresh-ready w o d e =
+    let z = unless-zero (worldAnswer (o .length) w) w _ e .0 in
+    let p = both-zero (roomsAnswer (o .length) (w .rooms)) _ z in
+    let q = order-accepted (o .length) _ _ _ _ (p .0) in
+    rw z (record {
+      limit = q .0;
+      under = record {
+        long = refl;
+        root = refl;
+        running = started-running (w .rooms) (bytesOf (o .root .words)) (o .length) d (start-zero (w .rooms) (bytesOf (o .root .words)) (o .length) (p .0));
+      };
+    })
+
+-- The words of a content's root stand for it.
+root-back : (s : List ℕ) → bytesOf (words 8 (rootOf s)) ≡ rootOf s
+unfolding Digest
+root-back s =
+    let d = content-root s in
+    bytes-words 8 (rootOf s) (d .0) (omega (arith, d .1)) ∙ take-all 32 (rootOf s) (omega (arith, d .1))
+
+-- What a building that nothing refuses leaves.
+built-ready : (w : World) (L : ℕ) (s : List ℕ) → buildSpec w L s .answer ≡ 0 → Ready (buildSpec w L s .after)
+unfolding buildSpec freshChannels
+built-ready w L s e =
+    let z = unless-zero (packAnswer w L s) w _ e .0 in
+    let p = both-zero _ _ z in
+    let q = build-accepted L _ _ _ _ _ (p .0) in
+    let g = built-running (w .rooms) L s (build-zero (w .rooms) L s (p .0)) in
+    rw z (record {
+      limit = q .0;
+      under = record { long = refl; root = refl; running = rw (root-back s) (g .1) };
+    })
+
+begun-ready : (w : World) → Begun w → Ready w
+begun-ready _ (fresh w o d e) = fresh-ready w o d e
+begun-ready _ (built w L s e) = built-ready w L s e
+
+-- ---- asking
+
+-- Of a store whose length is within the limit and whose map is large enough.
+asked : (st : State) (map : List ℕ) → lengthAnswer (lengthOf st) ≡ 0 → rowWords (chunksOf st) ≤ length map
+    → askSpec st map ≡ askedOf 0 (countBits map (chunksOf st)) (eqb (countBits map (chunksOf st)) (chunksOf st))
+unfolding askSpec askAnswer
+asked st map e h = rw (e, le-ltb (length map) (rowWords (chunksOf st)) h)
+
+module _ (w : World) (ready : Ready w) where
+  asked-here : ask w ≡ askedOf 0 (countBits (w .rooms .map) (chunksIn w)) (eqb (countBits (w .rooms .map) (chunksIn w)) (chunksIn w))
+  asked-here = asked (w .channels .state) (w .rooms .map) (ready .limit) (ready .under .running .roomy .map-in)
+
+  -- Called whole: every chunk is in the map,
+  called-whole : ask w .whole ≡ true → Whole (lengthIn w) (w .rooms)
+  unfolding Whole
+  called-whole h x l =
+      full-count (w .rooms .map) (chunksIn w) (eqb-true (countBits (w .rooms .map) (chunksIn w)) (chunksIn w) (sym (ap (λ (a : Asked). a .whole) asked-here) ∙ h)) x l
+
+  -- and the other way round.
+  is-called : Whole (lengthIn w) (w .rooms) → ask w .whole ≡ true
+  unfolding Whole
+  is-called h =
+      ap (λ (a : Asked). a .whole) asked-here
+      ∙ eq-eqb (countBits (w .rooms .map) (chunksIn w)) (chunksIn w) (count-full (w .rooms .map) (chunksIn w) h)
+
+-- ---- the theorem
+
+-- Under an equal order the same holds.
+running-at : {L M : ℕ} {r q : List ℕ} (g : Rooms) → L ≡ M → r ≡ q → Running L r g → Running M q g
+running-at g e f h = rw (← e, ← f) h
+
+whole-at : {L M : ℕ} (g : Rooms) → L ≡ M → Whole L g → Whole M g
+whole-at g e h = rw (← e) h
+
+module _ (w : World) (ks : List Call) (ready : Ready w) where
+  end : Under (lengthIn w) (rootIn w) (run w ks)
+  end = run-under (lengthIn w) (rootIn w) ks w (ready .under)
+
+  end-ready : Ready (run w ks)
+  end-ready = record {
+    limit = rw (end .long) (ready .limit);
+    under = record { long = refl; root = refl; running = rw (end .long, end .root) (end .running) };
+  }
+
+pub demand-3 : (w : World) (ks : List Call) → Begun w → Demand w ks
+demand-3 w ks b = record {
+  order-stays = run-order w ks;
+  map-exactly = λ x l. run-map L r x l ks w u;
+  first-bytes = λ x l h. rw (e .long) (run-bytes L r x l ks w u h);
+  hangs = λ x l h. running-hangs L r (run w ks .rooms) (e .running) x l h;
+  answered = ap (λ (a : Asked). a .answer) here;
+  counted = ap (λ (a : Asked). a .held) here ∙ ap (λ (n : ℕ). countBits (run w ks .rooms .map) (countOf n)) (e .long);
+  whole-only = λ h. rw (e .long) at (called-whole (run w ks) m h);
+  whole-if = λ h. is-called (run w ks) m (rw (e .long) h);
+  alike = λ v js p. both v js p;
+}
+  where
+    L : ℕ
+    L = lengthIn w
+
+    r : List ℕ
+    r = rootIn w
+
+    u : Under (lengthIn w) (rootIn w) w
+    u = begun-ready w b .under
+
+    e : Under (lengthIn w) (rootIn w) (run w ks)
+    e = end w ks (begun-ready w b)
+
+    m : Ready (run w ks)
+    m = end-ready w ks (begun-ready w b)
+
+    here : ask (run w ks) ≡ askedOf 0 (countBits (run w ks .rooms .map) (chunksIn (run w ks))) (eqb (countBits (run w ks .rooms .map) (chunksIn (run w ks))) (chunksIn (run w ks)))
+    here = asked-here (run w ks) m
+
+    both : (v : World) (js : List Call) → BothWhole w ks v js → Alike (lengthIn w) (run w ks .rooms) (run v js .rooms)
+    both v js p =
+        let f = end v js (begun-ready v (p .begun)) in
+        whole-alike (lengthIn w) (rootIn w) (run w ks .rooms) (run v js .rooms) (e .running)
+        (running-at (run v js .rooms) (p .same-length) (p .same-root) (f .running))
+        (whole-at (run w ks .rooms) (e .long) (called-whole (run w ks) m (p .first-whole)))
+        (whole-at (run v js .rooms) (f .long ∙ p .same-length) (called-whole (run v js) (end-ready v js (begun-ready v (p .begun))) (p .second-whole)))

@@ -1,0 +1,163 @@
+-- What one call of a list does to the order and to the chunk rooms. Assumes nothing.
+use Prim.Native.Nat.{ℕ, zero, suc}
+use mathlib.Core.Path.{_≡_, refl, sym, ap, _∙_}
+use mathlib.Core.Bool.{Bool, true, false}
+use mathlib.Core.List.{List}
+use mathlib.Core.Option.{Option, none, some}
+use borrow.Author.Tests.{eq-eqb, ne-eqb}
+use native.Mathlib.Omega.{arith}
+use lib.Dec.{eqb}
+use Rattle.tree.specs.Pick.{pick}
+use Rattle.wire.proofs.Promise.{layoutOf, be32}
+use Rattle.wire.specs.declared.layout.Layout.{Layout}
+use Rattle.wire.specs.declared.layout.Layout.the-variants.{Fault, HandshakeAlone, Messages, MessagesAndData}
+use Rattle.wire.specs.declared.message.Options.{Options}
+use Rattle.writer.proofs.Promise.{within}
+use Rattle.store.proofs.Promise.{Rooms, Integrity, Out as Stored, takeSpec as storeTake}
+use Rattle.store.specs.declared.calls.Order.{Order}
+use Rattle.table.specs.declared.rows.Row.{Row}
+use Rattle.table.proofs.Promise.{handshakeAnswer}
+use Rattle.channel.specs.World.{Channels, World, Out, outOf, unless, beside, rowsOf, rootOf, lengthOf}
+use Rattle.channel.specs.Answers.{ownAnswer}
+use Rattle.channel.specs.Opening.{callingRow, openedRow, occupied, openNumber, openSpec}
+use Rattle.channel.specs.Take.{ours, handshakeTaken, messagesNumber, marked, messagesTaken, stored, storing, dataTaken, byLayout, takeSpec}
+use Rattle.channel.specs.Write.{writeNumber, writeSpec}
+use Rattle.channel.specs.Run.{Call, opening, taking, writing, asking, lend, step, dataFor, brings}
+use Rattle.channel.proofs.OutLaws.{unless-keeps}
+
+-- The order of a store's channels.
+abbrev pub orderIn : Channels → Order
+orderIn ch = ch .state .order
+
+abbrev orderOf : World → Order
+orderOf w = orderIn (w .channels)
+
+-- ---- the order stays
+
+occupied-order : (ch : Channels) (r : Row) → orderIn (occupied ch r .after) ≡ orderIn ch
+unfolding occupied
+occupied-order ch r = refl
+
+open-order : (w : World) (id : ℕ) → orderOf (openSpec w id .after) ≡ orderOf w
+unfolding openSpec
+open-order w id =
+    unless-keeps orderOf (openNumber w id) w (beside (w .rooms) (occupied (w .channels) (callingRow id)))
+    (occupied-order (w .channels) (callingRow id))
+
+pick-order : (b : Bool) (ch : Channels) (x y : Out Channels) → orderIn (x .after) ≡ orderIn ch → orderIn (y .after) ≡ orderIn ch → orderIn (pick b x y .after) ≡ orderIn ch
+pick-order true ch x y p q = p
+pick-order false ch x y p q = q
+
+handshake-order : (ch : Channels) (id : ℕ) (s : List ℕ) (a : ℕ) (o : Options) → orderIn (handshakeTaken ch id s a o .after) ≡ orderIn ch
+unfolding handshakeTaken
+handshake-order ch id s a o =
+    unless-keeps orderIn (handshakeAnswer (rowsOf (ch .state)) (be32 s 0) a (ours (rootOf (ch .state)) s o) id) ch _
+    (pick-order (eqb (be32 s 0) 0) ch (occupied ch (openedRow id a)) _ (occupied-order ch (openedRow id a)) refl)
+
+marked-order : (ch : Channels) (s : List ℕ) → orderIn (marked ch s) ≡ orderIn ch
+unfolding marked
+marked-order ch s = refl
+
+messages-order : (ch : Channels) (s : List ℕ) → orderIn (messagesTaken ch s .after) ≡ orderIn ch
+unfolding messagesTaken
+messages-order ch s = unless-keeps orderIn (messagesNumber (ch .state) s) ch (outOf 0 0 (marked ch s)) (marked-order ch s)
+
+data-order : (w : World) (clock : ℕ) (s es : List ℕ) (c x b n : ℕ) → orderOf (dataTaken w clock s es c x b n .after) ≡ orderOf w
+unfolding dataTaken stored
+data-order w clock s es c x b n =
+    unless-keeps orderOf (messagesNumber (w .channels .state) s) w _
+    (unless-keeps orderOf (storing w s es c b n .answer) w _ (marked-order (w .channels) s))
+
+layout-order : (w : World) (clock id : ℕ) (s : List ℕ) (l : Layout) → orderOf (byLayout w clock id s l .after) ≡ orderOf w
+unfolding byLayout
+layout-order w clock id s (Fault n) = refl
+layout-order w clock id s (HandshakeAlone a o) = handshake-order (w .channels) id s a o
+layout-order w clock id s (Messages k) = messages-order (w .channels) s
+layout-order w clock id s (MessagesAndData c x b n k) = data-order w clock s (layoutOf s .entries) c x b n
+
+take-order : (w : World) (clock id : ℕ) (s : List ℕ) → orderOf (takeSpec w clock id s .after) ≡ orderOf w
+unfolding takeSpec
+take-order w clock id s = unless-keeps orderOf (ownAnswer w) w (byLayout w clock id s (layoutOf s .layout)) (layout-order w clock id s (layoutOf s .layout))
+
+write-order : (w : World) (id c clock : ℕ) → orderOf (writeSpec w id c clock .after) ≡ orderOf w
+unfolding writeSpec
+write-order w id c clock = unless-keeps orderOf (writeNumber w id c) w _ refl
+
+-- No call of a list changes the order.
+pub step-order : (w : World) (k : Call) → step w k .channels .state .order ≡ w .channels .state .order
+step-order w (opening reply id) = open-order (lend w reply) id
+step-order w (taking reply clock id s) = take-order (lend w reply) clock id s
+step-order w (writing reply id c clock) = write-order (lend w reply) id c clock
+step-order w asking = refl
+
+-- ---- the chunk rooms
+
+-- What a call that may bring chunk bytes does to the chunk rooms: nothing, and it brings none; or it takes a chunk.
+pub data Moved (w : World) (after : Rooms) (brought : ℕ → Option (List ℕ)) : Type 0 where
+  stays : after ≡ w .rooms → ((x : ℕ) → brought x ≡ none) → Moved w after brought
+  takes : (c : ℕ) (d : List ℕ) (o : Integrity)
+      → storeTake (w .rooms) (rootOf (w .channels .state)) (lengthOf (w .channels .state)) c d o .answer ≡ 0
+      → after ≡ storeTake (w .rooms) (rootOf (w .channels .state)) (lengthOf (w .channels .state)) c d o .rooms
+      → ((x : ℕ) → brought x ≡ pick (eqb x c) (some d) none) → Moved w after brought
+
+pick-same : (b : Bool) (o : Option (List ℕ)) → pick b o o ≡ o
+pick-same true o = refl
+pick-same false o = refl
+
+-- A refused datagram brings nothing.
+refused-none : (n : ℕ) (d : Option (List ℕ)) → pick (eqb (suc n) 0) d none ≡ none
+refused-none n d = rw (ne-eqb (suc n) 0 (λ e. omega arith))
+
+-- Neither does one without DATA, taken or not.
+without : (w : World) (out : Out World) → out .after .rooms ≡ w .rooms → Moved w (out .after .rooms) (λ x. pick (eqb (out .answer) 0) none none)
+without w out e = stays e (λ x. pick-same (eqb (out .answer) 0) none)
+
+module _ (w : World) (clock : ℕ) (s es : List ℕ) (c t b n : ℕ) where
+  stored-moved : (a : ℕ) → storing w s es c b n .answer ≡ a
+      → Moved w (stored w clock s c t (storing w s es c b n) .after .rooms) (λ x. pick (eqb (stored w clock s c t (storing w s es c b n) .answer) 0) (pick (eqb x c) (some (within s b n)) none) none)
+  unfolding stored
+  stored-moved zero e = rw e (takes c (within s b n) _ e refl (λ x. refl))
+  stored-moved (suc m) e = rw e (stays refl (λ x. refused-none m (pick (eqb x c) (some (within s b n)) none)))
+
+  data-moved : (m : ℕ)
+      → Moved w (unless m w (stored w clock s c t (storing w s es c b n)) .after .rooms)
+      (λ x. pick (eqb (unless m w (stored w clock s c t (storing w s es c b n)) .answer) 0) (pick (eqb x c) (some (within s b n)) none) none)
+  data-moved zero = stored-moved (storing w s es c b n .answer) refl
+  data-moved (suc m) = stays refl (λ x. refused-none m (pick (eqb x c) (some (within s b n)) none))
+
+layout-moved : (w : World) (clock id : ℕ) (s : List ℕ) (l : Layout)
+    → Moved w (byLayout w clock id s l .after .rooms) (λ x. pick (eqb (byLayout w clock id s l .answer) 0) (dataFor x s l) none)
+unfolding byLayout dataTaken
+layout-moved w clock id s (Fault n) = without w (outOf n 0 w) refl
+layout-moved w clock id s (HandshakeAlone a o) = without w (beside (w .rooms) (handshakeTaken (w .channels) id s a o)) refl
+layout-moved w clock id s (Messages k) = without w (beside (w .rooms) (messagesTaken (w .channels) s)) refl
+layout-moved w clock id s (MessagesAndData c x b n k) = data-moved w clock s (layoutOf s .entries) c x b n (messagesNumber (w .channels .state) s)
+
+take-moved : (w : World) (clock id : ℕ) (s : List ℕ)
+    → Moved w (takeSpec w clock id s .after .rooms) (λ x. pick (eqb (takeSpec w clock id s .answer) 0) (dataFor x s (layoutOf s .layout)) none)
+unfolding takeSpec
+take-moved w clock id s = go (ownAnswer w)
+  where
+    go : (n : ℕ) → Moved w (unless n w (byLayout w clock id s (layoutOf s .layout)) .after .rooms)
+        (λ x. pick (eqb (unless n w (byLayout w clock id s (layoutOf s .layout)) .answer) 0) (dataFor x s (layoutOf s .layout)) none)
+    go zero = layout-moved w clock id s (layoutOf s .layout)
+    go (suc n) = stays refl (λ x. refused-none n (dataFor x s (layoutOf s .layout)))
+
+open-rooms : (w : World) (id : ℕ) → openSpec w id .after .rooms ≡ w .rooms
+unfolding openSpec
+open-rooms w id = unless-keeps (λ (v : World). v .rooms) (openNumber w id) w _ refl
+
+write-rooms : (w : World) (id c clock : ℕ) → writeSpec w id c clock .after .rooms ≡ w .rooms
+unfolding writeSpec
+write-rooms w id c clock = unless-keeps (λ (v : World). v .rooms) (writeNumber w id c) w _ refl
+
+-- What one call of a list does to the chunk rooms, and what it brings.
+pub step-moved : (w : World) (k : Call) → Moved w (step w k .rooms) (brings w k)
+step-moved w (opening reply id) = stays (open-rooms (lend w reply) id) (λ x. refl)
+step-moved w (taking reply clock id s) = lent (take-moved (lend w reply) clock id s)
+  where
+    lent : {r : Rooms} {f : ℕ → Option (List ℕ)} → Moved (lend w reply) r f → Moved w r f
+    lent (stays e n) = stays e n
+    lent (takes c d o z e n) = takes c d o z e n
+step-moved w (writing reply id c clock) = stays (write-rooms (lend w reply) id c clock) (λ x. refl)
+step-moved w asking = stays refl (λ x. refl)

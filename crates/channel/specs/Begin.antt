@@ -1,0 +1,53 @@
+-- Starting a store, and building a whole one (01, "What a store works under"). Assumes nothing.
+use Prim.Native.Nat.{ℕ, _*_}
+use mathlib.Core.List.{List}
+use lib.ListN.{length}
+use Rattle.hash.proofs.Promise.{bytesOf, words}
+use Rattle.hash.specs.declared.value.HashValue.{HashValue}
+use Rattle.bits.proofs.Promise.{clearWords, rowWords}
+use Rattle.table.proofs.Promise.{rowCount, freeTable}
+use Rattle.store.proofs.Promise.{earlier, countOf, Rooms}
+use Rattle.store.proofs.Promise as store
+use Rattle.store.specs.Calls.{buildAnswer}
+use Rattle.store.specs.declared.calls.Order.{Order}
+use Rattle.channel.specs.World.{World, Channels, channelsOf, Out, outOf, unless}
+use Rattle.channel.specs.Answers.{channelsAnswer, worldAnswer}
+
+-- The channels under a new order: every row free, all bit rows cleared, the reply room as it is.
+unfoldable pub freshChannels : Order → Channels → Channels
+freshChannels o ch =
+    channelsOf
+    (record { order = o; table = freeTable })
+    (clearWords (ch .has) 0 (rowCount * rowWords (countOf (o .length))))
+    (clearWords (ch .wants) 0 (rowCount * rowWords (countOf (o .length))))
+    (ch .reply)
+
+-- "Starting clears all bit rows and the channel table, writes the root's hash and sets its trusted bit, nothing else":
+-- 12, then 11.
+unfoldable pub startSpec : World → Order → Out World
+startSpec w o =
+    unless (worldAnswer (o .length) w) w
+    (outOf 0 0 (record {
+      rooms = store.startSpec (w .rooms) (bytesOf (o .root .words)) (o .length) .rooms;
+      channels = freshChannels o (w .channels);
+    }))
+
+-- The order of a pack s of L bytes: "the root found becomes the order's".
+abbrev pub orderFor : ℕ → List ℕ → Order
+orderFor L s = record { root = record { words = words 8 (store.rootOf s) }; length = L }
+
+-- 12 also for "content of another length", then 11.
+abbrev pub packAnswer : World → ℕ → List ℕ → ℕ
+packAnswer w L s =
+    earlier
+    (buildAnswer L (length s) (length (w .rooms .bytes)) (length (w .rooms .map)) (length (w .rooms .hashes)) (length (w .rooms .trusted)))
+    (channelsAnswer L (w .channels))
+
+-- "Building takes L and content ..; the rest is as after starting".
+unfoldable pub buildSpec : World → ℕ → List ℕ → Out World
+buildSpec w L s =
+    unless (packAnswer w L s) w
+    (outOf 0 0 (record {
+      rooms = store.buildSpec (w .rooms) L s .rooms;
+      channels = freshChannels (orderFor L s) (w .channels);
+    }))

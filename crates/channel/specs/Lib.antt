@@ -1,0 +1,9 @@
+pub mod World
+pub mod Answers
+pub mod Opening
+pub mod Begin
+pub mod Take
+pub mod Write
+pub mod Ask
+pub mod Run
+pub mod Demand

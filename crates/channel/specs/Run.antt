@@ -1,0 +1,75 @@
+-- Lists of calls on a running store (01, "Demand 3's words"). Assumes nothing.
+use Prim.Native.Nat.{ℕ}
+use mathlib.Core.Path.{_≡_}
+use mathlib.Core.List.{List, [], _∷_}
+use mathlib.Core.Option.{Option, none, some}
+use lib.Dec.{eqb}
+use Rattle.hash.proofs.Promise.{bytesOf}
+use Rattle.tree.specs.Pick.{pick}
+use Rattle.wire.proofs.Promise.{layoutOf}
+use Rattle.wire.specs.declared.layout.Layout.{Layout}
+use Rattle.wire.specs.declared.layout.Layout.the-variants.{Fault, HandshakeAlone, Messages, MessagesAndData}
+use Rattle.writer.proofs.Promise.{within}
+use Rattle.store.proofs.Promise.{Digest}
+use Rattle.store.specs.declared.calls.Order.{Order}
+use Rattle.channel.specs.World.{World, channelsOf, Out}
+use Rattle.channel.specs.Opening.{openSpec}
+use Rattle.channel.specs.Begin.{startSpec, buildSpec}
+use Rattle.channel.specs.Take.{takeSpec}
+use Rattle.channel.specs.Write.{writeSpec}
+
+-- A call with all its arguments but the store's state and rooms. "The reply room is no part of this": each call is lent
+-- one of any size and contents.
+pub data Call : Type 0 where
+  opening : (reply : List ℕ) (id : ℕ) → Call
+  taking : (reply : List ℕ) (clock id : ℕ) (datagram : List ℕ) → Call
+  writing : (reply : List ℕ) (id chunk clock : ℕ) → Call
+  asking : Call
+
+-- The store, with this reply room.
+abbrev pub lend : World → List ℕ → World
+lend w reply =
+    record { rooms = w .rooms; channels = channelsOf (w .channels .state) (w .channels .has) (w .channels .wants) reply }
+
+-- The store after a call. Asking changes nothing.
+abbrev pub step : World → Call → World
+step w (opening reply id) = openSpec (lend w reply) id .after
+step w (taking reply clock id s) = takeSpec (lend w reply) clock id s .after
+step w (writing reply id c clock) = writeSpec (lend w reply) id c clock .after
+step w asking = w
+
+-- After a list of calls: "Each call gets that store's own state and rooms just as the last one left them".
+abbrev pub run : World → List Call → World
+run w [] = w
+run w (k ∷ ks) = run (step w k) ks
+
+-- A fresh or a built store: what a start or a building that answered 0 leaves of any rooms. An order's root is 32 bytes.
+pub data Begun : World → Type 0 where
+  fresh : (w : World) (o : Order) → Digest (bytesOf (o .root .words)) → startSpec w o .answer ≡ 0 → Begun (startSpec w o .after)
+  built : (w : World) (L : ℕ) (s : List ℕ) → buildSpec w L s .answer ≡ 0 → Begun (buildSpec w L s .after)
+
+-- ---- what taken datagrams brought
+
+-- The bytes for chunk x in a datagram's DATA.
+abbrev pub dataFor : ℕ → List ℕ → Layout → Option (List ℕ)
+dataFor x s (Fault n) = none
+dataFor x s (HandshakeAlone a o) = none
+dataFor x s (Messages k) = none
+dataFor x s (MessagesAndData c t b n k) = pick (eqb x c) (some (within s b n)) none
+
+-- "A datagram taken with 0 brings its DATA's chunk": the bytes that a call brings for chunk x.
+abbrev pub brings : World → Call → ℕ → Option (List ℕ)
+brings w (opening reply id) x = none
+brings w (taking reply clock id s) x = pick (eqb (takeSpec (lend w reply) clock id s .answer) 0) (dataFor x s (layoutOf s .layout)) none
+brings w (writing reply id c clock) x = none
+brings w asking x = none
+
+-- What is there, or else another.
+abbrev pub orNext : Option (List ℕ) → Option (List ℕ) → Option (List ℕ)
+orNext none next = next
+orNext (some d) next = some d
+
+-- The bytes for chunk x in the DATA of the first datagram of a list that brought it.
+abbrev pub firstBrought : World → List Call → ℕ → Option (List ℕ)
+firstBrought w [] x = none
+firstBrought w (k ∷ ks) x = orNext (brings w k x) (firstBrought (step w k) ks x)

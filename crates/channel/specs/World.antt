@@ -1,0 +1,82 @@
+-- A store and its lent rooms (01, "What a store works under"), and what a call gives and leaves. Assumes nothing.
+use Prim.Native.Nat.{ℕ, zero, suc, _*_, _+_}
+use mathlib.Core.List.{List}
+use Rattle.hash.proofs.Promise.{bytesOf}
+use Rattle.bits.proofs.Promise.{rowWords, clearWords}
+use Rattle.table.proofs.Promise.{withRow}
+use Rattle.table.specs.declared.rows.Row.{Row}
+use Rattle.store.proofs.Promise.{Rooms, roomsOf, countOf}
+use Rattle.store.specs.declared.calls.Order.{Order}
+use Rattle.channel.specs.declared.state.State.{State}
+
+-- The store's state (its order and its channel table), the rooms for what the peers have and want, and the reply room.
+pub record Channels : Type 0 where
+  pub state : State
+  pub has : List ℕ
+  pub wants : List ℕ
+  pub reply : List ℕ
+
+-- A store: its chunk rooms and its channels.
+pub record World : Type 0 where
+  pub rooms : Rooms
+  pub channels : Channels
+
+abbrev pub channelsOf : State → List ℕ → List ℕ → List ℕ → Channels
+channelsOf st has wants reply = record { state = st; has = has; wants = wants; reply = reply }
+
+abbrev pub worldOf : State → List ℕ → List ℕ → List ℕ → List ℕ → List ℕ → List ℕ → List ℕ → World
+worldOf st chunks map hashes trusted has wants reply =
+    record { rooms = roomsOf chunks map hashes trusted; channels = channelsOf st has wants reply }
+
+-- ---- what a call gives and leaves
+
+-- The number given back, the reply's length, and what is there afterwards.
+pub record Out (W : Type 0) : Type 0 where
+  pub answer : ℕ
+  pub len : ℕ
+  pub after : W
+
+abbrev pub outOf : {W : Type 0} → ℕ → ℕ → W → Out W
+outOf n len w = record { answer = n; len = len; after = w }
+
+-- "A refused call gives a reply length of 0 and alters nothing"; with the number 0 it gives what follows.
+abbrev pub unless : {W : Type 0} → ℕ → W → Out W → Out W
+unless zero old out = out
+unless (suc n) old out = outOf (suc n) 0 old
+
+-- A call that touches the channels alone leaves the chunk rooms as they are.
+abbrev pub beside : Rooms → Out Channels → Out World
+beside rooms out = outOf (out .answer) (out .len) (record { rooms = rooms; channels = out .after })
+
+-- ---- parts of the state
+
+-- The order's root and length, and the number of chunks.
+abbrev pub rootOf : State → List ℕ
+rootOf st = bytesOf (st .order .root .words)
+
+abbrev pub lengthOf : State → ℕ
+lengthOf st = st .order .length
+
+abbrev pub chunksOf : State → ℕ
+chunksOf st = countOf (lengthOf st)
+
+abbrev pub rowsOf : State → List Row
+rowsOf st = st .table .rows
+
+-- The state with another row at a place of the table.
+abbrev pub putRow : State → ℕ → Row → State
+putRow st i r = record { order = st .order; table = withRow (st .table) i r }
+
+-- ---- bit rows by channel
+
+-- "N bits a row, every row in whole words": row i begins behind the words of the rows before it.
+abbrev pub rowStart : ℕ → ℕ → ℕ
+rowStart N i = rowWords N * i
+
+-- The place of its first bit.
+abbrev pub rowBit : ℕ → ℕ → ℕ
+rowBit N i = 32 * rowStart N i
+
+-- A room with row i cleared.
+abbrev pub clearedRow : ℕ → ℕ → List ℕ → List ℕ
+clearedRow N i ws = clearWords ws (rowStart N i) (rowStart N i + rowWords N)

@@ -1,0 +1,4 @@
+-- What the proofs of several functions cite.
+pub mod ReadLaws
+pub mod EffectLaws
+pub mod Promise

@@ -1,0 +1,45 @@
+-- What a pass over a datagram reads, and whether a range that it meets reaches past the pack. Assumes nothing.
+use Prim.Native.Nat.{ℕ, zero, suc, _-_, _<_}
+use native.Mathlib.Omega.{arith}
+use mathlib.Core.Path.{_≡_}
+use mathlib.Core.List.{List}
+use mathlib.Core.Bool.{true, false}
+use Rattle.wire.specs.Read.{stepAt}
+use Rattle.wire.specs.declared.message.Cursor.{Cursor}
+use Rattle.wire.specs.declared.message.Message.{Message}
+use Rattle.wire.specs.declared.message.Step.{Step}
+use Rattle.wire.specs.declared.message.Step.the-variants.{Read, End, Refused}
+use Rattle.writer.specs.Lists.{onStep, readFrom}
+use Rattle.effects.specs.Effects.{past, anyPast}
+
+-- What is read from a place on: what stands there, and what is read behind it.
+pub read-more : (s : List ℕ) (at left : ℕ) {st : Step} → 0 < left → stepAt s at ≡ st → readFrom left s at ≡ onStep s st (λ x. readFrom (left - 1) s x)
+unfolding readFrom
+read-more s at zero h e = absurd (omega arith)
+read-more s at (suc n) h e = let p : suc n - 1 ≡ n = omega arith in rw (e, p)
+
+module _ (N : ℕ) (s : List ℕ) (at left : ℕ) where
+  -- A message at this place whose range reaches past N-1 is one of the messages from here on.
+  pub any-here : {i : Message} {next : Cursor} → 0 < left → stepAt s at ≡ Read i next → past N i ≡ true → anyPast N (readFrom left s at) ≡ true
+  unfolding anyPast
+  any-here h e p = rw (read-more s at left h e, p)
+
+  -- Where the range of the message at this place does not, the answer is that of the messages behind it.
+  pub any-next : {i : Message} {next : Cursor} → 0 < left → stepAt s at ≡ Read i next → past N i ≡ false → anyPast N (readFrom (left - 1) s (next .at)) ≡ anyPast N (readFrom left s at)
+  unfolding anyPast
+  any-next h e p = rw (read-more s at left h e, p)
+
+  -- From the end on there is none.
+  pub any-end : 0 < left → stepAt s at ≡ End → anyPast N (readFrom left s at) ≡ false
+  unfolding anyPast
+  any-end h e = rw (read-more s at left h e)
+
+  -- From a refusal on there is none.
+  pub any-refused : 0 < left → stepAt s at ≡ Refused → anyPast N (readFrom left s at) ≡ false
+  unfolding anyPast
+  any-refused h e = rw (read-more s at left h e)
+
+-- Among no messages there is none.
+pub any-none : (N : ℕ) (s : List ℕ) (at left : ℕ) → left ≡ 0 → anyPast N (readFrom left s at) ≡ false
+unfolding anyPast readFrom
+any-none N s at left e = rw e

@@ -1,0 +1,179 @@
+// What the messages of a datagram do to a channel: whether their ranges lie in the pack, and what they change of what the
+// peer has, what it wants and the choke mark.
+ghost use mathlib.Core.Path.{_≡_};
+ghost use Prim.Native.Nat.{_<_, _^_};
+ghost use Rattle.wire.specs.Read.{stepAt};
+ghost use Rattle.writer.proofs.Promise.{readAll};
+ghost use Rattle.effects.specs.Effects.{past, anyPast, marksOf, effect, effects};
+ghost use Rattle.effects.specs.Steps.{turnOf, turned};
+use wire::limits::MIN_SIZE;
+use wire::message::Cursor;
+use wire::message::Message;
+use wire::message::Step;
+use wire::read;
+
+// Whether a message's range reaches past the last of n chunks.
+fn past(message: Message, n: u32) -> bool
+    ensures { λ r. ⌜ r ≡ past n message ⌝ }
+{
+    match message {
+        Message::Handshake {
+            source: _,
+            options: _,
+        } => false,
+        Message::Data {
+            chunk,
+            timestamp: _,
+            start: _,
+            len: _,
+        } => n <= chunk,
+        Message::Ack {
+            first: _,
+            last,
+            delay: _,
+        } => n <= last,
+        Message::Have { first: _, last } => n <= last,
+        Message::Integrity {
+            first: _,
+            last,
+            hash: _,
+        } => n <= last,
+        Message::Request { first: _, last } => n <= last,
+        Message::Cancel { first: _, last } => n <= last,
+        Message::Choke => false,
+        Message::Unchoke => false,
+    }
+}
+
+// Whether any range of a datagram reaches past the last of n chunks.
+pub fn any_past(datagram: &[u8], n: u32) -> bool
+    ensures { λ r. ⌜ r ≡ anyPast n (readAll (now (datagram .entry))) ⌝ }
+{
+    let mut at: usize = MIN_SIZE;
+    let mut left: usize = datagram.len();
+    while 0 < left {
+        left = left - 1;
+        match read::read(datagram, Cursor { at }) {
+            Step::Read { message, next } => {
+                if past(message, n) {
+                    return true;
+                }
+                at = next.at;
+            }
+            Step::End => {
+                return false;
+            }
+            Step::Refused => {
+                return false;
+            }
+        }
+    }
+    false
+}
+
+// HAVE and ACK: the peer has the chunks, and wants them no more.
+fn have(
+    has: &mut [u32],
+    wants: &mut [u32],
+    base: usize,
+    choked: bool,
+    first: u32,
+    last: u32,
+) -> bool
+    requires { ⌜ base < 2 ^ 32 ⌝ }
+    ensures { λ r. ⌜ marksOf (now (has .exit)) (now (wants .exit)) r ≡ effect base (Message.Have first last) (marksOf (now (has .entry)) (now (wants .entry)) choked) ⌝ }
+{
+    let from = base + first as usize;
+    let upto = base + last as usize + 1;
+    bits::set_range(has, from, upto);
+    bits::clear_range(wants, from, upto);
+    choked
+}
+
+// One message's effect; whether the peer choked us afterwards. The channel's bits begin at `base`.
+fn apply_one(
+    has: &mut [u32],
+    wants: &mut [u32],
+    base: usize,
+    choked: bool,
+    message: Message,
+) -> bool
+    requires { ⌜ base < 2 ^ 32 ⌝ }
+    ensures { λ r. ⌜ marksOf (now (has .exit)) (now (wants .exit)) r ≡ effect base message (marksOf (now (has .entry)) (now (wants .entry)) choked) ⌝ }
+{
+    match message {
+        Message::Ack {
+            first,
+            last,
+            delay: _,
+        } => have(has, wants, base, choked, first, last),
+        Message::Have { first, last } => have(has, wants, base, choked, first, last),
+        Message::Request { first, last } => {
+            bits::set_range(wants, base + first as usize, base + last as usize + 1);
+            choked
+        }
+        Message::Cancel { first, last } => {
+            bits::clear_range(wants, base + first as usize, base + last as usize + 1);
+            choked
+        }
+        Message::Choke => true,
+        Message::Unchoke => false,
+        _ => choked,
+    }
+}
+
+// Where the pass stands after a message.
+pub struct Turn {
+    pub choked: bool,
+    pub at: usize,
+    pub left: usize,
+}
+
+// What stands at `at`, with at most `left` messages behind it.
+fn apply_turn(
+    has: &mut [u32],
+    wants: &mut [u32],
+    base: usize,
+    choked: bool,
+    at: usize,
+    left: usize,
+    datagram: &[u8],
+) -> Turn
+    requires { ⌜ base < 2 ^ 32 ⌝ }
+    ensures { λ r. ⌜ turnOf (marksOf (now (has .exit)) (now (wants .exit)) (r .choked)) (r .at) (r .left) ≡ turned base (marksOf (now (has .entry)) (now (wants .entry)) choked) left (stepAt (now (datagram .entry)) at) ⌝ }
+{
+    match read::read(datagram, Cursor { at }) {
+        Step::Read { message, next } => Turn {
+            choked: apply_one(has, wants, base, choked, message),
+            at: next.at,
+            left,
+        },
+        Step::End => Turn {
+            choked,
+            at: 0,
+            left: 0,
+        },
+        Step::Refused => Turn {
+            choked,
+            at: 0,
+            left: 0,
+        },
+    }
+}
+
+// The effects of a datagram's messages, one after the other; whether the peer choked us afterwards.
+pub fn apply(has: &mut [u32], wants: &mut [u32], base: usize, choked: bool, datagram: &[u8]) -> bool
+    requires { ⌜ base < 2 ^ 32 ⌝ }
+    ensures { λ r. ⌜ marksOf (now (has .exit)) (now (wants .exit)) r ≡ effects base (readAll (now (datagram .entry))) (marksOf (now (has .entry)) (now (wants .entry)) choked) ⌝ }
+{
+    let mut mark = choked;
+    let mut at: usize = MIN_SIZE;
+    let mut left: usize = datagram.len();
+    while 0 < left {
+        let turn = apply_turn(has, wants, base, mark, at, left - 1, datagram);
+        mark = turn.choked;
+        at = turn.at;
+        left = turn.left;
+    }
+    mark
+}

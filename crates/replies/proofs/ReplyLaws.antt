@@ -1,0 +1,106 @@
+-- The replies as their parts are put: each can be written, and is the datagram that it should be. Assumes nothing.
+use Prim.Native.Nat.{ℕ, _+_, _-_, _*_, _≤_}
+use native.Mathlib.Omega.{arith}
+use mathlib.Core.Path.{_≡_, refl, sym, ap, _∙_}
+use mathlib.Core.List.{List, [], _∷_, _++_, map}
+use mathlib.Core.Bool.{true}
+use borrow.Author.Tests.{le-leb}
+use lib.ListN.{length, length-map}
+use Rattle.tree.specs.Node.{num}
+use Rattle.tree.specs.Pack.{chunkSize, chunks, maxLength}
+use Rattle.tree.specs.Peaks.{sent}
+use Rattle.wire.proofs.Promise.{placed, minSize, maxSize}
+use Rattle.wire.specs.declared.message.Options.the-variants.{Fixed}
+use Rattle.wire.specs.declared.message.Message.the-variants.{Handshake, Data, Ack}
+use Rattle.writer.specs.Message.{writable, writableOptions, sizeOf, optionSpan}
+use Rattle.writer.proofs.Promise.{bytesOf, writtenOf, beginSpec, itemOf, encode}
+use Rattle.replies.specs.Replies.{handshakeReply, ackReply, hashItem, chunkReply}
+use Rattle.replies.specs.Steps.{integritySize}
+use Rattle.replies.proofs.DatagramLaws.{datagram-last, begun, stand-more, stand-datagram, one-datagram}
+use Rattle.replies.proofs.HashLaws.{items-long}
+use Rattle.replies.proofs.SendingLaws.{sent-few}
+
+-- ---- what can be written, and its size
+
+-- A HANDSHAKE with the fixed options can be written from the 32 bytes of its root.
+pub handshake-writable : (n a : ℕ) → n ≡ 32 → writable n (Handshake a (Fixed 0)) ≡ true
+unfolding writable writableOptions
+handshake-writable n a e = rw e refl
+
+-- It takes 56 bytes.
+pub handshake-size : (a r : ℕ) → sizeOf (Handshake a (Fixed r)) ≡ 56
+unfolding sizeOf optionSpan
+handshake-size a r = refl
+
+-- An ACK can be written from any source.
+pub ack-writable : (n f l d : ℕ) → writable n (Ack f l d) ≡ true
+unfolding writable
+ack-writable n f l d = refl
+
+-- It takes 17 bytes.
+pub ack-size : (f l d : ℕ) → sizeOf (Ack f l d) ≡ 17
+unfolding sizeOf
+ack-size f l d = refl
+
+-- A DATA message can be written from its chunk.
+pub data-writable : (n c x : ℕ) → writable n (Data c x 0 n) ≡ true
+unfolding writable
+data-writable n c x = rw (le-leb n n (omega arith), le-leb 0 (n - n) (omega arith))
+
+-- It takes 17 bytes and its chunk's.
+pub data-size : (c x b n : ℕ) → sizeOf (Data c x b n) ≡ 17 + n
+unfolding sizeOf
+data-size c x b n = refl
+
+-- ---- the replies
+
+module _ (room : List ℕ) (to : ℕ) (large : maxSize ≤ length room) {a k : ℕ} {m : List ℕ} (begins : writtenOf a k m ≡ beginSpec room to) where
+  -- A HANDSHAKE put behind the destination, from a root's bytes, is our HANDSHAKE.
+  pub handshake-done : (source : ℕ) {s w : List ℕ} → s ≡ w → length s ≡ 32 → {n : List ℕ} {r : ℕ}
+      → (r ≡ k + sizeOf (Handshake source (Fixed 0))) × (n ≡ placed m k (bytesOf s (Handshake source (Fixed 0))))
+      → (r ≡ length (handshakeReply to source w)) × (n ≡ placed room 0 (handshakeReply to source w))
+  unfolding handshakeReply
+  handshake-done source {s} e h p =
+      rw (← e) (one-datagram room to s (Handshake source (Fixed 0)) large (handshake-writable (length s) source h) begins p)
+
+  -- An ACK put behind the destination is our ACK.
+  pub ack-done : (f l d : ℕ) {n : List ℕ} {r : ℕ}
+      → (r ≡ k + sizeOf (Ack f l d)) × (n ≡ placed m k (bytesOf [] (Ack f l d)))
+      → (r ≡ length (ackReply to f l d)) × (n ≡ placed room 0 (ackReply to f l d))
+  unfolding ackReply
+  ack-done f l d p = one-datagram room to [] (Ack f l d) large (ack-writable 0 f l d) begins p
+
+  -- The hashes that go out with a chunk put behind the destination, and DATA behind them, are the chunk's datagram.
+  pub chunk-done : (hashes : List ℕ) (N c time : ℕ) (bytes : List ℕ) {ns : List ℕ} → ns ≡ map num (sent N c) → {x n : List ℕ} {q r : ℕ}
+      → (q ≡ minSize + integritySize * length ns) × (x ≡ placed m minSize (encode (map (hashItem hashes) ns)))
+      → (r ≡ q + sizeOf (Data c time 0 (length bytes))) × (n ≡ placed x q (bytesOf bytes (Data c time 0 (length bytes))))
+      → (r ≡ length (chunkReply hashes to N c time bytes)) × (n ≡ placed room 0 (chunkReply hashes to N c time bytes))
+  unfolding chunkReply
+  chunk-done hashes N c time bytes {ns} e p q =
+      let is = map (hashItem hashes) ns in
+      let i = itemOf bytes (Data c time 0 (length bytes)) in
+      rw (← e)
+      (stand-datagram room to (is ++ (i ∷ [])) (begun room to large begins .1)
+      (stand-more m minSize is i (data-writable (length bytes) c time) (p .0 ∙ ap (λ (j : ℕ). minSize + j) (sym (items-long hashes ns)), p .1) q))
+
+-- ---- their lengths
+
+-- A HANDSHAKE's datagram has 60 bytes.
+pub handshake-length : (to source : ℕ) (root : List ℕ) → length root ≡ 32 → length (handshakeReply to source root) ≡ 60
+unfolding handshakeReply
+handshake-length to source root h =
+    omega (arith, datagram-last to [] (itemOf root (Handshake source (Fixed 0))) (handshake-writable (length root) source h), handshake-size source 0)
+
+-- An ACK's datagram has 21 bytes.
+pub ack-length : (to f l d : ℕ) → length (ackReply to f l d) ≡ 21
+unfolding ackReply
+ack-length to f l d = omega (arith, datagram-last to [] (itemOf [] (Ack f l d)) (ack-writable 0 f l d), ack-size f l d)
+
+-- A chunk's datagram keeps the limit.
+pub chunk-length : (hashes : List ℕ) (to N c time : ℕ) (bytes : List ℕ) → N ≤ chunks chunkSize maxLength → length bytes ≤ chunkSize
+    → length (chunkReply hashes to N c time bytes) ≤ maxSize
+unfolding chunkReply
+chunk-length hashes to N c time bytes h l =
+    let ns = map num (sent N c) in
+    let i = itemOf bytes (Data c time 0 (length bytes)) in
+    omega (arith, datagram-last to (map (hashItem hashes) ns) i (data-writable (length bytes) c time), items-long hashes ns, length-map (sent N c) num, sent-few N c h, data-size c time 0 (length bytes))

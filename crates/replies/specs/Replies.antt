@@ -1,0 +1,32 @@
+-- The datagrams that a store sends (01, "Datagrams", the replies; "Writing a chunk"). Assumes nothing.
+use Prim.Native.Nat.{ℕ}
+use mathlib.Core.List.{List, [], _∷_, _++_, map}
+use lib.ListN.{length}
+use Rattle.tree.specs.Bin.{first, last}
+use Rattle.tree.specs.Node.{num}
+use Rattle.tree.specs.Peaks.{sent}
+use Rattle.store.proofs.Promise.{hashIn}
+use Rattle.wire.specs.declared.message.Options.the-variants.{Fixed}
+use Rattle.wire.specs.declared.message.Message.the-variants.{Handshake, Data, Ack, Integrity}
+use Rattle.writer.proofs.Promise.{bytes32, Item, itemOf, encode}
+
+-- A datagram: its destination channel, then its messages.
+abbrev pub datagram : ℕ → List Item → List ℕ
+datagram to is = bytes32 to ++ encode is
+
+-- Our HANDSHAKE to a channel: our channel as its source, and the fixed options around the root.
+unfoldable pub handshakeReply : ℕ → ℕ → List ℕ → List ℕ
+handshakeReply to source root = datagram to (itemOf root (Handshake source (Fixed 0)) ∷ [])
+
+-- An ACK of the chunks f..l with a delay.
+unfoldable pub ackReply : ℕ → ℕ → ℕ → ℕ → List ℕ
+ackReply to f l delay = datagram to (itemOf [] (Ack f l delay) ∷ [])
+
+-- The INTEGRITY of node b: the chunks that it covers, and its hash.
+unfoldable pub hashItem : List ℕ → ℕ → Item
+hashItem hashes b = itemOf (hashIn hashes b) (Integrity (first b) (last b) 0)
+
+-- The datagram of chunk c of N: all peaks and all siblings below its peak in their order, then DATA with the given clock.
+unfoldable pub chunkReply : List ℕ → ℕ → ℕ → ℕ → ℕ → List ℕ → List ℕ
+chunkReply hashes to N c time bytes =
+    datagram to (map (hashItem hashes) (map num (sent N c)) ++ (itemOf bytes (Data c time 0 (length bytes)) ∷ []))

@@ -1,0 +1,4 @@
+-- What the proofs of several functions cite.
+pub mod RowLaws
+pub mod AnswerLaws
+pub mod Promise

@@ -1,0 +1,68 @@
+-- The channel table (01, "What a store works under": "There are 16 channels"; "Datagrams", the effects of a HANDSHAKE).
+-- Assumes nothing.
+use Prim.Native.Nat.{ℕ, zero, suc}
+use mathlib.Core.List.{List, [], _∷_}
+use mathlib.Core.Bool.{Bool, true, false}
+use lib.ListN.{getD, set, replicate}
+use lib.Dec.{eqb}
+use Rattle.tree.specs.Pick.{pick}
+use Rattle.table.specs.declared.rows.Phase.{Phase}
+use Rattle.table.specs.declared.rows.Phase.the-variants.{Free, Calling, Open}
+use Rattle.table.specs.declared.rows.Row.{Row}
+use Rattle.table.specs.declared.rows.Table.{Table}
+
+-- How many channels there are.
+abbrev pub rowCount : ℕ
+rowCount = 16
+
+-- A row is free, calling or open.
+abbrev pub isFree : Phase → Bool
+isFree Free = true
+isFree Calling = false
+isFree Open = false
+
+abbrev pub isOpen : Phase → Bool
+isOpen Free = false
+isOpen Calling = false
+isOpen Open = true
+
+-- A row's record as after starting.
+abbrev pub freeRow : Row
+freeRow = record { phase = Free; id = 0; peer = 0; choked = false }
+
+-- The table after starting.
+abbrev pub freeTable : Table
+freeTable = record { rows = replicate rowCount freeRow }
+
+-- The place of the first row that passes a test; how many rows there are where none does.
+unfoldable pub firstRow : (Row → Bool) → List Row → ℕ
+firstRow f [] = 0
+firstRow f (r ∷ rs) = pick (f r) 0 (suc (firstRow f rs))
+
+-- The lowest free row.
+unfoldable pub lowestFree : List Row → ℕ
+lowestFree rs = firstRow (λ r. isFree (r .phase)) rs
+
+-- Whether a row is in use under an ID of ours.
+abbrev pub hasId : ℕ → Row → Bool
+hasId id r = pick (isFree (r .phase)) false (eqb (r .id) id)
+
+-- The lowest row in use under an ID.
+unfoldable pub rowOf : List Row → ℕ → ℕ
+rowOf rs id = firstRow (hasId id) rs
+
+-- The row at a place; past the table a free one.
+unfoldable pub rowAt : List Row → ℕ → Row
+rowAt rs i = getD rs i freeRow
+
+-- The table with a row at a place.
+unfoldable pub withRow : Table → ℕ → Row → Table
+withRow t i r = record { rows = set (t .rows) i r }
+
+-- A row in use after a HANDSHAKE from the source a: to a calling channel it opens it; to an open one it changes nothing,
+-- unless it closes, which its source 0 says: the row is freed.
+unfoldable pub rowAfter : Row → ℕ → Row
+rowAfter r a =
+    pick (isOpen (r .phase))
+    (pick (eqb a 0) freeRow r)
+    (record { phase = Open; id = r .id; peer = a; choked = r .choked })
