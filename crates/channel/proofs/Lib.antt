@@ -1,5 +1,12 @@
 -- What the proofs of several functions cite, and the theorem over every list of calls.
 pub mod OutLaws
+pub mod AcceptLaws
+pub mod RoomLaws
+pub mod AskLaws
+pub mod WriteLaws
+pub mod BeginLaws
+pub mod OpenLaws
+pub mod TakeLaws
 pub mod StepLaws
 pub mod RunLaws
 pub mod DemandLaws

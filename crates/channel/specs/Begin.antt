@@ -3,21 +3,23 @@ use Prim.Native.Nat.{ℕ, _*_}
 use mathlib.Core.List.{List}
 use lib.ListN.{length}
 use Rattle.hash.proofs.Promise.{bytesOf, words}
-use Rattle.hash.specs.declared.value.HashValue.{HashValue}
 use Rattle.bits.proofs.Promise.{clearWords, rowWords}
 use Rattle.table.proofs.Promise.{rowCount, freeTable}
-use Rattle.store.proofs.Promise.{earlier, countOf, Rooms}
+use Rattle.store.proofs.Promise.{earlier, countOf, buildAnswer}
 use Rattle.store.proofs.Promise as store
-use Rattle.store.specs.Calls.{buildAnswer}
 use Rattle.store.specs.declared.calls.Order.{Order}
+use Rattle.channel.specs.declared.state.State.{State}
 use Rattle.channel.specs.World.{World, Channels, channelsOf, Out, outOf, unless}
 use Rattle.channel.specs.Answers.{channelsAnswer, worldAnswer}
 
--- The channels under a new order: every row free, all bit rows cleared, the reply room as it is.
+-- The state under a new order: every row is free.
+abbrev pub freshState : Order → State
+freshState o = record { order = o; table = freeTable }
+
+-- The channels under it: all bit rows cleared, the reply room as it is.
 unfoldable pub freshChannels : Order → Channels → Channels
 freshChannels o ch =
-    channelsOf
-    (record { order = o; table = freeTable })
+    channelsOf (freshState o)
     (clearWords (ch .has) 0 (rowCount * rowWords (countOf (o .length))))
     (clearWords (ch .wants) 0 (rowCount * rowWords (countOf (o .length))))
     (ch .reply)

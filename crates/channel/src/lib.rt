@@ -1,2 +1,10 @@
-// The channels of a store: its order and channel table by value, and 01's entry points over the lent rooms.
-pub mod state; // the order and the channel table
+// The channels of a store: its order and channel table by value, and 01's entry points over the lent rooms. Any state, any
+// rooms, any numbers and any bytes get an answer; a refusal changes nothing.
+pub mod asking; // ask: the held count, whole or not
+pub mod datagrams; // begin a datagram, add a message to it
+pub mod opening; // open a channel
+pub mod starting; // start a store, build a whole one
+pub mod state; // the order and the channel table; what a call gives back
+pub mod taking; // take in a datagram
+pub mod writing; // write the datagram of one chunk
+mod rooms; // the numbers 12 and 11

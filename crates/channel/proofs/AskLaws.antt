@@ -1,0 +1,56 @@
+-- Asking, return by return as the code has them. Assumes nothing.
+use Prim.Native.Nat.{ℕ, zero, suc, _<_, _≤_}
+use mathlib.Core.Path.{_≡_, refl, sym, ap, _∙_}
+use mathlib.Core.Logic.{_≢_}
+use mathlib.Core.Bool.{false}
+use mathlib.Core.List.{List}
+use borrow.Author.Tests.{lt-ltb, le-ltb}
+use lib.Dec.{eqb}
+use lib.ListN.{length}
+use Rattle.bits.proofs.Promise.{countBits, rowWords}
+use Rattle.store.proofs.Promise.{lengthAnswer}
+use Rattle.channel.specs.declared.state.State.{State}
+use Rattle.channel.specs.World.{lengthOf, chunksOf}
+use Rattle.channel.specs.Ask.{askedOf, askAnswer, countedUnless, askSpec}
+use Rattle.channel.proofs.RoomLaws.{earlier-not}
+
+-- ---- its number
+
+module _ (L N m : ℕ) {r : ℕ} (e : r ≡ lengthAnswer L) where
+  -- The order's length is refused.
+  pub ask-length : r ≢ 0 → r ≡ askAnswer L N m
+  unfolding askAnswer
+  ask-length d = e ∙ earlier-not (lengthAnswer L) _ (λ z. d (e ∙ z))
+
+  module _ (z : r ≡ 0) {w : ℕ} (we : w ≡ rowWords N) where
+    -- The map is too small.
+    pub ask-short : m < w → 11 ≡ askAnswer L N m
+    unfolding askAnswer
+    ask-short l = rw (sym e ∙ z, ← we, lt-ltb m w l)
+
+    -- It is not.
+    pub ask-right : w ≤ m → 0 ≡ askAnswer L N m
+    unfolding askAnswer
+    ask-right l = rw (sym e ∙ z, ← we, le-ltb m w l)
+
+-- ---- what it gives
+
+-- A number that refuses counts nothing.
+counted-not : (n held N : ℕ) → n ≢ 0 → askedOf n 0 false ≡ countedUnless n held N
+counted-not zero held N d = absurd (d refl)
+counted-not (suc n) held N d = refl
+
+module _ (st : State) (map : List ℕ) (N : ℕ) (ne : N ≡ chunksOf st) {n : ℕ} (e : n ≡ askAnswer (lengthOf st) N (length map)) where
+  -- The number that the code found is the one given back.
+  number-is : n ≡ askAnswer (lengthOf st) (chunksOf st) (length map)
+  number-is = e ∙ ap (λ (x : ℕ). askAnswer (lengthOf st) x (length map)) ne
+
+  -- A refused call counts nothing.
+  pub ask-refused : n ≢ 0 → askedOf n 0 false ≡ askSpec st map
+  unfolding askSpec
+  ask-refused d = rw (← number-is) (counted-not n (countBits map (chunksOf st)) (chunksOf st) d)
+
+  -- Otherwise it counts the bits of all chunks.
+  pub ask-counted : n ≡ 0 → (held : ℕ) → held ≡ countBits map N → askedOf 0 held (eqb held N) ≡ askSpec st map
+  unfolding askSpec
+  ask-counted z held h = rw (← number-is, z, ← ne, ← h)

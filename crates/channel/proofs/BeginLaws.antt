@@ -1,0 +1,79 @@
+-- Starting and building, return by return as the code has them. Assumes nothing.
+use Prim.Native.Nat.{ℕ, _*_}
+use mathlib.Core.Path.{_≡_, sym, ap, ap₂, _∙_}
+use mathlib.Core.Logic.{_≢_}
+use mathlib.Core.List.{List}
+use lib.ListN.{length}
+use Rattle.hash.proofs.Promise.{bytesOf, words, Words, words-bytes}
+use Rattle.hash.specs.declared.value.HashValue.{HashValue}
+use Rattle.bits.proofs.Promise.{clearWords, rowWords}
+use Rattle.table.proofs.Promise.{rowCount}
+use Rattle.store.proofs.Promise.{Rooms, buildAnswer, countOf, rootOf, foundRoot, both-zero, build-zero}
+use Rattle.store.proofs.Promise as store
+use Rattle.store.specs.declared.calls.Order.{Order}
+use Rattle.channel.specs.declared.state.State.{State}
+use Rattle.channel.specs.World.{World, Channels, channelsOf, outOf}
+use Rattle.channel.specs.Answers.{channelsAnswer, worldAnswer}
+use Rattle.channel.specs.Begin.{freshState, freshChannels, startSpec, orderFor, packAnswer, buildSpec}
+use Rattle.channel.proofs.OutLaws.{unless-not, unless-done}
+
+-- What a store begins with: its chunk rooms, every row free, and both rooms for peers cleared.
+begun : (ch : Channels) (o : Order) {st : State} {rooms rooms′ : Rooms} {has wants : List ℕ} → st ≡ freshState o → rooms ≡ rooms′
+    → has ≡ clearWords (ch .has) 0 (rowCount * rowWords (countOf (o .length)))
+    → wants ≡ clearWords (ch .wants) 0 (rowCount * rowWords (countOf (o .length)))
+    → _≡_ {A = World} (record { rooms = rooms; channels = channelsOf st has wants (ch .reply) }) (record { rooms = rooms′; channels = freshChannels o ch })
+unfolding freshChannels
+begun ch o se re he we = cc
+
+-- ---- starting
+
+module _ (w : World) (o : Order) (k : ℕ) (ke : k ≡ worldAnswer (o .length) w) where
+  -- A refused start.
+  pub start-not : k ≢ 0 → outOf k 0 w ≡ startSpec w o
+  unfolding startSpec
+  start-not d = ap (λ (x : ℕ). outOf x 0 w) ke ∙ unless-not (worldAnswer (o .length) w) w _ (λ z. d (ke ∙ z))
+
+  -- One that is not refused: the store's rooms as its start leaves them, the rooms for peers cleared.
+  pub start-done : k ≡ 0 → {n : ℕ} {st : State} {rooms : Rooms} {has wants : List ℕ}
+      → store.outOf n rooms ≡ store.startSpec (w .rooms) (bytesOf (o .root .words)) (o .length)
+      → has ≡ clearWords (w .channels .has) 0 (rowCount * rowWords (countOf (o .length)))
+      → wants ≡ clearWords (w .channels .wants) 0 (rowCount * rowWords (countOf (o .length)))
+      → st ≡ freshState o
+      → outOf 0 0 (record { rooms = rooms; channels = channelsOf st has wants (w .channels .reply) }) ≡ startSpec w o
+  unfolding startSpec
+  start-done z e he we se =
+      ap (outOf 0 0) (begun (w .channels) o se (ap (λ (x : store.Out). x .rooms) e) he we)
+      ∙ unless-done (worldAnswer (o .length) w) w _ (sym ke ∙ z)
+
+-- ---- building
+
+-- The words found are those of the root's bytes.
+found-words : (u r : List ℕ) → length u ≡ 8 → Words u → bytesOf u ≡ r → u ≡ words 8 r
+found-words u r l f e = sym (words-bytes u f) ∙ ap₂ words l e
+
+module _ (w : World) (L : ℕ) (s : List ℕ) (k : ℕ) (ke : k ≡ packAnswer w L s) where
+  -- A refused building.
+  pub build-not : k ≢ 0 → outOf k 0 w ≡ buildSpec w L s
+  unfolding buildSpec
+  build-not d = ap (λ (x : ℕ). outOf x 0 w) ke ∙ unless-not (packAnswer w L s) w _ (λ z. d (ke ∙ z))
+
+  -- One that is not refused: the root found is the content's.
+  build-root : k ≡ 0 → (n : ℕ) (u : List ℕ) → n ≡ store.buildSpec (w .rooms) L s .answer → length u ≡ 8 → Words u
+      → bytesOf u ≡ foundRoot n (rootOf s) → u ≡ words 8 (rootOf s)
+  build-root z n u a l f e =
+      let b = both-zero (buildAnswer L (length s) (length (w .rooms .bytes)) (length (w .rooms .map)) (length (w .rooms .hashes)) (length (w .rooms .trusted))) (channelsAnswer L (w .channels)) (sym ke ∙ z) in
+      found-words u (rootOf s) l f (e ∙ ap (λ (x : ℕ). foundRoot x (rootOf s)) (a ∙ build-zero (w .rooms) L s (b .0)))
+
+  -- The store's rooms as its building leaves them, the rooms for peers cleared, the root found in the order.
+  pub build-done : k ≡ 0 → {n : ℕ} {st : State} {rooms : Rooms} {has wants : List ℕ} (v : HashValue)
+      → (store.outOf n rooms ≡ store.buildSpec (w .rooms) L s) × (bytesOf (v .words) ≡ foundRoot n (rootOf s))
+      → length (v .words) ≡ 8 → Words (v .words)
+      → has ≡ clearWords (w .channels .has) 0 (rowCount * rowWords (countOf L))
+      → wants ≡ clearWords (w .channels .wants) 0 (rowCount * rowWords (countOf L))
+      → st ≡ freshState (record { root = v; length = L })
+      → outOf 0 0 (record { rooms = rooms; channels = channelsOf st has wants (w .channels .reply) }) ≡ buildSpec w L s
+  unfolding buildSpec
+  build-done z {n} v e l f he we se =
+      let r : v .words ≡ words 8 (rootOf s) = build-root z n (v .words) (ap (λ (x : store.Out). x .answer) (e .0)) l f (e .1) in
+      ap (outOf 0 0) (begun (w .channels) (orderFor L s) (se ∙ ap (λ (u : List ℕ). freshState (record { root = record { words = u }; length = L })) r) (ap (λ (x : store.Out). x .rooms) (e .0)) he we)
+      ∙ unless-done (packAnswer w L s) w _ (sym ke ∙ z)

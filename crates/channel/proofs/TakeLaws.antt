@@ -1,0 +1,303 @@
+-- Taking in a datagram, step by step as the code takes it. Assumes nothing.
+use Prim.Native.Nat.{ℕ, zero, suc, _+_, _-_, _*_, _%_, _^_, _≤_, _<_, min}
+use native.Mathlib.Nat.{mul-le-mul-left}
+use native.Mathlib.Omega.{arith}
+use mathlib.Core.Path.{_≡_, refl, sym, ap, _∙_}
+use mathlib.Core.Logic.{_≢_}
+use mathlib.Core.Bool.{Bool, true, false}
+use mathlib.Core.List.{List, []}
+use borrow.Author.Tests.{eq-eqb, ne-eqb}
+use lib.Dec.{eqb}
+use lib.ListN.{length, getD, take, drop, length-take, length-drop}
+use lib.Seq.{getD-drop}
+use Rattle.hash.proofs.Promise.{bytesOf, words, same, same-not, bytes-length, bytes-words}
+use Rattle.bits.proofs.Promise.{rowWords, row-words}
+use Rattle.tree.specs.Pick.{pick}
+use Rattle.tree.specs.Pack.{maxLength, chunkSize, chunks}
+use Rattle.wire.proofs.Promise.{be32, placed, minSize, maxSize, layoutOf, Says, ToEnd, layout-data, layout-entries, layout-passed, layout-told, numberOf, checkedOf, checkSpec, entryWords}
+use Rattle.wire.specs.declared.message.Options.{Options}
+use Rattle.wire.specs.declared.message.Options.the-variants.{Fixed, EndOnly, Other}
+use Rattle.wire.specs.declared.layout.Layout.{Layout}
+use Rattle.wire.specs.declared.layout.Layout.the-variants.{Fault, HandshakeAlone, Messages, MessagesAndData}
+use Rattle.writer.proofs.Promise.{within, readAll}
+use Rattle.effects.proofs.Promise.{anyPast, Marks, marksOf, effects}
+use Rattle.replies.proofs.Promise.{ackReply}
+use Rattle.table.proofs.Promise.{rowCount, rowOf, rowAt, withRow, rowAfter, messagesAnswer, handshakeAnswer}
+use Rattle.table.specs.declared.rows.Row.{Row}
+use Rattle.table.specs.declared.rows.Table.{Table}
+use Rattle.store.proofs.Promise.{Out as Stored, outOf as storedOf, earlier, Rooms, countOf, lengthAnswer, length-accepted, integrityOf, takeSpec as storeTake, refused-same}
+use Rattle.channel.specs.declared.state.State.{State}
+use Rattle.channel.specs.World.{Channels, channelsOf, World, worldOf, Out, outOf, unless, beside, rootOf, lengthOf, chunksOf, rowsOf, putRow, rowBit}
+use Rattle.channel.specs.Answers.{ownAnswer}
+use Rattle.channel.specs.Opening.{openedRow, occupied}
+use Rattle.channel.specs.Take.{rowFor, ours, handshakeTaken, messagesNumber, markedRow, marked, messagesTaken, delay, acknowledgement, replied, stored, storing, dataTaken, byLayout, takeSpec}
+use Rattle.channel.proofs.OutLaws.{unless-not, unless-done}
+
+-- ---- the options
+
+-- Fewer than 32 bytes are not the root's.
+pub root-short : (u s : List ℕ) (at : ℕ) → length u ≡ 8 → length s < at + 32 → false ≡ ours (bytesOf u) s (Fixed at)
+unfolding ours
+root-short u s at e l = sym (same-not (within s at 32) (bytesOf u) (λ q. differ (ap length q)))
+  where
+    differ : length (within s at 32) ≡ length (bytesOf u) → ⊥
+    differ q =
+        let z : min 32 (length s - at) ≡ 4 * length u = sym (length-take 32 (drop at s) ∙ ap (min 32) (length-drop at s)) ∙ q ∙ bytes-length u in
+        omega arith
+
+-- 32 bytes are compared by their words.
+pub root-same : (root s : List ℕ) (at : ℕ) {v : List ℕ} {b : Bool} → ((i : ℕ) → getD s i 0 < 2 ^ 8) → at + 32 ≤ length s
+    → v ≡ words 8 (drop at s) → b ≡ same (bytesOf v) root → b ≡ ours root s (Fixed at)
+unfolding ours
+root-same root s at {v} few l e q =
+    q ∙ ap (λ (x : List ℕ). same x root) (ap bytesOf e ∙ bytes-words 8 (drop at s) (λ i. rw (getD-drop at s i 0) (few (at + i))) (omega (arith, length-drop at s)))
+
+-- By the kind of the options.
+module _ (root s : List ℕ) {o : Options} where
+  pub ours-of : {at : ℕ} {b : Bool} → o ≡ Fixed at → b ≡ ours root s (Fixed at) → b ≡ ours root s o
+  ours-of e p = rw e p
+
+  pub ours-end : o ≡ EndOnly → false ≡ ours root s o
+  unfolding ours
+  ours-end e = rw e
+
+  pub ours-other : o ≡ Other → false ≡ ours root s o
+  unfolding ours
+  ours-other e = rw e
+
+-- ---- a HANDSHAKE
+
+module _ (ch : Channels) (id : ℕ) (s : List ℕ) (a : ℕ) (o : Options) {to k : ℕ} {b : Bool} (te : to ≡ be32 s 0) (be : b ≡ ours (rootOf (ch .state)) s o)
+    (ke : k ≡ handshakeAnswer (rowsOf (ch .state)) to a b id) where
+  number-is : k ≡ handshakeAnswer (rowsOf (ch .state)) (be32 s 0) a (ours (rootOf (ch .state)) s o) id
+  number-is = rw (← te, ← be) ke
+
+  -- A refused one leaves all as it was.
+  pub handshake-refused : k ≢ 0 → outOf k 0 ch ≡ handshakeTaken ch id s a o
+  unfolding handshakeTaken
+  handshake-refused d = ap (λ (x : ℕ). outOf x 0 ch) number-is ∙ unless-not _ ch _ (λ z. d (number-is ∙ z))
+
+  -- One that is not refused opens a channel or changes its row.
+  taken : k ≡ 0 → {out : Out Channels}
+      → out ≡ pick (eqb (be32 s 0) 0) (occupied ch (openedRow id a)) (outOf 0 0 (channelsOf (putRow (ch .state) (rowFor (ch .state) s) (rowAfter (rowAt (rowsOf (ch .state)) (rowFor (ch .state) s)) a)) (ch .has) (ch .wants) (ch .reply)))
+      → out ≡ handshakeTaken ch id s a o
+  unfolding handshakeTaken
+  taken z p = p ∙ unless-done _ ch _ (sym number-is ∙ z)
+
+  -- One to channel 0 opens a channel.
+  pub handshake-opens : k ≡ 0 → to ≡ 0 → {out : Out Channels} → out ≡ occupied ch (openedRow id a) → out ≡ handshakeTaken ch id s a o
+  handshake-opens z e p = taken z (p ∙ rw (eq-eqb (be32 s 0) 0 (sym te ∙ e)))
+
+  -- One to a row in use changes that row.
+  pub handshake-changes : k ≡ 0 → to ≢ 0 → {i : ℕ} {r q : Row} {t : Table} → i ≡ rowOf (rowsOf (ch .state)) to → r ≡ rowAt (rowsOf (ch .state)) i → q ≡ rowAfter r a
+      → t ≡ withRow (ch .state .table) i q
+      → outOf 0 0 (channelsOf (record { order = ch .state .order; table = t }) (ch .has) (ch .wants) (ch .reply)) ≡ handshakeTaken ch id s a o
+  handshake-changes z d ie re qe we = taken z (rw (ne-eqb (be32 s 0) 0 (λ e. d (te ∙ e)), we, qe, re, ie, te))
+
+-- ---- the number of messages
+
+module _ (st : State) (s : List ℕ) {to k : ℕ} {alive : Bool} (te : to ≡ be32 s 0) (ae : alive ≡ eqb (length s) minSize)
+    (ke : k ≡ messagesAnswer (rowsOf st) to alive) where
+  table-number : k ≡ messagesAnswer (rowsOf st) (be32 s 0) (eqb (length s) minSize)
+  table-number = rw (← te, ← ae) ke
+
+  -- 5 or 3.
+  pub messages-table : k ≢ 0 → k ≡ messagesNumber st s
+  unfolding messagesNumber
+  messages-table d = table-number ∙ first (messagesAnswer (rowsOf st) (be32 s 0) (eqb (length s) minSize)) _ (λ z. d (table-number ∙ z))
+    where
+      first : (m n : ℕ) → m ≢ 0 → m ≡ earlier m n
+      first zero n q = absurd (q refl)
+      first (suc m) n q = refl
+
+  module _ (z : k ≡ 0) {n : ℕ} {b : Bool} (ne : n ≡ chunksOf st) (be : b ≡ anyPast n (readAll s)) where
+    past-is : anyPast (chunksOf st) (readAll s) ≡ b
+    past-is = sym (be ∙ ap (λ (x : ℕ). anyPast x (readAll s)) ne)
+
+    -- 7.
+    pub messages-past : b ≡ true → 7 ≡ messagesNumber st s
+    unfolding messagesNumber
+    messages-past e = rw (sym table-number ∙ z, past-is ∙ e)
+
+    -- None.
+    pub messages-none : b ≡ false → 0 ≡ messagesNumber st s
+    unfolding messagesNumber
+    messages-none e = rw (sym table-number ∙ z, past-is ∙ e)
+
+-- ---- their effects
+
+-- The place of a row's bits is small.
+pub base-small : (L : ℕ) {n w i : ℕ} → lengthAnswer L ≡ 0 → n ≡ countOf L → w ≡ rowWords n → i ≤ rowCount → (w < 2 ^ 20) × (w * i < 2 ^ 24) × (32 * (w * i) < 2 ^ 32)
+base-small L {n} {w} {i} z ne we l =
+    let a = length-accepted L z .1 in
+    let m : n ≤ 512 = omega (arith, ne, a) in
+    small (row-words n) m
+  where
+    small : (n ≤ 32 * rowWords n) × (32 * rowWords n ≤ n + 31) → n ≤ 512 → (w < 2 ^ 20) × (w * i < 2 ^ 24) × (32 * (w * i) < 2 ^ 32)
+    small b m = let k = mul-le-mul-left w l in (omega (arith, b .1, we), omega (arith, b .1, we, k), omega (arith, b .1, we, k))
+
+-- The channels after the effects, room by room.
+pub marked-is : (st : State) (has wants : List ℕ) (s : List ℕ) {to n w i : ℕ} {r : Row} {h v : List ℕ} {choked : Bool} {t : Table}
+    → to ≡ be32 s 0 → n ≡ chunksOf st → w ≡ rowWords n → i ≡ rowOf (rowsOf st) to → r ≡ rowAt (rowsOf st) i
+    → marksOf h v choked ≡ effects (32 * (w * i)) (readAll s) (marksOf has wants (r .choked))
+    → t ≡ withRow (st .table) i (markedRow r choked)
+    → channelsOf (record { order = st .order; table = t }) h v [] ≡ marked (channelsOf st has wants []) s
+unfolding marked
+marked-is st has wants s {to} {n} {w} {i} {r} {h} {v} {choked} {t} te ne we ie re me tte = rw (table-is, ap (λ (x : Marks). x .has) marks-are, ap (λ (x : Marks). x .wants) marks-are)
+  where
+    i-is : i ≡ rowFor st s
+    i-is = ie ∙ ap (rowOf (rowsOf st)) te
+
+    r-is : r ≡ rowAt (rowsOf st) (rowFor st s)
+    r-is = re ∙ ap (rowAt (rowsOf st)) i-is
+
+    w-is : w ≡ rowWords (chunksOf st)
+    w-is = we ∙ ap rowWords ne
+
+    marks-are : marksOf h v choked ≡ effects (rowBit (chunksOf st) (rowFor st s)) (readAll s) (marksOf has wants (rowAt (rowsOf st) (rowFor st s) .choked))
+    marks-are = rw (← r-is, ← i-is, ← w-is) me
+
+    table-is : t ≡ withRow (st .table) (rowFor st s) (markedRow (rowAt (rowsOf st) (rowFor st s)) (effects (rowBit (chunksOf st) (rowFor st s)) (readAll s) (marksOf has wants (rowAt (rowsOf st) (rowFor st s) .choked)) .choked))
+    table-is = rw (← marks-are, ← r-is, ← i-is) tte
+
+-- The reply room has no part in the effects.
+pub marked-beside : (st st′ : State) (has wants h v reply s : List ℕ) → channelsOf st′ h v [] ≡ marked (channelsOf st has wants []) s → channelsOf st′ h v reply ≡ marked (channelsOf st has wants reply) s
+unfolding marked
+marked-beside st st′ has wants h v reply s e = ap (λ (ch : Channels). channelsOf (ch .state) (ch .has) (ch .wants) reply) e
+
+-- ---- messages without DATA
+
+module _ (ch : Channels) (s : List ℕ) {k : ℕ} (ke : k ≡ messagesNumber (ch .state) s) where
+  pub messages-refused : k ≢ 0 → outOf k 0 ch ≡ messagesTaken ch s
+  unfolding messagesTaken
+  messages-refused d = ap (λ (x : ℕ). outOf x 0 ch) ke ∙ unless-not _ ch _ (λ z. d (ke ∙ z))
+
+  pub messages-done : k ≡ 0 → {after : Channels} → after ≡ marked ch s → outOf 0 0 after ≡ messagesTaken ch s
+  unfolding messagesTaken
+  messages-done z e = ap (outOf 0 0) e ∙ unless-done _ ch _ (sym ke ∙ z)
+
+-- ---- the ACK
+
+-- A difference modulo 2 ^ 64.
+pub delay-is : (clock x : ℕ) {d : ℕ} → clock < 2 ^ 64 → x < 2 ^ 64 → d < 2 ^ 64 → (d + x) % 2 ^ 64 ≡ clock → d ≡ delay clock x
+delay-is clock x a b l e = omega arith
+
+-- To the peer of the row that the datagram goes to.
+pub ack-is : (st : State) (s : List ℕ) (clock c x : ℕ) (reply : List ℕ) {to i d len : ℕ} {r : Row} {p : List ℕ}
+    → to ≡ be32 s 0 → i ≡ rowOf (rowsOf st) to → r ≡ rowAt (rowsOf st) i → d ≡ delay clock x
+    → (len ≡ length (ackReply (r .peer) c c d)) × (p ≡ placed reply 0 (ackReply (r .peer) c c d))
+    → (len ≡ length (acknowledgement st s clock c x)) × (p ≡ placed reply 0 (acknowledgement st s clock c x))
+ack-is st s clock c x reply te ie re de e = rw (← te, ← ie, ← re, ← de) e
+
+-- The effects, and a reply.
+replied-is : (ch : Channels) (s r : List ℕ) {st : State} {h v p : List ℕ} → channelsOf st h v [] ≡ marked (channelsOf (ch .state) (ch .has) (ch .wants) []) s
+    → p ≡ placed (ch .reply) 0 r → channelsOf st h v p ≡ replied (marked ch s) r
+unfolding marked
+replied-is ch s r e q = rw q (ap (λ (x : Channels). channelsOf (x .state) (x .has) (x .wants) (placed (ch .reply) 0 r)) e)
+
+-- ---- DATA
+
+-- The chunk's bytes, from the place where they begin to where they end.
+pub part-is : (s : List ℕ) (b n : ℕ) → take (b + n - b) (drop b s) ≡ within s b n
+part-is s b n = let e : b + n - b ≡ n = omega arith in rw e
+
+module _ (w : World) (clock : ℕ) (s es : List ℕ) (c x b n : ℕ) {k : ℕ} (ke : k ≡ messagesNumber (w .channels .state) s) where
+  pub data-refused : k ≢ 0 → outOf k 0 w ≡ dataTaken w clock s es c x b n
+  unfolding dataTaken
+  data-refused d = ap (λ (y : ℕ). outOf y 0 w) ke ∙ unless-not _ w _ (λ z. d (ke ∙ z))
+
+  module _ (z : k ≡ 0) {d : List ℕ} (de : d ≡ within s b n) {m : ℕ} {after : Rooms}
+      (me : storedOf m after ≡ storeTake (w .rooms) (rootOf (w .channels .state)) (lengthOf (w .channels .state)) c d (integrityOf es s)) where
+    out-is : storedOf m after ≡ storing w s es c b n
+    out-is = rw (← de) me
+
+    settled : {out : Out World} → out ≡ stored w clock s c x (storing w s es c b n) → out ≡ dataTaken w clock s es c x b n
+    unfolding dataTaken
+    settled e = e ∙ unless-done _ w _ (sym ke ∙ z)
+
+    -- 8, 9 or 10: the store left its rooms as they were.
+    pub data-unfit : m ≢ 0 → outOf m 0 (record { rooms = after; channels = w .channels }) ≡ dataTaken w clock s es c x b n
+    unfolding stored
+    data-unfit d =
+        settled
+        (ap (λ (g : Rooms). outOf m 0 (record { rooms = g; channels = w .channels })) (ap (λ (o : Stored). o .rooms) out-is ∙ refused-same (w .rooms) _ _ c _ _ (λ q. d (ap (λ (o : Stored). o .answer) out-is ∙ q)))
+        ∙ ap (λ (y : ℕ). outOf y 0 w) (ap (λ (o : Stored). o .answer) out-is)
+        ∙ unless-not (storing w s es c b n .answer) w _ (λ q. d (ap (λ (o : Stored). o .answer) out-is ∙ q)))
+
+    -- Stored, and acknowledged.
+    pub data-done : m ≡ 0 → {len : ℕ} {p h v : List ℕ} {st : State}
+        → (len ≡ length (acknowledgement (w .channels .state) s clock c x)) × (p ≡ placed (w .channels .reply) 0 (acknowledgement (w .channels .state) s clock c x))
+        → channelsOf st h v [] ≡ marked (channelsOf (w .channels .state) (w .channels .has) (w .channels .wants) []) s
+        → outOf 0 len (record { rooms = after; channels = channelsOf st h v p }) ≡ dataTaken w clock s es c x b n
+    unfolding stored
+    data-done q {len} {p} {h} {v} {st} a e =
+        settled
+        (assembled len after (channelsOf st h v p) (a .0) (ap (λ (o : Stored). o .rooms) out-is) (replied-is (w .channels) s reply e (a .1))
+        ∙ unless-done (storing w s es c b n .answer) w _ (sym (ap (λ (o : Stored). o .answer) out-is) ∙ q))
+      where
+        reply : List ℕ
+        reply = acknowledgement (w .channels .state) s clock c x
+
+        assembled : (l : ℕ) (g : Rooms) (ch : Channels) → l ≡ length reply → g ≡ storing w s es c b n .rooms → ch ≡ replied (marked (w .channels) s) reply
+            → outOf {W = World} 0 l (record { rooms = g; channels = ch }) ≡ outOf 0 (length reply) (record { rooms = storing w s es c b n .rooms; channels = replied (marked (w .channels) s) reply })
+        assembled l g ch x y u = rw (x, y, u)
+
+-- ---- any datagram
+
+-- A refusal by 12 or 11.
+pub take-refused : (w : World) (clock id : ℕ) (s : List ℕ) {k : ℕ} → k ≡ ownAnswer w → k ≢ 0 → outOf k 0 w ≡ takeSpec w clock id s
+unfolding takeSpec
+take-refused w clock id s e d = ap (λ (x : ℕ). outOf x 0 w) e ∙ unless-not (ownAnswer w) w _ (λ z. d (e ∙ z))
+
+-- Otherwise it goes by its layout.
+pub take-laid : (w : World) (clock id : ℕ) (s : List ℕ) {k : ℕ} {l : Layout} {out : Out World} → k ≡ ownAnswer w → k ≡ 0 → l ≡ layoutOf s .layout
+    → out ≡ byLayout w clock id s l → out ≡ takeSpec w clock id s
+unfolding takeSpec
+take-laid w clock id s e z le p = p ∙ ap (byLayout w clock id s) le ∙ unless-done (ownAnswer w) w _ (sym e ∙ z)
+
+-- What the layout pass told of a datagram, in a room that is large enough.
+module _ (room s : List ℕ) {l : Layout} {after : List ℕ} (h : entryWords ≤ length room) (e : checkedOf l after ≡ checkSpec room s) where
+  -- The layout is the datagram's.
+  pub laid : {m : Layout} → l ≡ m → m ≡ layoutOf s .layout
+  laid q = sym q ∙ layout-told room s h e .0
+
+  -- One that is not refused has its destination.
+  pub laid-long : {m : Layout} → l ≡ m → numberOf m ≡ 0 → minSize ≤ length s
+  laid-long q z = layout-passed s (ap numberOf (sym (laid q)) ∙ z) .0
+
+  module _ {c x b n k : ℕ} (q : l ≡ MessagesAndData c x b n k) where
+    -- DATA's chunk lies in the datagram.
+    pub laid-end : b + n ≤ length s
+    laid-end = let g : b + n ≡ length s = rw (← laid q) at (layout-data s) in omega arith
+
+    told : k ≡ length (layoutOf s .entries)
+    told = says (layout-entries s .0) (laid q)
+      where
+        says : {m : Layout} {j : ℕ} → Says m j → MessagesAndData c x b n k ≡ m → k ≡ j
+        says g f = rw (← f) at g
+
+    -- Its entries have room, and stand at the front.
+    pub laid-few : k ≤ entryWords
+    laid-few = omega (arith, told, layout-entries s .1)
+
+    pub laid-entries : take (k - 0) (drop 0 after) ≡ layoutOf s .entries
+    laid-entries = let z : k - 0 ≡ k = omega arith in rw (z, told) (layout-told room s h e .1)
+
+-- ---- by its layout
+
+module _ (w : World) (clock id : ℕ) (s : List ℕ) where
+  pub laid-fault : (n : ℕ) → outOf n 0 w ≡ byLayout w clock id s (Fault n)
+  unfolding byLayout
+  laid-fault n = refl
+
+  pub laid-handshake : (a : ℕ) (o : Options) {out : Out Channels} → out ≡ handshakeTaken (w .channels) id s a o → beside (w .rooms) out ≡ byLayout w clock id s (HandshakeAlone a o)
+  unfolding byLayout
+  laid-handshake a o e = ap (beside (w .rooms)) e
+
+  pub laid-messages : (k : ℕ) {out : Out Channels} → out ≡ messagesTaken (w .channels) s → beside (w .rooms) out ≡ byLayout w clock id s (Messages k)
+  unfolding byLayout
+  laid-messages k e = ap (beside (w .rooms)) e
+
+  pub laid-data : (c x b n k : ℕ) (es : List ℕ) {out : Out World} → es ≡ layoutOf s .entries → out ≡ dataTaken w clock s es c x b n → out ≡ byLayout w clock id s (MessagesAndData c x b n k)
+  unfolding byLayout
+  laid-data c x b n k es f e = e ∙ ap (λ (y : List ℕ). dataTaken w clock s y c x b n) f

@@ -1,0 +1,21 @@
+use mathlib.Core.Path.{ap₂, _∙_}
+use Rattle.store.proofs.Promise.{earlier}
+use borrow.Author.Needs.{needs}
+use Rattle.channel.proofs.rooms.rooms_answer.Statement.{statement}
+use Rattle.channel.proofs.rooms.rooms_answer.Tie as tie
+
+order-answer-requires : tie.Need-order-answer-requires
+order-answer-requires c κs = search needs
+
+side-answer-requires : tie.Need-side-answer-requires
+side-answer-requires c κs = search needs
+
+earlier-requires : tie.Need-earlier-requires
+earlier-requires c κs = search needs
+
+returns : tie.Need-returns
+returns c = c .earlier .ensures ∙ ap₂ earlier (c .before .before .order-answer .ensures) (c .before .side-answer .ensures)
+
+pub rooms-answer-spec : {M : Type 1} → statement M
+rooms-answer-spec =
+    tie.close (tie.spec order-answer-requires side-answer-requires earlier-requires returns)

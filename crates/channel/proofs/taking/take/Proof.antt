@@ -1,0 +1,137 @@
+use native.Mathlib.Omega.{arith}
+use mathlib.Core.Path.{refl, sym, _∙_}
+use Rattle.channel.specs.World.{worldOf}
+use Rattle.channel.proofs.AcceptLaws.{call-accepted}
+use Rattle.channel.proofs.TakeLaws.{take-refused, take-laid, laid, laid-long, laid-end, laid-few, laid-entries, laid-fault, laid-handshake, laid-messages, laid-data}
+use borrow.Author.Needs.{needs}
+use Rattle.channel.proofs.taking.take.Statement.{statement}
+use Rattle.channel.proofs.taking.take.Tie as tie
+
+rooms-answer-requires : tie.Need-rooms-answer-requires
+rooms-answer-requires c κs = search needs
+
+returns : tie.Need-returns
+returns c = let a = c .before .before .before .before .before .before .before .before .before .before .before .args in take-refused (worldOf (a .state) (a .chunks .now) (a .map .now) (a .hashes .now) (a .trusted .now) (a .has .now) (a .wants .now) (a .reply .now)) (a .clock) (a .id) (a .datagram .now) (c .before .rooms-answer .ensures) (c .if1 .taken)
+
+slice-aggregate-check : tie.Need-slice-aggregate-check
+slice-aggregate-check c = search needs
+
+check-requires : tie.Need-check-requires
+check-requires c κs = search needs
+
+enum-known-number : tie.Need-enum-known-number
+enum-known-number c = search needs
+
+enum-known-source : tie.Need-enum-known-source
+enum-known-source c = search needs
+
+handshake-requires : tie.Need-handshake-requires
+handshake-requires c κs = let a = c .before .before .before .before .before .before .before .before .before .before .before .before .before .before .before .before .before .before .before .before .args in ((call-accepted _ _ _ _ _ _ _ _ (sym (c .before .before .before .before .before .before .before .before .before .before .rooms-answer .ensures) ∙ omega (arith, c .before .before .before .before .before .before .before .before .before .if1 .left))) .1, laid-long _ (a .datagram .now) (search needs) (c .before .before .before .before .before .before .before .check .ensures) (c .before .before .before .before .source .given .1) refl)
+
+enum-told : tie.Need-enum-told
+enum-told c = search needs
+
+messages-requires : tie.Need-messages-requires
+messages-requires c κs = let a = c .before .before .before .before .before .before .before .before .before .before .before .before .before .before .before .before .before .before .before .args in ((call-accepted _ _ _ _ _ _ _ _ (sym (c .before .before .before .before .before .before .before .before .before .rooms-answer .ensures) ∙ omega (arith, c .before .before .before .before .before .before .before .before .if1 .left))) .0, laid-long _ (a .datagram .now) (search needs) (c .before .before .before .before .before .before .check .ensures) (c .before .before .before .enum-told .given .1) refl)
+
+enum-known-chunk : tie.Need-enum-known-chunk
+enum-known-chunk c = search needs
+
+sub-take-chunk : tie.Need-sub-take-chunk
+sub-take-chunk c = search needs
+
+part-take-chunk-start : tie.Need-part-take-chunk-start
+part-take-chunk-start c = search needs
+
+part-take-chunk-end : tie.Need-part-take-chunk-end
+part-take-chunk-end c = let a = c .before .before .before .before .before .before .before .before .before .before .before .before .before .before .before .before .before .before .before .before .before .before .before .before .before .args in omega (arith, laid-few _ (a .datagram .now) (search needs) (c .before .before .before .before .before .before .before .before .before .before .before .before .check .ensures) (c .before .before .before .before .before .before .before .before .before .chunk .given .1), c .before .before .before .before .before .before .before .before .before .before .before .before .check .kept)
+
+take-chunk-requires : tie.Need-take-chunk-requires
+take-chunk-requires c κs = let a = c .before .before .before .before .before .before .before .before .before .before .before .before .before .before .before .before .before .before .before .before .before .before .before .before .before .before .args in ((call-accepted _ _ _ _ _ _ _ _ (sym (c .before .before .before .before .before .before .before .before .before .before .before .before .before .before .before .before .rooms-answer .ensures) ∙ omega (arith, c .before .before .before .before .before .before .before .before .before .before .before .before .before .before .before .if1 .left))) .0, ((call-accepted _ _ _ _ _ _ _ _ (sym (c .before .before .before .before .before .before .before .before .before .before .before .before .before .before .before .before .rooms-answer .ensures) ∙ omega (arith, c .before .before .before .before .before .before .before .before .before .before .before .before .before .before .before .if1 .left))) .1, (laid-long _ (a .datagram .now) (search needs) (c .before .before .before .before .before .before .before .before .before .before .before .before .before .check .ensures) (c .before .before .before .before .before .before .before .before .before .before .chunk .given .1) refl, laid-end _ (a .datagram .now) (search needs) (c .before .before .before .before .before .before .before .before .before .before .before .before .before .check .ensures) (c .before .before .before .before .before .before .before .before .before .before .chunk .given .1))))
+
+returns-2 : tie.Need-returns-2
+returns-2 c = let a = c .before .before .before .before .before .before .before .before .before .before .before .before .before .before .before .before .before .args in take-laid (worldOf (a .state) (a .chunks .now) (a .map .now) (a .hashes .now) (a .trusted .now) (a .has .now) (a .wants .now) (a .reply .now)) (a .clock) (a .id) (a .datagram .now) (c .before .before .before .before .before .before .before .rooms-answer .ensures) (omega (arith, c .before .before .before .before .before .before .if1 .left)) (laid _ (a .datagram .now) (search needs) (c .before .before .before .before .check .ensures) (c .before .number .given .1)) (laid-fault (worldOf (a .state) (a .chunks .now) (a .map .now) (a .hashes .now) (a .trusted .now) (a .has .now) (a .wants .now) (a .reply .now)) (a .clock) (a .id) (a .datagram .now) _)
+
+same-length : tie.Need-same-length
+same-length c = search needs
+
+same-length-2 : tie.Need-same-length-2
+same-length-2 c = search needs
+
+same-length-3 : tie.Need-same-length-3
+same-length-3 c = search needs
+
+returns-3 : tie.Need-returns-3
+returns-3 c = let a = c .before .before .before .before .before .before .before .before .before .before .before .before .before .before .before .before .before .before .before .before .before .before .before .before .before .before .before .args in take-laid (worldOf (a .state) (a .chunks .now) (a .map .now) (a .hashes .now) (a .trusted .now) (a .has .now) (a .wants .now) (a .reply .now)) (a .clock) (a .id) (a .datagram .now) (c .before .before .before .before .before .before .before .before .before .before .before .before .before .before .before .before .before .rooms-answer .ensures) (omega (arith, c .before .before .before .before .before .before .before .before .before .before .before .before .before .before .before .before .if1 .left)) (laid _ (a .datagram .now) (search needs) (c .before .before .before .before .before .before .before .before .before .before .before .before .before .before .check .ensures) (c .before .before .before .before .before .before .before .before .before .before .before .source .given .1)) (laid-handshake (worldOf (a .state) (a .chunks .now) (a .map .now) (a .hashes .now) (a .trusted .now) (a .has .now) (a .wants .now) (a .reply .now)) (a .clock) (a .id) (a .datagram .now) _ _ (c .before .before .before .before .before .before .handshake .ensures))
+
+same-length-4 : tie.Need-same-length-4
+same-length-4 c = search needs
+
+same-length-5 : tie.Need-same-length-5
+same-length-5 c = search needs
+
+same-length-6 : tie.Need-same-length-6
+same-length-6 c = search needs
+
+returns-4 : tie.Need-returns-4
+returns-4 c = let a = c .before .before .before .before .before .before .before .before .before .before .before .before .before .before .before .before .before .before .before .before .before .before .before .before .args in take-laid (worldOf (a .state) (a .chunks .now) (a .map .now) (a .hashes .now) (a .trusted .now) (a .has .now) (a .wants .now) (a .reply .now)) (a .clock) (a .id) (a .datagram .now) (c .before .before .before .before .before .before .before .before .before .before .before .before .before .before .rooms-answer .ensures) (omega (arith, c .before .before .before .before .before .before .before .before .before .before .before .before .before .if1 .left)) (laid _ (a .datagram .now) (search needs) (c .before .before .before .before .before .before .before .before .before .before .before .check .ensures) (c .before .before .before .before .before .before .before .before .enum-told .given .1)) (laid-messages (worldOf (a .state) (a .chunks .now) (a .map .now) (a .hashes .now) (a .trusted .now) (a .has .now) (a .wants .now) (a .reply .now)) (a .clock) (a .id) (a .datagram .now) _ (c .before .before .before .before .messages .ensures))
+
+same-length-7 : tie.Need-same-length-7
+same-length-7 c = search needs
+
+same-length-8 : tie.Need-same-length-8
+same-length-8 c = search needs
+
+same-length-9 : tie.Need-same-length-9
+same-length-9 c = search needs
+
+same-length-10 : tie.Need-same-length-10
+same-length-10 c = search needs
+
+same-length-11 : tie.Need-same-length-11
+same-length-11 c = search needs
+
+same-length-12 : tie.Need-same-length-12
+same-length-12 c = search needs
+
+same-length-13 : tie.Need-same-length-13
+same-length-13 c = search needs
+
+returns-5 : tie.Need-returns-5
+returns-5 c = let a = c .before .before .before .before .before .before .before .before .before .before .before .before .before .before .before .before .before .before .before .before .before .before .before .before .before .before .before .before .before .before .before .before .before .before .before .before .before .before .before .before .before .args in take-laid (worldOf (a .state) (a .chunks .now) (a .map .now) (a .hashes .now) (a .trusted .now) (a .has .now) (a .wants .now) (a .reply .now)) (a .clock) (a .id) (a .datagram .now) (c .before .before .before .before .before .before .before .before .before .before .before .before .before .before .before .before .before .before .before .before .before .before .before .before .before .before .before .before .before .before .before .rooms-answer .ensures) (omega (arith, c .before .before .before .before .before .before .before .before .before .before .before .before .before .before .before .before .before .before .before .before .before .before .before .before .before .before .before .before .before .before .if1 .left)) (laid _ (a .datagram .now) (search needs) (c .before .before .before .before .before .before .before .before .before .before .before .before .before .before .before .before .before .before .before .before .before .before .before .before .before .before .before .before .check .ensures) (c .before .before .before .before .before .before .before .before .before .before .before .before .before .before .before .before .before .before .before .before .before .before .before .before .before .chunk .given .1)) (laid-data (worldOf (a .state) (a .chunks .now) (a .map .now) (a .hashes .now) (a .trusted .now) (a .has .now) (a .wants .now) (a .reply .now)) (a .clock) (a .id) (a .datagram .now) _ _ _ _ _ _ (laid-entries _ (a .datagram .now) (search needs) (c .before .before .before .before .before .before .before .before .before .before .before .before .before .before .before .before .before .before .before .before .before .before .before .before .before .before .before .before .check .ensures) (c .before .before .before .before .before .before .before .before .before .before .before .before .before .before .before .before .before .before .before .before .before .before .before .before .before .chunk .given .1)) (c .before .before .before .before .before .before .before .before .before .before .before .before .before .before .take-chunk .ensures))
+
+pub take-spec : {M : Type 1} → statement M
+take-spec =
+    tie.close
+    (tie.spec
+    rooms-answer-requires
+    returns
+    slice-aggregate-check
+    check-requires
+    enum-known-number
+    enum-known-source
+    handshake-requires
+    enum-told
+    messages-requires
+    enum-known-chunk
+    sub-take-chunk
+    part-take-chunk-start
+    part-take-chunk-end
+    take-chunk-requires
+    returns-2
+    same-length
+    same-length-2
+    same-length-3
+    returns-3
+    same-length-4
+    same-length-5
+    same-length-6
+    returns-4
+    same-length-7
+    same-length-8
+    same-length-9
+    same-length-10
+    same-length-11
+    same-length-12
+    same-length-13
+    returns-5)

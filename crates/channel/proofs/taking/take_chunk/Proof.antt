@@ -1,0 +1,99 @@
+use native.Mathlib.Omega.{arith}
+use Rattle.channel.specs.World.{worldOf}
+use Rattle.channel.proofs.TakeLaws.{data-refused, part-is, data-unfit, data-done}
+use borrow.Author.Needs.{needs}
+use Rattle.channel.proofs.taking.take_chunk.Statement.{statement}
+use Rattle.channel.proofs.taking.take_chunk.Tie as tie
+
+messages-number-requires : tie.Need-messages-number-requires
+messages-number-requires c κs = search needs
+
+returns : tie.Need-returns
+returns c = let a = c .before .before .before .before .before .before .before .before .before .before .before .args in data-refused (worldOf (a .state) (a .chunks .now) (a .map .now) (a .hashes .now) (a .trusted .now) (a .has .now) (a .wants .now) (a .reply .now)) (a .clock) (a .datagram .now) (a .entries .now) (a .c) (a .timestamp) (a .start) (a .len) (c .before .messages-number .ensures) (c .if1 .taken)
+
+add-end : tie.Need-add-end
+add-end c = search needs
+
+sub-take : tie.Need-sub-take
+sub-take c = search needs
+
+part-take-start : tie.Need-part-take-start
+part-take-start c = search needs
+
+part-take-end : tie.Need-part-take-end
+part-take-end c = search needs
+
+take-requires : tie.Need-take-requires
+take-requires c κs = search needs
+
+same-length : tie.Need-same-length
+same-length c = search needs
+
+same-length-2 : tie.Need-same-length-2
+same-length-2 c = search needs
+
+same-length-3 : tie.Need-same-length-3
+same-length-3 c = search needs
+
+same-length-4 : tie.Need-same-length-4
+same-length-4 c = search needs
+
+returns-2 : tie.Need-returns-2
+returns-2 c = let a = c .before .before .before .before .before .before .before .before .before .before .before .before .before .before .before .before .before .before .before .before .before .before .before .before .before .before .before .args in data-unfit (worldOf (a .state) (a .chunks .now) (a .map .now) (a .hashes .now) (a .trusted .now) (a .has .now) (a .wants .now) (a .reply .now)) (a .clock) (a .datagram .now) (a .entries .now) (a .c) (a .timestamp) (a .start) (a .len) (c .before .before .before .before .before .before .before .before .before .before .before .before .before .before .before .before .before .messages-number .ensures) (omega (arith, c .before .before .before .before .before .before .before .before .before .before .before .before .before .before .before .before .if1 .left)) (part-is (a .datagram .now) (a .start) (a .len)) (c .before .before .before .before .before .before .before .before .before .take .ensures) (c .if2 .taken)
+
+acknowledge-requires : tie.Need-acknowledge-requires
+acknowledge-requires c κs = (c .before .before .before .before .before .before .before .before .before .before .before .before .before .before .before .before .before .before .before .before .before .before .before .before .before .before .before .before .pre .1 .0, c .before .before .before .before .before .before .before .before .before .before .before .before .before .before .before .before .before .before .before .before .before .before .before .before .before .before .before .before .pre .1 .1 .0)
+
+mark-requires : tie.Need-mark-requires
+mark-requires c κs = (c .before .before .before .before .before .before .before .before .before .before .before .before .before .before .before .before .before .before .before .before .before .before .before .before .before .before .before .before .before .before .before .before .before .pre .0, c .before .before .before .before .before .before .before .before .before .before .before .before .before .before .before .before .before .before .before .before .before .before .before .before .before .before .before .before .before .before .before .before .before .pre .1 .1 .0)
+
+same-length-5 : tie.Need-same-length-5
+same-length-5 c = search needs
+
+same-length-6 : tie.Need-same-length-6
+same-length-6 c = search needs
+
+same-length-7 : tie.Need-same-length-7
+same-length-7 c = search needs
+
+same-length-8 : tie.Need-same-length-8
+same-length-8 c = search needs
+
+same-length-9 : tie.Need-same-length-9
+same-length-9 c = search needs
+
+same-length-10 : tie.Need-same-length-10
+same-length-10 c = search needs
+
+same-length-11 : tie.Need-same-length-11
+same-length-11 c = search needs
+
+returns-3 : tie.Need-returns-3
+returns-3 c = let a = c .before .before .before .before .before .before .before .before .before .before .before .before .before .before .before .before .before .before .before .before .before .before .before .before .before .before .before .before .before .before .before .before .before .before .before .before .before .before .args in data-done (worldOf (a .state) (a .chunks .now) (a .map .now) (a .hashes .now) (a .trusted .now) (a .has .now) (a .wants .now) (a .reply .now)) (a .clock) (a .datagram .now) (a .entries .now) (a .c) (a .timestamp) (a .start) (a .len) (c .before .before .before .before .before .before .before .before .before .before .before .before .before .before .before .before .before .before .before .before .before .before .before .before .before .before .before .before .messages-number .ensures) (omega (arith, c .before .before .before .before .before .before .before .before .before .before .before .before .before .before .before .before .before .before .before .before .before .before .before .before .before .before .before .if1 .left)) (part-is (a .datagram .now) (a .start) (a .len)) (c .before .before .before .before .before .before .before .before .before .before .before .before .before .before .before .before .before .before .before .before .take .ensures) (omega (arith, c .before .before .before .before .before .before .before .before .before .before .before .if2 .left)) (c .before .before .before .before .before .before .before .before .before .acknowledge .ensures) (c .before .before .before .before .mark .ensures)
+
+pub take-chunk-spec : {M : Type 1} → statement M
+take-chunk-spec =
+    tie.close
+    (tie.spec
+    messages-number-requires
+    returns
+    add-end
+    sub-take
+    part-take-start
+    part-take-end
+    take-requires
+    same-length
+    same-length-2
+    same-length-3
+    same-length-4
+    returns-2
+    acknowledge-requires
+    mark-requires
+    same-length-5
+    same-length-6
+    same-length-7
+    same-length-8
+    same-length-9
+    same-length-10
+    same-length-11
+    returns-3)

@@ -1,0 +1,74 @@
+// The numbers 12 and 11 for the calls that are lent all seven rooms, from lengths alone.
+ghost use mathlib.Core.Path.{_≡_};
+ghost use Rattle.store.proofs.Promise.{earlier, orderAnswer, buildAnswer};
+ghost use Rattle.channel.specs.Answers.{sideAnswer};
+use store::answers;
+use table::rows::ROWS;
+use wire::limits::MAX_SIZE;
+
+// The first of two numbers, if it refuses.
+pub fn earlier(first: u32, second: u32) -> u32
+    ensures { λ r. ⌜ r ≡ earlier first second ⌝ }
+{
+    if first != 0 {
+        return first;
+    }
+    second
+}
+
+// 11: a room for what the peers have or want, or the reply room, is too small.
+fn side_answer(length: u32, has: usize, wants: usize, reply: usize) -> u32
+    ensures { λ r. ⌜ r ≡ sideAnswer length has wants reply ⌝ }
+{
+    let row = bits::row_words(tree::pack::chunk_count(length) as u64);
+    let words = ROWS as u64 * row;
+    if (has as u64) < words {
+        return 11;
+    }
+    if (wants as u64) < words {
+        return 11;
+    }
+    if reply < MAX_SIZE {
+        return 11;
+    }
+    0
+}
+
+// 12 for the order's length, then 11 for any of the seven rooms.
+pub fn rooms_answer(
+    length: u32,
+    chunks: usize,
+    map: usize,
+    hashes: usize,
+    trusted: usize,
+    has: usize,
+    wants: usize,
+    reply: usize,
+) -> u32
+    ensures { λ r. ⌜ r ≡ earlier (orderAnswer length chunks map hashes trusted) (sideAnswer length has wants reply) ⌝ }
+{
+    earlier(
+        answers::order_answer(length, chunks, map, hashes, trusted),
+        side_answer(length, has, wants, reply),
+    )
+}
+
+// The same for building, 12 also for content of another length.
+pub fn build_answer(
+    length: u32,
+    content: usize,
+    chunks: usize,
+    map: usize,
+    hashes: usize,
+    trusted: usize,
+    has: usize,
+    wants: usize,
+    reply: usize,
+) -> u32
+    ensures { λ r. ⌜ r ≡ earlier (buildAnswer length content chunks map hashes trusted) (sideAnswer length has wants reply) ⌝ }
+{
+    earlier(
+        answers::build_answer(length, content, chunks, map, hashes, trusted),
+        side_answer(length, has, wants, reply),
+    )
+}
