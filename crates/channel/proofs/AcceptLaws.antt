@@ -7,21 +7,21 @@ use Rattle.bits.proofs.Promise.{rowWords}
 use Rattle.table.proofs.Promise.{rowCount}
 use Rattle.wire.proofs.Promise.{maxSize}
 use Rattle.store.proofs.Promise.{refuse, earlier, both-zero, countOf, lengthAnswer, orderAnswer, order-accepted}
-use Rattle.channel.specs.Answers.{sideAnswer}
+use Rattle.channel.specs.Answers.{channelRoomsAnswer}
 use Rattle.store.proofs.AnswerLaws.{passed}
 
 -- The rooms for what the peers have and want hold their rows, and the reply room a datagram.
-pub side-accepted : (L h w r : ℕ) → sideAnswer L h w r ≡ 0
+pub channel-rooms-accepted : (L h w r : ℕ) → channelRoomsAnswer L h w r ≡ 0
     → (rowCount * rowWords (countOf L) ≤ h) × (rowCount * rowWords (countOf L) ≤ w) × (maxSize ≤ r)
-unfolding sideAnswer
-side-accepted L h w r e =
+unfolding channelRoomsAnswer
+channel-rooms-accepted L h w r e =
     let p = passed (ltb h (rowCount * rowWords (countOf L))) 10 _ e in
     let q = passed (ltb w (rowCount * rowWords (countOf L))) 10 _ (p .1) in
     let s = passed (ltb r maxSize) 10 0 (q .1) in
     (ltb-false h (rowCount * rowWords (countOf L)) (p .0), ltb-false w (rowCount * rowWords (countOf L)) (q .0), ltb-false r maxSize (s .0))
 
 -- The length is within the limit, and the reply room holds a datagram.
-pub call-accepted : (L b m h t x y r : ℕ) → earlier (orderAnswer L b m h t) (sideAnswer L x y r) ≡ 0 → (lengthAnswer L ≡ 0) × (maxSize ≤ r)
+pub call-accepted : (L b m h t x y r : ℕ) → earlier (orderAnswer L b m h t) (channelRoomsAnswer L x y r) ≡ 0 → (lengthAnswer L ≡ 0) × (maxSize ≤ r)
 call-accepted L b m h t x y r e =
-    let p = both-zero (orderAnswer L b m h t) (sideAnswer L x y r) e in
-    (order-accepted L b m h t (p .0) .0, side-accepted L x y r (p .1) .2)
+    let p = both-zero (orderAnswer L b m h t) (channelRoomsAnswer L x y r) e in
+    (order-accepted L b m h t (p .0) .0, channel-rooms-accepted L x y r (p .1) .2)

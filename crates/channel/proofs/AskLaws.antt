@@ -10,27 +10,27 @@ use lib.ListN.{length}
 use Rattle.bits.proofs.Promise.{countBits, rowWords}
 use Rattle.store.proofs.Promise.{lengthAnswer}
 use Rattle.channel.specs.declared.state.State.{State}
-use Rattle.channel.specs.World.{lengthOf, chunksOf}
-use Rattle.channel.specs.Ask.{askedOf, askAnswer, countedUnless, askSpec}
+use Rattle.channel.specs.World.{orderLength, chunkCount}
+use Rattle.channel.specs.Ask.{askedOf, askNumber, countedUnless, askSpec}
 use Rattle.channel.proofs.RoomLaws.{earlier-not}
 
 -- ---- its number
 
 module _ (L N m : ℕ) {r : ℕ} (e : r ≡ lengthAnswer L) where
   -- The order's length is refused.
-  pub ask-length : r ≢ 0 → r ≡ askAnswer L N m
-  unfolding askAnswer
+  pub ask-length : r ≢ 0 → r ≡ askNumber L N m
+  unfolding askNumber
   ask-length d = e ∙ earlier-not (lengthAnswer L) _ (λ z. d (e ∙ z))
 
   module _ (z : r ≡ 0) {w : ℕ} (we : w ≡ rowWords N) where
     -- The map is too small.
-    pub ask-short : m < w → 11 ≡ askAnswer L N m
-    unfolding askAnswer
+    pub ask-short : m < w → 11 ≡ askNumber L N m
+    unfolding askNumber
     ask-short l = rw (sym e ∙ z, ← we, lt-ltb m w l)
 
     -- It is not.
-    pub ask-right : w ≤ m → 0 ≡ askAnswer L N m
-    unfolding askAnswer
+    pub ask-right : w ≤ m → 0 ≡ askNumber L N m
+    unfolding askNumber
     ask-right l = rw (sym e ∙ z, ← we, le-ltb m w l)
 
 -- ---- what it gives
@@ -40,15 +40,15 @@ counted-not : (n held N : ℕ) → n ≢ 0 → askedOf n 0 false ≡ countedUnle
 counted-not zero held N d = absurd (d refl)
 counted-not (suc n) held N d = refl
 
-module _ (st : State) (map : List ℕ) (N : ℕ) (ne : N ≡ chunksOf st) {n : ℕ} (e : n ≡ askAnswer (lengthOf st) N (length map)) where
+module _ (st : State) (map : List ℕ) (N : ℕ) (ne : N ≡ chunkCount st) {n : ℕ} (e : n ≡ askNumber (orderLength st) N (length map)) where
   -- The number that the code found is the one given back.
-  number-is : n ≡ askAnswer (lengthOf st) (chunksOf st) (length map)
-  number-is = e ∙ ap (λ (x : ℕ). askAnswer (lengthOf st) x (length map)) ne
+  number-is : n ≡ askNumber (orderLength st) (chunkCount st) (length map)
+  number-is = e ∙ ap (λ (x : ℕ). askNumber (orderLength st) x (length map)) ne
 
   -- A refused call counts nothing.
   pub ask-refused : n ≢ 0 → askedOf n 0 false ≡ askSpec st map
   unfolding askSpec
-  ask-refused d = rw (← number-is) (counted-not n (countBits map (chunksOf st)) (chunksOf st) d)
+  ask-refused d = rw (← number-is) (counted-not n (countBits map (chunkCount st)) (chunkCount st) d)
 
   -- Otherwise it counts the bits of all chunks.
   pub ask-counted : n ≡ 0 → (held : ℕ) → held ≡ countBits map N → askedOf 0 held (eqb held N) ≡ askSpec st map

@@ -15,11 +15,11 @@ use Rattle.store.specs.Whole.{Whole}
 use Rattle.store.proofs.Promise.{Rooms, countOf, Roomy, Running, HangsIn, Alike, lengthAnswer, roomsAnswer, rootOf, both-zero, order-accepted, build-accepted, start-zero, started-running, build-zero, built-running, content-root, running-hangs, whole-alike}
 use Rattle.store.specs.declared.calls.Order.{Order}
 use Rattle.channel.specs.declared.state.State.{State}
-use Rattle.channel.specs.World.{World, lengthOf, chunksOf}
-use Rattle.channel.specs.Answers.{worldAnswer}
-use Rattle.channel.specs.Begin.{freshChannels, startSpec, packAnswer, buildSpec}
-use Rattle.channel.specs.Ask.{Asked, askedOf, askAnswer, askSpec}
-use Rattle.channel.specs.Run.{Call, run, Begun, fresh, built}
+use Rattle.channel.specs.World.{World, orderLength, chunkCount}
+use Rattle.channel.specs.Answers.{allRoomsAnswer}
+use Rattle.channel.specs.Starting.{freshChannels, startSpec, buildNumber, buildSpec}
+use Rattle.channel.specs.Ask.{Asked, askedOf, askNumber, askSpec}
+use Rattle.channel.specs.Run.{Call, run, FreshOrBuilt, fresh, built}
 use Rattle.channel.specs.Demand.{rootIn, lengthIn, chunksIn, ask, BothWhole, Demand}
 use Rattle.channel.proofs.OutLaws.{unless-zero, unless-done}
 use Rattle.channel.proofs.RunLaws.{Under, run-order, run-under, run-map, run-bytes}
@@ -35,7 +35,7 @@ record Ready (w : World) : Type 0 where
 fresh-ready : (w : World) (o : Order) → Digest (bytesOf (o .root .words)) → startSpec w o .answer ≡ 0 → Ready (startSpec w o .after)
 unfolding startSpec freshChannels
 fresh-ready w o d e =
-    let z = unless-zero (worldAnswer (o .length) w) w _ e .0 in
+    let z = unless-zero (allRoomsAnswer (o .length) w) w _ e .0 in
     let p = both-zero (roomsAnswer (o .length) (w .rooms)) _ z in
     let q = order-accepted (o .length) _ _ _ _ (p .0) in
     rw z (record {
@@ -58,7 +58,7 @@ root-back s =
 built-ready : (w : World) (L : ℕ) (s : List ℕ) → buildSpec w L s .answer ≡ 0 → Ready (buildSpec w L s .after)
 unfolding buildSpec freshChannels
 built-ready w L s e =
-    let z = unless-zero (packAnswer w L s) w _ e .0 in
+    let z = unless-zero (buildNumber w L s) w _ e .0 in
     let p = both-zero _ _ z in
     let q = build-accepted L _ _ _ _ _ (p .0) in
     let g = built-running (w .rooms) L s (build-zero (w .rooms) L s (p .0)) in
@@ -67,17 +67,17 @@ built-ready w L s e =
       under = record { long = refl; root = refl; running = rw (root-back s) (g .1) };
     })
 
-begun-ready : (w : World) → Begun w → Ready w
-begun-ready _ (fresh w o d e) = fresh-ready w o d e
-begun-ready _ (built w L s e) = built-ready w L s e
+fresh-or-built-ready : (w : World) → FreshOrBuilt w → Ready w
+fresh-or-built-ready _ (fresh w o d e) = fresh-ready w o d e
+fresh-or-built-ready _ (built w L s e) = built-ready w L s e
 
 -- ---- asking
 
 -- Of a store whose length is within the limit and whose map is large enough.
-asked : (st : State) (map : List ℕ) → lengthAnswer (lengthOf st) ≡ 0 → rowWords (chunksOf st) ≤ length map
-    → askSpec st map ≡ askedOf 0 (countBits map (chunksOf st)) (eqb (countBits map (chunksOf st)) (chunksOf st))
-unfolding askSpec askAnswer
-asked st map e h = rw (e, le-ltb (length map) (rowWords (chunksOf st)) h)
+asked : (st : State) (map : List ℕ) → lengthAnswer (orderLength st) ≡ 0 → rowWords (chunkCount st) ≤ length map
+    → askSpec st map ≡ askedOf 0 (countBits map (chunkCount st)) (eqb (countBits map (chunkCount st)) (chunkCount st))
+unfolding askSpec askNumber
+asked st map e h = rw (e, le-ltb (length map) (rowWords (chunkCount st)) h)
 
 module _ (w : World) (ready : Ready w) where
   asked-here : ask w ≡ askedOf 0 (countBits (w .rooms .map) (chunksIn w)) (eqb (countBits (w .rooms .map) (chunksIn w)) (chunksIn w))
@@ -115,7 +115,7 @@ module _ (w : World) (ks : List Call) (ready : Ready w) where
     under = record { long = refl; root = refl; running = rw (end .long, end .root) (end .running) };
   }
 
-pub demand-3 : (w : World) (ks : List Call) → Begun w → Demand w ks
+pub demand-3 : (w : World) (ks : List Call) → FreshOrBuilt w → Demand w ks
 demand-3 w ks b = record {
   order-stays = run-order w ks;
   map-exactly = λ x l. run-map L r x l ks w u;
@@ -135,21 +135,21 @@ demand-3 w ks b = record {
     r = rootIn w
 
     u : Under (lengthIn w) (rootIn w) w
-    u = begun-ready w b .under
+    u = fresh-or-built-ready w b .under
 
     e : Under (lengthIn w) (rootIn w) (run w ks)
-    e = end w ks (begun-ready w b)
+    e = end w ks (fresh-or-built-ready w b)
 
     m : Ready (run w ks)
-    m = end-ready w ks (begun-ready w b)
+    m = end-ready w ks (fresh-or-built-ready w b)
 
     here : ask (run w ks) ≡ askedOf 0 (countBits (run w ks .rooms .map) (chunksIn (run w ks))) (eqb (countBits (run w ks .rooms .map) (chunksIn (run w ks))) (chunksIn (run w ks)))
     here = asked-here (run w ks) m
 
     both : (v : World) (js : List Call) → BothWhole w ks v js → Alike (lengthIn w) (run w ks .rooms) (run v js .rooms)
     both v js p =
-        let f = end v js (begun-ready v (p .begun)) in
+        let f = end v js (fresh-or-built-ready v (p .fresh-or-built)) in
         whole-alike (lengthIn w) (rootIn w) (run w ks .rooms) (run v js .rooms) (e .running)
         (running-at (run v js .rooms) (p .same-length) (p .same-root) (f .running))
         (whole-at (run w ks .rooms) (e .long) (called-whole (run w ks) m (p .first-whole)))
-        (whole-at (run v js .rooms) (f .long ∙ p .same-length) (called-whole (run v js) (end-ready v js (begun-ready v (p .begun))) (p .second-whole)))
+        (whole-at (run v js .rooms) (f .long ∙ p .same-length) (called-whole (run v js) (end-ready v js (fresh-or-built-ready v (p .fresh-or-built))) (p .second-whole)))

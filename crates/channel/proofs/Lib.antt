@@ -4,7 +4,7 @@ pub mod AcceptLaws
 pub mod RoomLaws
 pub mod AskLaws
 pub mod WriteLaws
-pub mod BeginLaws
+pub mod StartLaws
 pub mod OpenLaws
 pub mod TakeLaws
 pub mod StepLaws

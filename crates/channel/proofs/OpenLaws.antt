@@ -13,7 +13,7 @@ use Rattle.table.specs.declared.rows.Row.{Row}
 use Rattle.table.specs.declared.rows.Table.{Table}
 use Rattle.store.proofs.Promise.{earlier, both-zero}
 use Rattle.channel.specs.declared.state.State.{State}
-use Rattle.channel.specs.World.{Channels, channelsOf, World, Out, outOf, beside, chunksOf, rowsOf, rowStart, clearedRow}
+use Rattle.channel.specs.World.{Channels, channelsOf, World, Out, outOf, beside, chunkCount, tableRows, rowStart, clearedRow}
 use Rattle.channel.specs.Opening.{callingRow, ourHandshake, occupied, openNumber, openSpec}
 use Rattle.channel.proofs.OutLaws.{unless-not, unless-done}
 
@@ -30,7 +30,7 @@ row-cleared ws N i w e p = p ∙ ap (λ (x : ℕ). clearWords ws (x * i) (x * i 
 
 -- A row taken for a channel, room by room.
 pub occupied-is : (st : State) (has wants reply : List ℕ) (r : Row) {n i len : ℕ} {t : Table} {h w p : List ℕ}
-    → n ≡ chunksOf st → i ≡ lowestFree (rowsOf st) → h ≡ clearedRow n i has → w ≡ clearedRow n i wants
+    → n ≡ chunkCount st → i ≡ lowestFree (tableRows st) → h ≡ clearedRow n i has → w ≡ clearedRow n i wants
     → len ≡ length (ourHandshake st r) → p ≡ placed reply 0 (ourHandshake st r) → t ≡ withRow (st .table) i r
     → outOf 0 len (channelsOf (record { order = st .order; table = t }) h w p) ≡ occupied (channelsOf st has wants reply) r
 unfolding occupied

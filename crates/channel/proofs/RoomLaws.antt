@@ -10,7 +10,7 @@ use Rattle.bits.proofs.Promise.{rowWords, row-words}
 use Rattle.table.proofs.Promise.{rowCount}
 use Rattle.wire.proofs.Promise.{maxSize}
 use Rattle.store.proofs.Promise.{refuse, earlier, countOf}
-use Rattle.channel.specs.Answers.{sideAnswer}
+use Rattle.channel.specs.Answers.{channelRoomsAnswer}
 
 -- Of two numbers the first counts if it refuses.
 pub earlier-not : (m n : ℕ) → m ≢ 0 → m ≡ earlier m n
@@ -30,31 +30,31 @@ rows-small n w e l = omega (arith, row-words n)
 
 module _ (L has wants reply n w : ℕ) (ne : n ≡ countOf L) (we : w ≡ rowWords n) where
   -- The room for what peers have is too small.
-  pub has-short : has < rowCount * w → 11 ≡ sideAnswer L has wants reply
-  unfolding sideAnswer
+  pub has-short : has < rowCount * w → 11 ≡ channelRoomsAnswer L has wants reply
+  unfolding channelRoomsAnswer
   has-short l = rw (← ne, ← we, lt-ltb has (rowCount * w) l)
 
   module _ (h : rowCount * w ≤ has) where
     -- The room for what they want is too small.
-    pub wants-short : wants < rowCount * w → 11 ≡ sideAnswer L has wants reply
-    unfolding sideAnswer
+    pub wants-short : wants < rowCount * w → 11 ≡ channelRoomsAnswer L has wants reply
+    unfolding channelRoomsAnswer
     wants-short l = rw (← ne, ← we, le-ltb has (rowCount * w) h, lt-ltb wants (rowCount * w) l)
 
     module _ (k : rowCount * w ≤ wants) where
       -- The reply room is too small.
-      pub reply-short : reply < maxSize → 11 ≡ sideAnswer L has wants reply
-      unfolding sideAnswer
+      pub reply-short : reply < maxSize → 11 ≡ channelRoomsAnswer L has wants reply
+      unfolding channelRoomsAnswer
       reply-short l = rw (← ne, ← we, le-ltb has (rowCount * w) h, le-ltb wants (rowCount * w) k, lt-ltb reply maxSize l)
 
       -- None is.
-      pub sides-right : maxSize ≤ reply → 0 ≡ sideAnswer L has wants reply
-      unfolding sideAnswer
+      pub sides-right : maxSize ≤ reply → 0 ≡ channelRoomsAnswer L has wants reply
+      unfolding channelRoomsAnswer
       sides-right l = rw (← ne, ← we, le-ltb has (rowCount * w) h, le-ltb wants (rowCount * w) k, le-ltb reply maxSize l)
 
 -- The number 0: the reply room has room for a datagram.
-pub sides-accepted : (L has wants reply : ℕ) → sideAnswer L has wants reply ≡ 0 → maxSize ≤ reply
-unfolding sideAnswer
-sides-accepted L has wants reply e =
+pub reply-accepted : (L has wants reply : ℕ) → channelRoomsAnswer L has wants reply ≡ 0 → maxSize ≤ reply
+unfolding channelRoomsAnswer
+reply-accepted L has wants reply e =
     let p = passed (ltb has (rowCount * rowWords (countOf L))) 10 _ e in
     let q = passed (ltb wants (rowCount * rowWords (countOf L))) 10 _ (p .1) in
     let r = passed (ltb reply maxSize) 10 _ (q .1) in

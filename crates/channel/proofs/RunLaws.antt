@@ -8,10 +8,9 @@ use borrow.Author.Tests.{eqb-true}
 use lib.Dec.{eqb}
 use Rattle.bits.proofs.Promise.{bitAt}
 use Rattle.tree.specs.Pick.{pick}
-use Rattle.tree.specs.Verdicts.{isThere, orElse}
 use Rattle.store.proofs.Promise.{Rooms, Integrity, countOf, chunkIn, Running, takeSpec, taken-running, taken-map, taken-bytes}
-use Rattle.channel.specs.World.{World, rootOf, lengthOf}
-use Rattle.channel.specs.Run.{Call, step, run, brings, orNext, firstBrought}
+use Rattle.channel.specs.World.{World, orderRoot, orderLength}
+use Rattle.channel.specs.Run.{Call, step, run, brings, orNext, firstBrought, wasBrought, broughtBytes}
 use Rattle.channel.proofs.StepLaws.{step-order, Moved, stays, takes, step-moved}
 
 -- The order stays.
@@ -21,8 +20,8 @@ run-order w (k ∷ ks) = run-order (step w k) ks ∙ step-order w k
 
 -- A running store under root r and length L.
 pub record Under (L : ℕ) (r : List ℕ) (w : World) : Type 0 where
-  pub long : lengthOf (w .channels .state) ≡ L
-  pub root : rootOf (w .channels .state) ≡ r
+  pub long : orderLength (w .channels .state) ≡ L
+  pub root : orderRoot (w .channels .state) ≡ r
   pub running : Running L r (w .rooms)
 
 module _ (L : ℕ) (r : List ℕ) where
@@ -56,7 +55,7 @@ module _ (L : ℕ) (r : List ℕ) where
   module _ (x : ℕ) (inside : x < countOf L) where
     -- The map: what it had, and what was brought.
     pub run-map : (ks : List Call) (w : World) → Under L r w
-        → bitAt (run w ks .rooms .map) x ≡ pick (bitAt (w .rooms .map) x) true (isThere (firstBrought w ks x))
+        → bitAt (run w ks .rooms .map) x ≡ pick (bitAt (w .rooms .map) x) true (wasBrought (firstBrought w ks x))
     run-map [] w u = go (bitAt (w .rooms .map) x)
       where
         go : (b : Bool) → b ≡ pick b true false
@@ -67,19 +66,19 @@ module _ (L : ℕ) (r : List ℕ) where
         later : Option (List ℕ)
         later = firstBrought (step w k) ks x
 
-        by : (c : ℕ) (d : List ℕ) (t b : Bool) → pick (pick t true b) true (isThere later) ≡ pick b true (isThere (orNext (pick t (some d) none) later))
+        by : (c : ℕ) (d : List ℕ) (t b : Bool) → pick (pick t true b) true (wasBrought later) ≡ pick b true (wasBrought (orNext (pick t (some d) none) later))
         by c d true true = refl
         by c d true false = refl
         by c d false b = refl
 
         go : Shift w (step w k .rooms) (brings w k)
-            → pick (bitAt (step w k .rooms .map) x) true (isThere later) ≡ pick (bitAt (w .rooms .map) x) true (isThere (orNext (brings w k x) later))
+            → pick (bitAt (step w k .rooms .map) x) true (wasBrought later) ≡ pick (bitAt (w .rooms .map) x) true (wasBrought (orNext (brings w k x) later))
         go (still e n) = rw (e, n x)
         go (adds c d o z e n) = rw (e, n x, taken-map (w .rooms) r L c d o z x inside) (by c d (eqb x c) (bitAt (w .rooms .map) x))
 
     -- The bytes: those it had, or the first that were brought.
     pub run-bytes : (ks : List Call) (w : World) → Under L r w → bitAt (run w ks .rooms .map) x ≡ true
-        → chunkIn L (run w ks .rooms .bytes) x ≡ pick (bitAt (w .rooms .map) x) (chunkIn L (w .rooms .bytes) x) (orElse [] (firstBrought w ks x))
+        → chunkIn L (run w ks .rooms .bytes) x ≡ pick (bitAt (w .rooms .map) x) (chunkIn L (w .rooms .bytes) x) (broughtBytes (firstBrought w ks x))
     run-bytes [] w u h = rw h
     run-bytes (k ∷ ks) w u h = run-bytes ks (step w k) (step-under w u k) h ∙ go (shift w u (step-moved w k))
       where
@@ -87,7 +86,7 @@ module _ (L : ℕ) (r : List ℕ) where
         later = firstBrought (step w k) ks x
 
         by : (c : ℕ) (d p : List ℕ) (t b m : Bool) → (t ≡ true → m ≡ b)
-            → pick (pick t true b) (pick m p (pick t d p)) (orElse [] later) ≡ pick b p (orElse [] (orNext (pick t (some d) none) later))
+            → pick (pick t true b) (pick m p (pick t d p)) (broughtBytes later) ≡ pick b p (broughtBytes (orNext (pick t (some d) none) later))
         by c d p true true m q = rw (q refl)
         by c d p true false m q = rw (q refl)
         by c d p false true true q = refl
@@ -95,8 +94,8 @@ module _ (L : ℕ) (r : List ℕ) where
         by c d p false false m q = refl
 
         go : Shift w (step w k .rooms) (brings w k)
-            → pick (bitAt (step w k .rooms .map) x) (chunkIn L (step w k .rooms .bytes) x) (orElse [] later)
-            ≡ pick (bitAt (w .rooms .map) x) (chunkIn L (w .rooms .bytes) x) (orElse [] (orNext (brings w k x) later))
+            → pick (bitAt (step w k .rooms .map) x) (chunkIn L (step w k .rooms .bytes) x) (broughtBytes later)
+            ≡ pick (bitAt (w .rooms .map) x) (chunkIn L (w .rooms .bytes) x) (broughtBytes (orNext (brings w k x) later))
         go (still e n) = rw (e, n x)
         go (adds c d o z e n) =
             rw (e, n x, taken-map (w .rooms) r L c d o z x inside, taken-bytes (w .rooms) r L c d o z x inside)

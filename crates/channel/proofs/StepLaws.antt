@@ -13,14 +13,14 @@ use Rattle.wire.specs.declared.layout.Layout.{Layout}
 use Rattle.wire.specs.declared.layout.Layout.the-variants.{Fault, HandshakeAlone, Messages, MessagesAndData}
 use Rattle.wire.specs.declared.message.Options.{Options}
 use Rattle.writer.proofs.Promise.{within}
-use Rattle.store.proofs.Promise.{Rooms, Integrity, Out as Stored, takeSpec as storeTake}
+use Rattle.store.proofs.Promise.{Rooms, Integrity, Out as StoreOut, takeSpec as storeTake}
 use Rattle.store.specs.declared.calls.Order.{Order}
 use Rattle.table.specs.declared.rows.Row.{Row}
 use Rattle.table.proofs.Promise.{handshakeAnswer}
-use Rattle.channel.specs.World.{Channels, World, Out, outOf, unless, beside, rowsOf, rootOf, lengthOf}
-use Rattle.channel.specs.Answers.{ownAnswer}
+use Rattle.channel.specs.World.{Channels, World, Out, outOf, unless, beside, tableRows, orderRoot, orderLength}
+use Rattle.channel.specs.Answers.{ownRoomsAnswer}
 use Rattle.channel.specs.Opening.{callingRow, openedRow, occupied, openNumber, openSpec}
-use Rattle.channel.specs.Take.{ours, handshakeTaken, messagesNumber, marked, messagesTaken, stored, storing, dataTaken, byLayout, takeSpec}
+use Rattle.channel.specs.Take.{ours, handshakeTaken, messagesNumber, affected, messagesTaken, dataBy, storeOut, dataTaken, byLayout, takeSpec}
 use Rattle.channel.specs.Write.{writeNumber, writeSpec}
 use Rattle.channel.specs.Run.{Call, opening, taking, writing, asking, lend, step, dataFor, brings}
 use Rattle.channel.proofs.OutLaws.{unless-keeps}
@@ -51,22 +51,22 @@ pick-order false ch x y p q = q
 handshake-order : (ch : Channels) (id : ℕ) (s : List ℕ) (a : ℕ) (o : Options) → orderIn (handshakeTaken ch id s a o .after) ≡ orderIn ch
 unfolding handshakeTaken
 handshake-order ch id s a o =
-    unless-keeps orderIn (handshakeAnswer (rowsOf (ch .state)) (be32 s 0) a (ours (rootOf (ch .state)) s o) id) ch _
+    unless-keeps orderIn (handshakeAnswer (tableRows (ch .state)) (be32 s 0) a (ours (orderRoot (ch .state)) s o) id) ch _
     (pick-order (eqb (be32 s 0) 0) ch (occupied ch (openedRow id a)) _ (occupied-order ch (openedRow id a)) refl)
 
-marked-order : (ch : Channels) (s : List ℕ) → orderIn (marked ch s) ≡ orderIn ch
-unfolding marked
-marked-order ch s = refl
+affected-order : (ch : Channels) (s : List ℕ) → orderIn (affected ch s) ≡ orderIn ch
+unfolding affected
+affected-order ch s = refl
 
 messages-order : (ch : Channels) (s : List ℕ) → orderIn (messagesTaken ch s .after) ≡ orderIn ch
 unfolding messagesTaken
-messages-order ch s = unless-keeps orderIn (messagesNumber (ch .state) s) ch (outOf 0 0 (marked ch s)) (marked-order ch s)
+messages-order ch s = unless-keeps orderIn (messagesNumber (ch .state) s) ch (outOf 0 0 (affected ch s)) (affected-order ch s)
 
 data-order : (w : World) (clock : ℕ) (s es : List ℕ) (c x b n : ℕ) → orderOf (dataTaken w clock s es c x b n .after) ≡ orderOf w
-unfolding dataTaken stored
+unfolding dataTaken dataBy
 data-order w clock s es c x b n =
     unless-keeps orderOf (messagesNumber (w .channels .state) s) w _
-    (unless-keeps orderOf (storing w s es c b n .answer) w _ (marked-order (w .channels) s))
+    (unless-keeps orderOf (storeOut w s es c b n .answer) w _ (affected-order (w .channels) s))
 
 layout-order : (w : World) (clock id : ℕ) (s : List ℕ) (l : Layout) → orderOf (byLayout w clock id s l .after) ≡ orderOf w
 unfolding byLayout
@@ -77,7 +77,7 @@ layout-order w clock id s (MessagesAndData c x b n k) = data-order w clock s (la
 
 take-order : (w : World) (clock id : ℕ) (s : List ℕ) → orderOf (takeSpec w clock id s .after) ≡ orderOf w
 unfolding takeSpec
-take-order w clock id s = unless-keeps orderOf (ownAnswer w) w (byLayout w clock id s (layoutOf s .layout)) (layout-order w clock id s (layoutOf s .layout))
+take-order w clock id s = unless-keeps orderOf (ownRoomsAnswer w) w (byLayout w clock id s (layoutOf s .layout)) (layout-order w clock id s (layoutOf s .layout))
 
 write-order : (w : World) (id c clock : ℕ) → orderOf (writeSpec w id c clock .after) ≡ orderOf w
 unfolding writeSpec
@@ -96,8 +96,8 @@ step-order w asking = refl
 pub data Moved (w : World) (after : Rooms) (brought : ℕ → Option (List ℕ)) : Type 0 where
   stays : after ≡ w .rooms → ((x : ℕ) → brought x ≡ none) → Moved w after brought
   takes : (c : ℕ) (d : List ℕ) (o : Integrity)
-      → storeTake (w .rooms) (rootOf (w .channels .state)) (lengthOf (w .channels .state)) c d o .answer ≡ 0
-      → after ≡ storeTake (w .rooms) (rootOf (w .channels .state)) (lengthOf (w .channels .state)) c d o .rooms
+      → storeTake (w .rooms) (orderRoot (w .channels .state)) (orderLength (w .channels .state)) c d o .answer ≡ 0
+      → after ≡ storeTake (w .rooms) (orderRoot (w .channels .state)) (orderLength (w .channels .state)) c d o .rooms
       → ((x : ℕ) → brought x ≡ pick (eqb x c) (some d) none) → Moved w after brought
 
 pick-same : (b : Bool) (o : Option (List ℕ)) → pick b o o ≡ o
@@ -113,16 +113,16 @@ without : (w : World) (out : Out World) → out .after .rooms ≡ w .rooms → M
 without w out e = stays e (λ x. pick-same (eqb (out .answer) 0) none)
 
 module _ (w : World) (clock : ℕ) (s es : List ℕ) (c t b n : ℕ) where
-  stored-moved : (a : ℕ) → storing w s es c b n .answer ≡ a
-      → Moved w (stored w clock s c t (storing w s es c b n) .after .rooms) (λ x. pick (eqb (stored w clock s c t (storing w s es c b n) .answer) 0) (pick (eqb x c) (some (within s b n)) none) none)
-  unfolding stored
-  stored-moved zero e = rw e (takes c (within s b n) _ e refl (λ x. refl))
-  stored-moved (suc m) e = rw e (stays refl (λ x. refused-none m (pick (eqb x c) (some (within s b n)) none)))
+  data-by-moved : (a : ℕ) → storeOut w s es c b n .answer ≡ a
+      → Moved w (dataBy w clock s c t (storeOut w s es c b n) .after .rooms) (λ x. pick (eqb (dataBy w clock s c t (storeOut w s es c b n) .answer) 0) (pick (eqb x c) (some (within s b n)) none) none)
+  unfolding dataBy
+  data-by-moved zero e = rw e (takes c (within s b n) _ e refl (λ x. refl))
+  data-by-moved (suc m) e = rw e (stays refl (λ x. refused-none m (pick (eqb x c) (some (within s b n)) none)))
 
   data-moved : (m : ℕ)
-      → Moved w (unless m w (stored w clock s c t (storing w s es c b n)) .after .rooms)
-      (λ x. pick (eqb (unless m w (stored w clock s c t (storing w s es c b n)) .answer) 0) (pick (eqb x c) (some (within s b n)) none) none)
-  data-moved zero = stored-moved (storing w s es c b n .answer) refl
+      → Moved w (unless m w (dataBy w clock s c t (storeOut w s es c b n)) .after .rooms)
+      (λ x. pick (eqb (unless m w (dataBy w clock s c t (storeOut w s es c b n)) .answer) 0) (pick (eqb x c) (some (within s b n)) none) none)
+  data-moved zero = data-by-moved (storeOut w s es c b n .answer) refl
   data-moved (suc m) = stays refl (λ x. refused-none m (pick (eqb x c) (some (within s b n)) none))
 
 layout-moved : (w : World) (clock id : ℕ) (s : List ℕ) (l : Layout)
@@ -136,7 +136,7 @@ layout-moved w clock id s (MessagesAndData c x b n k) = data-moved w clock s (la
 take-moved : (w : World) (clock id : ℕ) (s : List ℕ)
     → Moved w (takeSpec w clock id s .after .rooms) (λ x. pick (eqb (takeSpec w clock id s .answer) 0) (dataFor x s (layoutOf s .layout)) none)
 unfolding takeSpec
-take-moved w clock id s = go (ownAnswer w)
+take-moved w clock id s = go (ownRoomsAnswer w)
   where
     go : (n : ℕ) → Moved w (unless n w (byLayout w clock id s (layoutOf s .layout)) .after .rooms)
         (λ x. pick (eqb (unless n w (byLayout w clock id s (layoutOf s .layout)) .answer) 0) (dataFor x s (layoutOf s .layout)) none)

@@ -20,17 +20,17 @@ use Rattle.wire.specs.declared.message.Options.the-variants.{Fixed, EndOnly, Ot
 use Rattle.wire.specs.declared.layout.Layout.{Layout}
 use Rattle.wire.specs.declared.layout.Layout.the-variants.{Fault, HandshakeAlone, Messages, MessagesAndData}
 use Rattle.writer.proofs.Promise.{within, readAll}
-use Rattle.effects.proofs.Promise.{anyPast, Marks, marksOf, effects}
+use Rattle.effects.proofs.Promise.{anyPast, Peer, peerOf, effects}
 use Rattle.replies.proofs.Promise.{ackReply}
 use Rattle.table.proofs.Promise.{rowCount, rowOf, rowAt, withRow, rowAfter, messagesAnswer, handshakeAnswer}
 use Rattle.table.specs.declared.rows.Row.{Row}
 use Rattle.table.specs.declared.rows.Table.{Table}
-use Rattle.store.proofs.Promise.{Out as Stored, outOf as storedOf, earlier, Rooms, countOf, lengthAnswer, length-accepted, integrityOf, takeSpec as storeTake, refused-same}
+use Rattle.store.proofs.Promise.{Out as StoreOut, outOf as storedOf, earlier, Rooms, countOf, lengthAnswer, length-accepted, integrityOf, takeSpec as storeTake, refused-same}
 use Rattle.channel.specs.declared.state.State.{State}
-use Rattle.channel.specs.World.{Channels, channelsOf, World, worldOf, Out, outOf, unless, beside, rootOf, lengthOf, chunksOf, rowsOf, putRow, rowBit}
-use Rattle.channel.specs.Answers.{ownAnswer}
+use Rattle.channel.specs.World.{Channels, channelsOf, World, worldOf, Out, outOf, unless, beside, orderRoot, orderLength, chunkCount, tableRows, putRow, rowBit}
+use Rattle.channel.specs.Answers.{ownRoomsAnswer}
 use Rattle.channel.specs.Opening.{openedRow, occupied}
-use Rattle.channel.specs.Take.{rowFor, ours, handshakeTaken, messagesNumber, markedRow, marked, messagesTaken, delay, acknowledgement, replied, stored, storing, dataTaken, byLayout, takeSpec}
+use Rattle.channel.specs.Take.{rowFor, ours, handshakeTaken, messagesNumber, withMark, affected, messagesTaken, delay, acknowledgement, replied, dataBy, storeOut, dataTaken, byLayout, takeSpec}
 use Rattle.channel.proofs.OutLaws.{unless-not, unless-done}
 
 -- ---- the options
@@ -67,9 +67,9 @@ module _ (root s : List ℕ) {o : Options} where
 
 -- ---- a HANDSHAKE
 
-module _ (ch : Channels) (id : ℕ) (s : List ℕ) (a : ℕ) (o : Options) {to k : ℕ} {b : Bool} (te : to ≡ be32 s 0) (be : b ≡ ours (rootOf (ch .state)) s o)
-    (ke : k ≡ handshakeAnswer (rowsOf (ch .state)) to a b id) where
-  number-is : k ≡ handshakeAnswer (rowsOf (ch .state)) (be32 s 0) a (ours (rootOf (ch .state)) s o) id
+module _ (ch : Channels) (id : ℕ) (s : List ℕ) (a : ℕ) (o : Options) {to k : ℕ} {b : Bool} (te : to ≡ be32 s 0) (be : b ≡ ours (orderRoot (ch .state)) s o)
+    (ke : k ≡ handshakeAnswer (tableRows (ch .state)) to a b id) where
+  number-is : k ≡ handshakeAnswer (tableRows (ch .state)) (be32 s 0) a (ours (orderRoot (ch .state)) s o) id
   number-is = rw (← te, ← be) ke
 
   -- A refused one leaves all as it was.
@@ -79,7 +79,7 @@ module _ (ch : Channels) (id : ℕ) (s : List ℕ) (a : ℕ) (o : Options) {to k
 
   -- One that is not refused opens a channel or changes its row.
   taken : k ≡ 0 → {out : Out Channels}
-      → out ≡ pick (eqb (be32 s 0) 0) (occupied ch (openedRow id a)) (outOf 0 0 (channelsOf (putRow (ch .state) (rowFor (ch .state) s) (rowAfter (rowAt (rowsOf (ch .state)) (rowFor (ch .state) s)) a)) (ch .has) (ch .wants) (ch .reply)))
+      → out ≡ pick (eqb (be32 s 0) 0) (occupied ch (openedRow id a)) (outOf 0 0 (channelsOf (putRow (ch .state) (rowFor (ch .state) s) (rowAfter (rowAt (tableRows (ch .state)) (rowFor (ch .state) s)) a)) (ch .has) (ch .wants) (ch .reply)))
       → out ≡ handshakeTaken ch id s a o
   unfolding handshakeTaken
   taken z p = p ∙ unless-done _ ch _ (sym number-is ∙ z)
@@ -89,7 +89,7 @@ module _ (ch : Channels) (id : ℕ) (s : List ℕ) (a : ℕ) (o : Options) {to k
   handshake-opens z e p = taken z (p ∙ rw (eq-eqb (be32 s 0) 0 (sym te ∙ e)))
 
   -- One to a row in use changes that row.
-  pub handshake-changes : k ≡ 0 → to ≢ 0 → {i : ℕ} {r q : Row} {t : Table} → i ≡ rowOf (rowsOf (ch .state)) to → r ≡ rowAt (rowsOf (ch .state)) i → q ≡ rowAfter r a
+  pub handshake-changes : k ≡ 0 → to ≢ 0 → {i : ℕ} {r q : Row} {t : Table} → i ≡ rowOf (tableRows (ch .state)) to → r ≡ rowAt (tableRows (ch .state)) i → q ≡ rowAfter r a
       → t ≡ withRow (ch .state .table) i q
       → outOf 0 0 (channelsOf (record { order = ch .state .order; table = t }) (ch .has) (ch .wants) (ch .reply)) ≡ handshakeTaken ch id s a o
   handshake-changes z d ie re qe we = taken z (rw (ne-eqb (be32 s 0) 0 (λ e. d (te ∙ e)), we, qe, re, ie, te))
@@ -97,21 +97,21 @@ module _ (ch : Channels) (id : ℕ) (s : List ℕ) (a : ℕ) (o : Options) {to k
 -- ---- the number of messages
 
 module _ (st : State) (s : List ℕ) {to k : ℕ} {alive : Bool} (te : to ≡ be32 s 0) (ae : alive ≡ eqb (length s) minSize)
-    (ke : k ≡ messagesAnswer (rowsOf st) to alive) where
-  table-number : k ≡ messagesAnswer (rowsOf st) (be32 s 0) (eqb (length s) minSize)
+    (ke : k ≡ messagesAnswer (tableRows st) to alive) where
+  table-number : k ≡ messagesAnswer (tableRows st) (be32 s 0) (eqb (length s) minSize)
   table-number = rw (← te, ← ae) ke
 
   -- 5 or 3.
   pub messages-table : k ≢ 0 → k ≡ messagesNumber st s
   unfolding messagesNumber
-  messages-table d = table-number ∙ first (messagesAnswer (rowsOf st) (be32 s 0) (eqb (length s) minSize)) _ (λ z. d (table-number ∙ z))
+  messages-table d = table-number ∙ first (messagesAnswer (tableRows st) (be32 s 0) (eqb (length s) minSize)) _ (λ z. d (table-number ∙ z))
     where
       first : (m n : ℕ) → m ≢ 0 → m ≡ earlier m n
       first zero n q = absurd (q refl)
       first (suc m) n q = refl
 
-  module _ (z : k ≡ 0) {n : ℕ} {b : Bool} (ne : n ≡ chunksOf st) (be : b ≡ anyPast n (readAll s)) where
-    past-is : anyPast (chunksOf st) (readAll s) ≡ b
+  module _ (z : k ≡ 0) {n : ℕ} {b : Bool} (ne : n ≡ chunkCount st) (be : b ≡ anyPast n (readAll s)) where
+    past-is : anyPast (chunkCount st) (readAll s) ≡ b
     past-is = sym (be ∙ ap (λ (x : ℕ). anyPast x (readAll s)) ne)
 
     -- 7.
@@ -137,33 +137,33 @@ base-small L {n} {w} {i} z ne we l =
     small b m = let k = mul-le-mul-left w l in (omega (arith, b .1, we), omega (arith, b .1, we, k), omega (arith, b .1, we, k))
 
 -- The channels after the effects, room by room.
-pub marked-is : (st : State) (has wants : List ℕ) (s : List ℕ) {to n w i : ℕ} {r : Row} {h v : List ℕ} {choked : Bool} {t : Table}
-    → to ≡ be32 s 0 → n ≡ chunksOf st → w ≡ rowWords n → i ≡ rowOf (rowsOf st) to → r ≡ rowAt (rowsOf st) i
-    → marksOf h v choked ≡ effects (32 * (w * i)) (readAll s) (marksOf has wants (r .choked))
-    → t ≡ withRow (st .table) i (markedRow r choked)
-    → channelsOf (record { order = st .order; table = t }) h v [] ≡ marked (channelsOf st has wants []) s
-unfolding marked
-marked-is st has wants s {to} {n} {w} {i} {r} {h} {v} {choked} {t} te ne we ie re me tte = rw (table-is, ap (λ (x : Marks). x .has) marks-are, ap (λ (x : Marks). x .wants) marks-are)
+pub affected-is : (st : State) (has wants : List ℕ) (s : List ℕ) {to n w i : ℕ} {r : Row} {h v : List ℕ} {choked : Bool} {t : Table}
+    → to ≡ be32 s 0 → n ≡ chunkCount st → w ≡ rowWords n → i ≡ rowOf (tableRows st) to → r ≡ rowAt (tableRows st) i
+    → peerOf h v choked ≡ effects (32 * (w * i)) (readAll s) (peerOf has wants (r .choked))
+    → t ≡ withRow (st .table) i (withMark r choked)
+    → channelsOf (record { order = st .order; table = t }) h v [] ≡ affected (channelsOf st has wants []) s
+unfolding affected
+affected-is st has wants s {to} {n} {w} {i} {r} {h} {v} {choked} {t} te ne we ie re me tte = rw (table-is, ap (λ (x : Peer). x .has) peer-is, ap (λ (x : Peer). x .wants) peer-is)
   where
     i-is : i ≡ rowFor st s
-    i-is = ie ∙ ap (rowOf (rowsOf st)) te
+    i-is = ie ∙ ap (rowOf (tableRows st)) te
 
-    r-is : r ≡ rowAt (rowsOf st) (rowFor st s)
-    r-is = re ∙ ap (rowAt (rowsOf st)) i-is
+    r-is : r ≡ rowAt (tableRows st) (rowFor st s)
+    r-is = re ∙ ap (rowAt (tableRows st)) i-is
 
-    w-is : w ≡ rowWords (chunksOf st)
+    w-is : w ≡ rowWords (chunkCount st)
     w-is = we ∙ ap rowWords ne
 
-    marks-are : marksOf h v choked ≡ effects (rowBit (chunksOf st) (rowFor st s)) (readAll s) (marksOf has wants (rowAt (rowsOf st) (rowFor st s) .choked))
-    marks-are = rw (← r-is, ← i-is, ← w-is) me
+    peer-is : peerOf h v choked ≡ effects (rowBit (chunkCount st) (rowFor st s)) (readAll s) (peerOf has wants (rowAt (tableRows st) (rowFor st s) .choked))
+    peer-is = rw (← r-is, ← i-is, ← w-is) me
 
-    table-is : t ≡ withRow (st .table) (rowFor st s) (markedRow (rowAt (rowsOf st) (rowFor st s)) (effects (rowBit (chunksOf st) (rowFor st s)) (readAll s) (marksOf has wants (rowAt (rowsOf st) (rowFor st s) .choked)) .choked))
-    table-is = rw (← marks-are, ← r-is, ← i-is) tte
+    table-is : t ≡ withRow (st .table) (rowFor st s) (withMark (rowAt (tableRows st) (rowFor st s)) (effects (rowBit (chunkCount st) (rowFor st s)) (readAll s) (peerOf has wants (rowAt (tableRows st) (rowFor st s) .choked)) .choked))
+    table-is = rw (← peer-is, ← r-is, ← i-is) tte
 
 -- The reply room has no part in the effects.
-pub marked-beside : (st st′ : State) (has wants h v reply s : List ℕ) → channelsOf st′ h v [] ≡ marked (channelsOf st has wants []) s → channelsOf st′ h v reply ≡ marked (channelsOf st has wants reply) s
-unfolding marked
-marked-beside st st′ has wants h v reply s e = ap (λ (ch : Channels). channelsOf (ch .state) (ch .has) (ch .wants) reply) e
+pub affected-beside : (st st′ : State) (has wants h v reply s : List ℕ) → channelsOf st′ h v [] ≡ affected (channelsOf st has wants []) s → channelsOf st′ h v reply ≡ affected (channelsOf st has wants reply) s
+unfolding affected
+affected-beside st st′ has wants h v reply s e = ap (λ (ch : Channels). channelsOf (ch .state) (ch .has) (ch .wants) reply) e
 
 -- ---- messages without DATA
 
@@ -172,7 +172,7 @@ module _ (ch : Channels) (s : List ℕ) {k : ℕ} (ke : k ≡ messagesNumber (ch
   unfolding messagesTaken
   messages-refused d = ap (λ (x : ℕ). outOf x 0 ch) ke ∙ unless-not _ ch _ (λ z. d (ke ∙ z))
 
-  pub messages-done : k ≡ 0 → {after : Channels} → after ≡ marked ch s → outOf 0 0 after ≡ messagesTaken ch s
+  pub messages-done : k ≡ 0 → {after : Channels} → after ≡ affected ch s → outOf 0 0 after ≡ messagesTaken ch s
   unfolding messagesTaken
   messages-done z e = ap (outOf 0 0) e ∙ unless-done _ ch _ (sym ke ∙ z)
 
@@ -184,15 +184,15 @@ delay-is clock x a b l e = omega arith
 
 -- To the peer of the row that the datagram goes to.
 pub ack-is : (st : State) (s : List ℕ) (clock c x : ℕ) (reply : List ℕ) {to i d len : ℕ} {r : Row} {p : List ℕ}
-    → to ≡ be32 s 0 → i ≡ rowOf (rowsOf st) to → r ≡ rowAt (rowsOf st) i → d ≡ delay clock x
+    → to ≡ be32 s 0 → i ≡ rowOf (tableRows st) to → r ≡ rowAt (tableRows st) i → d ≡ delay clock x
     → (len ≡ length (ackReply (r .peer) c c d)) × (p ≡ placed reply 0 (ackReply (r .peer) c c d))
     → (len ≡ length (acknowledgement st s clock c x)) × (p ≡ placed reply 0 (acknowledgement st s clock c x))
 ack-is st s clock c x reply te ie re de e = rw (← te, ← ie, ← re, ← de) e
 
 -- The effects, and a reply.
-replied-is : (ch : Channels) (s r : List ℕ) {st : State} {h v p : List ℕ} → channelsOf st h v [] ≡ marked (channelsOf (ch .state) (ch .has) (ch .wants) []) s
-    → p ≡ placed (ch .reply) 0 r → channelsOf st h v p ≡ replied (marked ch s) r
-unfolding marked
+replied-is : (ch : Channels) (s r : List ℕ) {st : State} {h v p : List ℕ} → channelsOf st h v [] ≡ affected (channelsOf (ch .state) (ch .has) (ch .wants) []) s
+    → p ≡ placed (ch .reply) 0 r → channelsOf st h v p ≡ replied (affected ch s) r
+unfolding affected
 replied-is ch s r e q = rw q (ap (λ (x : Channels). channelsOf (x .state) (x .has) (x .wants) (placed (ch .reply) 0 r)) e)
 
 -- ---- DATA
@@ -207,53 +207,53 @@ module _ (w : World) (clock : ℕ) (s es : List ℕ) (c x b n : ℕ) {k : ℕ} (
   data-refused d = ap (λ (y : ℕ). outOf y 0 w) ke ∙ unless-not _ w _ (λ z. d (ke ∙ z))
 
   module _ (z : k ≡ 0) {d : List ℕ} (de : d ≡ within s b n) {m : ℕ} {after : Rooms}
-      (me : storedOf m after ≡ storeTake (w .rooms) (rootOf (w .channels .state)) (lengthOf (w .channels .state)) c d (integrityOf es s)) where
-    out-is : storedOf m after ≡ storing w s es c b n
+      (me : storedOf m after ≡ storeTake (w .rooms) (orderRoot (w .channels .state)) (orderLength (w .channels .state)) c d (integrityOf es s)) where
+    out-is : storedOf m after ≡ storeOut w s es c b n
     out-is = rw (← de) me
 
-    settled : {out : Out World} → out ≡ stored w clock s c x (storing w s es c b n) → out ≡ dataTaken w clock s es c x b n
+    settled : {out : Out World} → out ≡ dataBy w clock s c x (storeOut w s es c b n) → out ≡ dataTaken w clock s es c x b n
     unfolding dataTaken
     settled e = e ∙ unless-done _ w _ (sym ke ∙ z)
 
     -- 8, 9 or 10: the store left its rooms as they were.
     pub data-unfit : m ≢ 0 → outOf m 0 (record { rooms = after; channels = w .channels }) ≡ dataTaken w clock s es c x b n
-    unfolding stored
+    unfolding dataBy
     data-unfit d =
         settled
-        (ap (λ (g : Rooms). outOf m 0 (record { rooms = g; channels = w .channels })) (ap (λ (o : Stored). o .rooms) out-is ∙ refused-same (w .rooms) _ _ c _ _ (λ q. d (ap (λ (o : Stored). o .answer) out-is ∙ q)))
-        ∙ ap (λ (y : ℕ). outOf y 0 w) (ap (λ (o : Stored). o .answer) out-is)
-        ∙ unless-not (storing w s es c b n .answer) w _ (λ q. d (ap (λ (o : Stored). o .answer) out-is ∙ q)))
+        (ap (λ (g : Rooms). outOf m 0 (record { rooms = g; channels = w .channels })) (ap (λ (o : StoreOut). o .rooms) out-is ∙ refused-same (w .rooms) _ _ c _ _ (λ q. d (ap (λ (o : StoreOut). o .answer) out-is ∙ q)))
+        ∙ ap (λ (y : ℕ). outOf y 0 w) (ap (λ (o : StoreOut). o .answer) out-is)
+        ∙ unless-not (storeOut w s es c b n .answer) w _ (λ q. d (ap (λ (o : StoreOut). o .answer) out-is ∙ q)))
 
-    -- Stored, and acknowledged.
+    -- StoreOut, and acknowledged.
     pub data-done : m ≡ 0 → {len : ℕ} {p h v : List ℕ} {st : State}
         → (len ≡ length (acknowledgement (w .channels .state) s clock c x)) × (p ≡ placed (w .channels .reply) 0 (acknowledgement (w .channels .state) s clock c x))
-        → channelsOf st h v [] ≡ marked (channelsOf (w .channels .state) (w .channels .has) (w .channels .wants) []) s
+        → channelsOf st h v [] ≡ affected (channelsOf (w .channels .state) (w .channels .has) (w .channels .wants) []) s
         → outOf 0 len (record { rooms = after; channels = channelsOf st h v p }) ≡ dataTaken w clock s es c x b n
-    unfolding stored
+    unfolding dataBy
     data-done q {len} {p} {h} {v} {st} a e =
         settled
-        (assembled len after (channelsOf st h v p) (a .0) (ap (λ (o : Stored). o .rooms) out-is) (replied-is (w .channels) s reply e (a .1))
-        ∙ unless-done (storing w s es c b n .answer) w _ (sym (ap (λ (o : Stored). o .answer) out-is) ∙ q))
+        (assembled len after (channelsOf st h v p) (a .0) (ap (λ (o : StoreOut). o .rooms) out-is) (replied-is (w .channels) s reply e (a .1))
+        ∙ unless-done (storeOut w s es c b n .answer) w _ (sym (ap (λ (o : StoreOut). o .answer) out-is) ∙ q))
       where
         reply : List ℕ
         reply = acknowledgement (w .channels .state) s clock c x
 
-        assembled : (l : ℕ) (g : Rooms) (ch : Channels) → l ≡ length reply → g ≡ storing w s es c b n .rooms → ch ≡ replied (marked (w .channels) s) reply
-            → outOf {W = World} 0 l (record { rooms = g; channels = ch }) ≡ outOf 0 (length reply) (record { rooms = storing w s es c b n .rooms; channels = replied (marked (w .channels) s) reply })
+        assembled : (l : ℕ) (g : Rooms) (ch : Channels) → l ≡ length reply → g ≡ storeOut w s es c b n .rooms → ch ≡ replied (affected (w .channels) s) reply
+            → outOf {W = World} 0 l (record { rooms = g; channels = ch }) ≡ outOf 0 (length reply) (record { rooms = storeOut w s es c b n .rooms; channels = replied (affected (w .channels) s) reply })
         assembled l g ch x y u = rw (x, y, u)
 
 -- ---- any datagram
 
 -- A refusal by 12 or 11.
-pub take-refused : (w : World) (clock id : ℕ) (s : List ℕ) {k : ℕ} → k ≡ ownAnswer w → k ≢ 0 → outOf k 0 w ≡ takeSpec w clock id s
+pub take-refused : (w : World) (clock id : ℕ) (s : List ℕ) {k : ℕ} → k ≡ ownRoomsAnswer w → k ≢ 0 → outOf k 0 w ≡ takeSpec w clock id s
 unfolding takeSpec
-take-refused w clock id s e d = ap (λ (x : ℕ). outOf x 0 w) e ∙ unless-not (ownAnswer w) w _ (λ z. d (e ∙ z))
+take-refused w clock id s e d = ap (λ (x : ℕ). outOf x 0 w) e ∙ unless-not (ownRoomsAnswer w) w _ (λ z. d (e ∙ z))
 
 -- Otherwise it goes by its layout.
-pub take-laid : (w : World) (clock id : ℕ) (s : List ℕ) {k : ℕ} {l : Layout} {out : Out World} → k ≡ ownAnswer w → k ≡ 0 → l ≡ layoutOf s .layout
+pub take-laid : (w : World) (clock id : ℕ) (s : List ℕ) {k : ℕ} {l : Layout} {out : Out World} → k ≡ ownRoomsAnswer w → k ≡ 0 → l ≡ layoutOf s .layout
     → out ≡ byLayout w clock id s l → out ≡ takeSpec w clock id s
 unfolding takeSpec
-take-laid w clock id s e z le p = p ∙ ap (byLayout w clock id s) le ∙ unless-done (ownAnswer w) w _ (sym e ∙ z)
+take-laid w clock id s e z le p = p ∙ ap (byLayout w clock id s) le ∙ unless-done (ownRoomsAnswer w) w _ (sym e ∙ z)
 
 -- What the layout pass told of a datagram, in a room that is large enough.
 module _ (room s : List ℕ) {l : Layout} {after : List ℕ} (h : entryWords ≤ length room) (e : checkedOf l after ≡ checkSpec room s) where

@@ -13,14 +13,14 @@ use Rattle.tree.specs.Pack.{chunkSize, chunks, maxLength, size}
 use Rattle.tree.proofs.ChunkLaws.{chunk-inside, chunk-some}
 use Rattle.wire.proofs.Promise.{placed, maxSize}
 use Rattle.table.specs.declared.rows.Row.{Row}
-use Rattle.table.proofs.Promise.{rowOf, rowAt, writeAnswer}
+use Rattle.table.proofs.Promise.{openRowOf, rowAt, writeAnswer}
 use Rattle.replies.proofs.Promise.{chunkReply}
 use Rattle.store.proofs.Promise.{earlier, roomsAnswer, both-zero, order-accepted, length-accepted, rooms-accepted}
-use Rattle.channel.specs.World.{World, channelsOf, Out, outOf, lengthOf, chunksOf, rowsOf}
-use Rattle.channel.specs.Answers.{channelsAnswer, ownAnswer}
+use Rattle.channel.specs.World.{World, channelsOf, Out, outOf, orderLength, chunkCount, tableRows}
+use Rattle.channel.specs.Answers.{channelsAnswer, ownRoomsAnswer}
 use Rattle.channel.specs.Write.{heldAnswer, writeNumber, chunkDatagram, writeSpec}
 use Rattle.channel.proofs.OutLaws.{unless-not, unless-done}
-use Rattle.channel.proofs.RoomLaws.{passed, sides-accepted}
+use Rattle.channel.proofs.RoomLaws.{passed, reply-accepted}
 
 -- ---- the chunk
 
@@ -63,8 +63,8 @@ pub record Writable (w : World) (N c m : ℕ) : Type 0 where
   pub count : N ≤ chunks chunkSize maxLength
   pub short : length (handed (w .rooms .bytes) c m) ≤ chunkSize
 
-module _ (w : World) (id c clock N : ℕ) (ne : N ≡ chunksOf (w .channels .state)) {a b h l k : ℕ}
-    (ae : a ≡ ownAnswer w) (be : b ≡ writeAnswer (rowsOf (w .channels .state)) id) (he : h ≡ heldAnswer N c (w .rooms .map))
+module _ (w : World) (id c clock N : ℕ) (ne : N ≡ chunkCount (w .channels .state)) {a b h l k : ℕ}
+    (ae : a ≡ ownRoomsAnswer w) (be : b ≡ writeAnswer (tableRows (w .channels .state)) id) (he : h ≡ heldAnswer N c (w .rooms .map))
     (le : l ≡ earlier b h) (ke : k ≡ earlier a l) where
   -- The number that the code found is the one given back.
   number-is : k ≡ writeNumber w id c
@@ -75,11 +75,11 @@ module _ (w : World) (id c clock N : ℕ) (ne : N ≡ chunksOf (w .channels .sta
   unfolding writeSpec
   write-not d = ap (λ (x : ℕ). outOf x 0 w) number-is ∙ unless-not (writeNumber w id c) w _ (λ z. d (number-is ∙ z))
 
-  module _ (z : k ≡ 0) (m : ℕ) (me : m ≡ size chunkSize (lengthOf (w .channels .state)) c) where
+  module _ (z : k ≡ 0) (m : ℕ) (me : m ≡ size chunkSize (orderLength (w .channels .state)) c) where
     -- One that is not: the chunk lies in its room, and the reply room is large enough.
     pub write-facts : Writable w N c m
     write-facts =
-        let L = lengthOf (w .channels .state) in
+        let L = orderLength (w .channels .state) in
         let p = both-zero a l (sym ke ∙ z) in
         let q = both-zero b h (sym le ∙ p .1) in
         let i = held-inside N c (w .rooms .map) (sym he ∙ q .1) in
@@ -88,19 +88,19 @@ module _ (w : World) (id c clock N : ℕ) (ne : N ≡ chunksOf (w .channels .sta
         let t = rooms-accepted L (length (w .rooms .bytes)) (length (w .rooms .map)) (length (w .rooms .hashes)) (length (w .rooms .trusted)) (s .1) in
         let j : c < chunks chunkSize L = rw ne at i in record {
           inside = omega (arith, me, t .0, chunk-inside chunkSize L (omega arith) c j);
-          fits = sides-accepted L (length (w .channels .has)) (length (w .channels .wants)) (length (w .channels .reply)) (r .1);
+          fits = reply-accepted L (length (w .channels .has)) (length (w .channels .wants)) (length (w .channels .reply)) (r .1);
           count = rw ne (count-within L (length-accepted L (s .0) .1));
           short = simp length-take (omega (arith, me, chunk-some chunkSize L (omega arith) c j));
         }
 
     -- The bytes handed over are the chunk's, so that the reply is its datagram.
-    pub write-done : (r : Row) {i n : ℕ} {reply : List ℕ} → r ≡ rowAt (rowsOf (w .channels .state)) i → i ≡ rowOf (rowsOf (w .channels .state)) id
+    pub write-done : (r : Row) {i n : ℕ} {reply : List ℕ} → r ≡ rowAt (tableRows (w .channels .state)) i → i ≡ openRowOf (tableRows (w .channels .state)) id
         → (n ≡ length (chunkReply (w .rooms .hashes) (r .peer) N c clock (handed (w .rooms .bytes) c m)))
         × (reply ≡ placed (w .channels .reply) 0 (chunkReply (w .rooms .hashes) (r .peer) N c clock (handed (w .rooms .bytes) c m)))
         → outOf 0 n (record { rooms = w .rooms; channels = channelsOf (w .channels .state) (w .channels .has) (w .channels .wants) reply }) ≡ writeSpec w id c clock
     unfolding writeSpec
     write-done r re ie e =
-        let q : chunkSize * c + m - chunkSize * c ≡ size chunkSize (lengthOf (w .channels .state)) c = omega (arith, me) in
+        let q : chunkSize * c + m - chunkSize * c ≡ size chunkSize (orderLength (w .channels .state)) c = omega (arith, me) in
         let s : chunkReply (w .rooms .hashes) (r .peer) N c clock (handed (w .rooms .bytes) c m) ≡ chunkDatagram w id c clock = rw (q, re, ie, ne) in
         ap₂ replying (e .0 ∙ ap length s) (e .1 ∙ ap (placed (w .channels .reply) 0) s) ∙ unless-done (writeNumber w id c) w _ (sym number-is ∙ z)
       where

@@ -3,24 +3,23 @@
 use Prim.Native.Nat.{ℕ, _<_}
 use mathlib.Core.Path.{_≡_}
 use mathlib.Core.Bool.{Bool, true}
-use mathlib.Core.List.{List, []}
+use mathlib.Core.List.{List}
 use Rattle.bits.proofs.Promise.{bitAt, countBits}
 use Rattle.tree.specs.Pick.{pick}
-use Rattle.tree.specs.Verdicts.{isThere, orElse}
 use Rattle.store.proofs.Promise.{chunkIn, HangsIn, Whole, Alike}
-use Rattle.channel.specs.World.{World, rootOf, lengthOf, chunksOf}
+use Rattle.channel.specs.World.{World, orderRoot, orderLength, chunkCount}
 use Rattle.channel.specs.Ask.{Asked, askSpec}
-use Rattle.channel.specs.Run.{Call, run, Begun, firstBrought}
+use Rattle.channel.specs.Run.{Call, run, FreshOrBuilt, firstBrought, wasBrought, broughtBytes}
 
 -- The order's root, its length and the number of chunks of a store.
 abbrev pub rootIn : World → List ℕ
-rootIn w = rootOf (w .channels .state)
+rootIn w = orderRoot (w .channels .state)
 
 abbrev pub lengthIn : World → ℕ
-lengthIn w = lengthOf (w .channels .state)
+lengthIn w = orderLength (w .channels .state)
 
 abbrev pub chunksIn : World → ℕ
-chunksIn w = chunksOf (w .channels .state)
+chunksIn w = chunkCount (w .channels .state)
 
 -- Whether chunk x is in the map, and its bytes.
 abbrev pub held : World → ℕ → Bool
@@ -36,7 +35,7 @@ ask w = askSpec (w .channels .state) (w .rooms .map)
 -- Another store, fresh or built, under the same root and length, after a list of calls of its own, and both whole, as
 -- asking says.
 pub record BothWhole (w : World) (ks : List Call) (v : World) (js : List Call) : Type 0 where
-  pub begun : Begun v
+  pub fresh-or-built : FreshOrBuilt v
   pub same-root : rootIn v ≡ rootIn w
   pub same-length : lengthIn v ≡ lengthIn w
   pub first-whole : ask (run w ks) .whole ≡ true
@@ -47,11 +46,11 @@ pub record Demand (w : World) (ks : List Call) : Type 0 where
   -- The order stays.
   pub order-stays : run w ks .channels .state .order ≡ w .channels .state .order
   -- 1. The map has exactly the chunks it had before the list and those that taken datagrams brought,
-  pub map-exactly : (x : ℕ) → x < chunksIn w → held (run w ks) x ≡ pick (held w x) true (isThere (firstBrought w ks x))
+  pub map-exactly : (x : ℕ) → x < chunksIn w → held (run w ks) x ≡ pick (held w x) true (wasBrought (firstBrought w ks x))
   -- 2. each with its first bytes: those it had before the list, or else those in the DATA of the first datagram that
   -- brought it.
   pub first-bytes : (x : ℕ) → x < chunksIn w → held (run w ks) x ≡ true
-      → chunkBytes (run w ks) x ≡ pick (held w x) (chunkBytes w x) (orElse [] (firstBrought w ks x))
+      → chunkBytes (run w ks) x ≡ pick (held w x) (chunkBytes w x) (broughtBytes (firstBrought w ks x))
   -- 3. Every chunk in the map hangs from the ordered root by hashes held.
   pub hangs : (x : ℕ) → x < chunksIn w → held (run w ks) x ≡ true → HangsIn (lengthIn w) (rootIn w) (run w ks .rooms) x
   -- 4. Asking is answered with 0, counts the chunks in the map, and calls the pack whole exactly when every chunk is in it.

@@ -1,7 +1,7 @@
 pub mod World
 pub mod Answers
 pub mod Opening
-pub mod Begin
+pub mod Starting
 pub mod Take
 pub mod Write
 pub mod Ask

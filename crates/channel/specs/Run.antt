@@ -1,6 +1,7 @@
--- Lists of calls on a running store (01, "Demand 3's words"). Assumes nothing.
+-- Lists of calls on a running store (00, demand 3; 01, "Demand 3's words"). Assumes nothing.
 use Prim.Native.Nat.{ℕ}
 use mathlib.Core.Path.{_≡_}
+use mathlib.Core.Bool.{Bool, true, false}
 use mathlib.Core.List.{List, [], _∷_}
 use mathlib.Core.Option.{Option, none, some}
 use lib.Dec.{eqb}
@@ -14,12 +15,13 @@ use Rattle.store.proofs.Promise.{Digest}
 use Rattle.store.specs.declared.calls.Order.{Order}
 use Rattle.channel.specs.World.{World, channelsOf, Out}
 use Rattle.channel.specs.Opening.{openSpec}
-use Rattle.channel.specs.Begin.{startSpec, buildSpec}
+use Rattle.channel.specs.Starting.{startSpec, buildSpec}
 use Rattle.channel.specs.Take.{takeSpec}
 use Rattle.channel.specs.Write.{writeSpec}
 
--- A call with all its arguments but the store's state and rooms. "The reply room is no part of this": each call is lent
--- one of any size and contents.
+-- A call with all its arguments but the store's state and rooms. "The reply room is no part of this: beginning and adding
+-- write there alone": each call is lent one of any size and contents. "A start or build in between changes nothing if
+-- refused", by `unless` in startSpec and buildSpec, "else a new list follows".
 pub data Call : Type 0 where
   opening : (reply : List ℕ) (id : ℕ) → Call
   taking : (reply : List ℕ) (clock id : ℕ) (datagram : List ℕ) → Call
@@ -43,10 +45,11 @@ abbrev pub run : World → List Call → World
 run w [] = w
 run w (k ∷ ks) = run (step w k) ks
 
--- A fresh or a built store: what a start or a building that answered 0 leaves of any rooms. An order's root is 32 bytes.
-pub data Begun : World → Type 0 where
-  fresh : (w : World) (o : Order) → Digest (bytesOf (o .root .words)) → startSpec w o .answer ≡ 0 → Begun (startSpec w o .after)
-  built : (w : World) (L : ℕ) (s : List ℕ) → buildSpec w L s .answer ≡ 0 → Begun (buildSpec w L s .after)
+-- A fresh or built store: what a start or a building that answered 0 leaves, whatever was there before. An order's root is
+-- 32 bytes.
+pub data FreshOrBuilt : World → Type 0 where
+  fresh : (w : World) (o : Order) → Digest (bytesOf (o .root .words)) → startSpec w o .answer ≡ 0 → FreshOrBuilt (startSpec w o .after)
+  built : (w : World) (L : ℕ) (s : List ℕ) → buildSpec w L s .answer ≡ 0 → FreshOrBuilt (buildSpec w L s .after)
 
 -- ---- what taken datagrams brought
 
@@ -64,7 +67,7 @@ brings w (taking reply clock id s) x = pick (eqb (takeSpec (lend w reply) clock 
 brings w (writing reply id c clock) x = none
 brings w asking x = none
 
--- What is there, or else another.
+-- The bytes that one call brought, or else those that later ones did.
 abbrev pub orNext : Option (List ℕ) → Option (List ℕ) → Option (List ℕ)
 orNext none next = next
 orNext (some d) next = some d
@@ -73,3 +76,12 @@ orNext (some d) next = some d
 abbrev pub firstBrought : World → List Call → ℕ → Option (List ℕ)
 firstBrought w [] x = none
 firstBrought w (k ∷ ks) x = orNext (brings w k x) (firstBrought (step w k) ks x)
+
+-- Whether there are any, and what they are.
+abbrev pub wasBrought : Option (List ℕ) → Bool
+wasBrought none = false
+wasBrought (some d) = true
+
+abbrev pub broughtBytes : Option (List ℕ) → List ℕ
+broughtBytes none = []
+broughtBytes (some d) = d

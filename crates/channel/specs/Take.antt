@@ -1,6 +1,6 @@
 -- Taking in a datagram (01, "Datagrams", the effects; "Numbers given back"). Assumes nothing.
 use Prim.Native.Nat.{ℕ, _+_, _-_, _%_, _^_}
-use mathlib.Core.Bool.{Bool, true, false}
+use mathlib.Core.Bool.{Bool, false}
 use mathlib.Core.List.{List}
 use lib.Dec.{eqb}
 use lib.ListN.{length}
@@ -12,38 +12,38 @@ use Rattle.wire.specs.declared.message.Options.the-variants.{Fixed, EndOnly, Ot
 use Rattle.wire.specs.declared.layout.Layout.{Layout}
 use Rattle.wire.specs.declared.layout.Layout.the-variants.{Fault, HandshakeAlone, Messages, MessagesAndData}
 use Rattle.writer.proofs.Promise.{within, readAll}
-use Rattle.effects.proofs.Promise.{anyPast, Marks, marksOf, effects}
+use Rattle.effects.proofs.Promise.{anyPast, Peer, peerOf, effects}
 use Rattle.replies.proofs.Promise.{ackReply}
 use Rattle.table.proofs.Promise.{rowOf, rowAt, rowAfter, messagesAnswer, handshakeAnswer}
 use Rattle.table.specs.declared.rows.Row.{Row}
-use Rattle.store.proofs.Promise.{Out as Stored, earlier, integrityOf, takeSpec as storeTake}
+use Rattle.store.proofs.Promise.{Out as StoreOut, earlier, integrityOf, takeSpec as storeTake}
 use Rattle.channel.specs.declared.state.State.{State}
-use Rattle.channel.specs.World.{Channels, channelsOf, World, Out, outOf, unless, beside, rootOf, lengthOf, chunksOf, rowsOf, putRow, rowBit}
-use Rattle.channel.specs.Answers.{ownAnswer}
+use Rattle.channel.specs.World.{Channels, channelsOf, World, Out, outOf, unless, beside, orderRoot, orderLength, chunkCount, tableRows, putRow, rowBit}
+use Rattle.channel.specs.Answers.{ownRoomsAnswer}
 use Rattle.channel.specs.Opening.{openedRow, occupied}
 
 -- The row that a datagram s goes to, by its destination.
-abbrev pub rowFor : State → List ℕ → ℕ
-rowFor st s = rowOf (rowsOf st) (be32 s 0)
+abbrev pub rowFor : State → (s : List ℕ) → ℕ
+rowFor st s = rowOf (tableRows st) (be32 s 0)
 
 -- ---- a HANDSHAKE
 
 -- "An opening or answering HANDSHAKE carries exactly the bytes .., the root, ..": its options are the fixed ones around the
 -- order's root.
-unfoldable pub ours : List ℕ → List ℕ → Options → Bool
+unfoldable pub ours : (root s : List ℕ) → Options → Bool
 ours root s (Fixed p) = same (within s p 32) root
 ours root s EndOnly = false
 ours root s Other = false
 
--- A HANDSHAKE s from the source a, with the options o: to channel 0 it opens a channel under the ID that was passed; else
--- it changes the row that it goes to. 5, 3, 4, 14 and 6 before that.
-unfoldable pub handshakeTaken : Channels → ℕ → List ℕ → ℕ → Options → Out Channels
-handshakeTaken ch id s a o =
-    unless (handshakeAnswer (rowsOf (ch .state)) (be32 s 0) a (ours (rootOf (ch .state)) s o) id) ch
+-- A HANDSHAKE: to channel 0 it opens a channel under the ID that was passed; else it changes the row that it goes to. 5, 3,
+-- 4, 14 and 6 before that.
+unfoldable pub handshakeTaken : Channels → (id : ℕ) (s : List ℕ) (source : ℕ) → Options → Out Channels
+handshakeTaken ch id s source o =
+    unless (handshakeAnswer (tableRows (ch .state)) (be32 s 0) source (ours (orderRoot (ch .state)) s o) id) ch
     (pick (eqb (be32 s 0) 0)
-    (occupied ch (openedRow id a))
+    (occupied ch (openedRow id source))
     (outOf 0 0 (channelsOf
-    (putRow (ch .state) (rowFor (ch .state) s) (rowAfter (rowAt (rowsOf (ch .state)) (rowFor (ch .state) s)) a))
+    (putRow (ch .state) (rowFor (ch .state) s) (rowAfter (rowAt (tableRows (ch .state)) (rowFor (ch .state) s)) source))
     (ch .has)
     (ch .wants)
     (ch .reply))))
@@ -51,79 +51,79 @@ handshakeTaken ch id s a o =
 -- ---- other messages
 
 -- 5 and 3 by the table, then 7 for a range past N-1. A datagram of four bytes has no message: a keepalive.
-unfoldable pub messagesNumber : State → List ℕ → ℕ
+unfoldable pub messagesNumber : State → (s : List ℕ) → ℕ
 messagesNumber st s =
     earlier
-    (messagesAnswer (rowsOf st) (be32 s 0) (eqb (length s) minSize))
-    (pick (anyPast (chunksOf st) (readAll s)) 7 0)
+    (messagesAnswer (tableRows st) (be32 s 0) (eqb (length s) minSize))
+    (pick (anyPast (chunkCount st) (readAll s)) 7 0)
 
--- What the messages make of the rooms for has and wants, and of the choke mark of the row that they go to.
-abbrev pub marksAfter : Channels → List ℕ → Marks
-marksAfter ch s =
-    effects (rowBit (chunksOf (ch .state)) (rowFor (ch .state) s)) (readAll s)
-    (marksOf (ch .has) (ch .wants) (rowAt (rowsOf (ch .state)) (rowFor (ch .state) s) .choked))
+-- The rooms for has and wants, and the choke mark of the row that the messages go to, after their effects.
+abbrev pub peerAfter : Channels → (s : List ℕ) → Peer
+peerAfter ch s =
+    effects (rowBit (chunkCount (ch .state)) (rowFor (ch .state) s)) (readAll s)
+    (peerOf (ch .has) (ch .wants) (rowAt (tableRows (ch .state)) (rowFor (ch .state) s) .choked))
 
 -- A row with another choke mark.
-abbrev pub markedRow : Row → Bool → Row
-markedRow r choked = record { phase = r .phase; id = r .id; peer = r .peer; choked = choked }
+abbrev pub withMark : Row → Bool → Row
+withMark r choked = record { phase = r .phase; id = r .id; peer = r .peer; choked = choked }
 
 -- The channels after the effects of the messages.
-unfoldable pub marked : Channels → List ℕ → Channels
-marked ch s =
+unfoldable pub affected : Channels → (s : List ℕ) → Channels
+affected ch s =
     channelsOf
-    (putRow (ch .state) (rowFor (ch .state) s) (markedRow (rowAt (rowsOf (ch .state)) (rowFor (ch .state) s)) (marksAfter ch s .choked)))
-    (marksAfter ch s .has)
-    (marksAfter ch s .wants)
+    (putRow (ch .state) (rowFor (ch .state) s) (withMark (rowAt (tableRows (ch .state)) (rowFor (ch .state) s)) (peerAfter ch s .choked)))
+    (peerAfter ch s .has)
+    (peerAfter ch s .wants)
     (ch .reply)
 
 -- Messages without DATA: their effects, and no reply.
-unfoldable pub messagesTaken : Channels → List ℕ → Out Channels
-messagesTaken ch s = unless (messagesNumber (ch .state) s) ch (outOf 0 0 (marked ch s))
+unfoldable pub messagesTaken : Channels → (s : List ℕ) → Out Channels
+messagesTaken ch s = unless (messagesNumber (ch .state) s) ch (outOf 0 0 (affected ch s))
 
 -- ---- DATA
 
 -- "its delay the clock minus the timestamp modulo 2^64".
-abbrev pub delay : ℕ → ℕ → ℕ
-delay clock x = (clock + 2 ^ 64 - x) % 2 ^ 64
+abbrev pub delay : (clock timestamp : ℕ) → ℕ
+delay clock timestamp = (clock + 2 ^ 64 - timestamp) % 2 ^ 64
 
 -- "Stored DATA is answered by one ACK naming that chunk alone", to the peer of the channel that it came on.
-abbrev pub acknowledgement : State → List ℕ → ℕ → ℕ → ℕ → List ℕ
-acknowledgement st s clock c x = ackReply (rowAt (rowsOf st) (rowFor st s) .peer) c c (delay clock x)
+abbrev pub acknowledgement : State → (s : List ℕ) (clock c timestamp : ℕ) → List ℕ
+acknowledgement st s clock c timestamp = ackReply (rowAt (tableRows st) (rowFor st s) .peer) c c (delay clock timestamp)
 
 -- The channels with a reply.
-abbrev pub replied : Channels → List ℕ → Channels
+abbrev pub replied : Channels → (r : List ℕ) → Channels
 replied ch r = channelsOf (ch .state) (ch .has) (ch .wants) (placed (ch .reply) 0 r)
 
--- DATA of chunk c with the timestamp x in the datagram s, by what the store makes of it: the numbers 8, 9 and 10; else the
--- chunk rooms that it leaves, the effects of the messages, and the reply.
-unfoldable pub stored : World → ℕ → List ℕ → ℕ → ℕ → Stored → Out World
-stored w clock s c x out =
+-- What taking the n bytes from `start` on as chunk c gives and leaves of the chunk rooms; `entries` has the nodes of the
+-- INTEGRITY messages and the places of their hashes.
+abbrev pub storeOut : World → (s entries : List ℕ) (c start n : ℕ) → StoreOut
+storeOut w s entries c start n =
+    storeTake (w .rooms) (orderRoot (w .channels .state)) (orderLength (w .channels .state)) c (within s start n)
+    (integrityOf entries s)
+
+-- DATA by that: refused with 8, 9 or 10; or the chunk rooms so, the effects of the messages, and the reply.
+unfoldable pub dataBy : World → (clock : ℕ) (s : List ℕ) (c timestamp : ℕ) → StoreOut → Out World
+dataBy w clock s c timestamp out =
     unless (out .answer) w
-    (outOf 0 (length (acknowledgement (w .channels .state) s clock c x)) (record {
+    (outOf 0 (length (acknowledgement (w .channels .state) s clock c timestamp)) (record {
       rooms = out .rooms;
-      channels = replied (marked (w .channels) s) (acknowledgement (w .channels .state) s clock c x);
+      channels = replied (affected (w .channels) s) (acknowledgement (w .channels .state) s clock c timestamp);
     }))
 
--- What the store makes of n bytes at b as chunk c, with the hashes of the INTEGRITY messages es.
-abbrev pub storing : World → List ℕ → List ℕ → ℕ → ℕ → ℕ → Stored
-storing w s es c b n =
-    storeTake (w .rooms) (rootOf (w .channels .state)) (lengthOf (w .channels .state)) c (within s b n) (integrityOf es s)
-
--- Messages with DATA: 5, 3 and 7, then 8, 9 and 10; their effects, the chunk stored, one ACK.
-unfoldable pub dataTaken : World → ℕ → List ℕ → List ℕ → ℕ → ℕ → ℕ → ℕ → Out World
-dataTaken w clock s es c x b n =
-    unless (messagesNumber (w .channels .state) s) w
-    (stored w clock s c x (storing w s es c b n))
+-- Messages with DATA: 5, 3 and 7 come before that.
+unfoldable pub dataTaken : World → (clock : ℕ) (s entries : List ℕ) (c timestamp start n : ℕ) → Out World
+dataTaken w clock s entries c timestamp start n =
+    unless (messagesNumber (w .channels .state) s) w (dataBy w clock s c timestamp (storeOut w s entries c start n))
 
 -- ---- any datagram
 
 -- By its layout, which has the numbers 1, 2 and 3.
-unfoldable pub byLayout : World → ℕ → ℕ → List ℕ → Layout → Out World
+unfoldable pub byLayout : World → (clock id : ℕ) (s : List ℕ) → Layout → Out World
 byLayout w clock id s (Fault n) = outOf n 0 w
-byLayout w clock id s (HandshakeAlone a o) = beside (w .rooms) (handshakeTaken (w .channels) id s a o)
+byLayout w clock id s (HandshakeAlone source o) = beside (w .rooms) (handshakeTaken (w .channels) id s source o)
 byLayout w clock id s (Messages k) = beside (w .rooms) (messagesTaken (w .channels) s)
-byLayout w clock id s (MessagesAndData c x b n k) = dataTaken w clock s (layoutOf s .entries) c x b n
+byLayout w clock id s (MessagesAndData c timestamp start n k) = dataTaken w clock s (layoutOf s .entries) c timestamp start n
 
 -- Taking in a datagram s at a clock, with the ID for a channel that it may open: 12 and 11, then by its layout.
-unfoldable pub takeSpec : World → ℕ → ℕ → List ℕ → Out World
-takeSpec w clock id s = unless (ownAnswer w) w (byLayout w clock id s (layoutOf s .layout))
+unfoldable pub takeSpec : World → (clock id : ℕ) (s : List ℕ) → Out World
+takeSpec w clock id s = unless (ownRoomsAnswer w) w (byLayout w clock id s (layoutOf s .layout))

@@ -44,24 +44,24 @@ abbrev pub unless : {W : Type 0} → ℕ → W → Out W → Out W
 unless zero old out = out
 unless (suc n) old out = outOf (suc n) 0 old
 
--- A call that touches the channels alone leaves the chunk rooms as they are.
+-- A call that changes the channels alone leaves the chunk rooms as they are.
 abbrev pub beside : Rooms → Out Channels → Out World
 beside rooms out = outOf (out .answer) (out .len) (record { rooms = rooms; channels = out .after })
 
 -- ---- parts of the state
 
--- The order's root and length, and the number of chunks.
-abbrev pub rootOf : State → List ℕ
-rootOf st = bytesOf (st .order .root .words)
+-- The order's root and length, the number of chunks, and the rows of the channel table.
+abbrev pub orderRoot : State → List ℕ
+orderRoot st = bytesOf (st .order .root .words)
 
-abbrev pub lengthOf : State → ℕ
-lengthOf st = st .order .length
+abbrev pub orderLength : State → ℕ
+orderLength st = st .order .length
 
-abbrev pub chunksOf : State → ℕ
-chunksOf st = countOf (lengthOf st)
+abbrev pub chunkCount : State → ℕ
+chunkCount st = countOf (orderLength st)
 
-abbrev pub rowsOf : State → List Row
-rowsOf st = st .table .rows
+abbrev pub tableRows : State → List Row
+tableRows st = st .table .rows
 
 -- The state with another row at a place of the table.
 abbrev pub putRow : State → ℕ → Row → State
@@ -69,7 +69,7 @@ putRow st i r = record { order = st .order; table = withRow (st .table) i r }
 
 -- ---- bit rows by channel
 
--- "N bits a row, every row in whole words": row i begins behind the words of the rows before it.
+-- "N bits a row, .. every row in whole words": row i begins behind the words of the rows before it.
 abbrev pub rowStart : ℕ → ℕ → ℕ
 rowStart N i = rowWords N * i
 

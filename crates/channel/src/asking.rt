@@ -1,6 +1,6 @@
 // Asking: the held count, and whole or not.
 ghost use mathlib.Core.Path.{_≡_};
-ghost use Rattle.channel.specs.Ask.{askedOf, askAnswer, askSpec};
+ghost use Rattle.channel.specs.Ask.{askedOf, askNumber, askSpec};
 use crate::state::State;
 use store::answers;
 
@@ -11,8 +11,8 @@ pub struct Asked {
 }
 
 // 12, then 11 for a map of n chunks in `map` words.
-fn ask_answer(length: u32, n: u32, map: usize) -> u32
-    ensures { λ r. ⌜ r ≡ askAnswer length n map ⌝ }
+fn ask_number(length: u32, n: u32, map: usize) -> u32
+    ensures { λ r. ⌜ r ≡ askNumber length n map ⌝ }
 {
     let refused = answers::length_answer(length);
     if refused != 0 {
@@ -30,7 +30,7 @@ pub fn ask(state: State, map: &[u32]) -> Asked
 {
     let order = state.order;
     let n = tree::pack::chunk_count(order.length);
-    let refused = ask_answer(order.length, n, map.len());
+    let refused = ask_number(order.length, n, map.len());
     if refused != 0 {
         return Asked {
             answer: refused,

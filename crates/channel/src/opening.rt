@@ -70,7 +70,7 @@ pub fn open(
 {
     let order = state.order;
     let table = state.table;
-    let refused = rooms::rooms_answer(
+    let refused = rooms::all_rooms_answer(
         order.length,
         chunks.len(),
         map.len(),

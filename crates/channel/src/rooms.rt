@@ -1,7 +1,7 @@
 // The numbers 12 and 11 for the calls that are lent all seven rooms, from lengths alone.
 ghost use mathlib.Core.Path.{_≡_};
 ghost use Rattle.store.proofs.Promise.{earlier, orderAnswer, buildAnswer};
-ghost use Rattle.channel.specs.Answers.{sideAnswer};
+ghost use Rattle.channel.specs.Answers.{channelRoomsAnswer};
 use store::answers;
 use table::rows::ROWS;
 use wire::limits::MAX_SIZE;
@@ -17,8 +17,8 @@ pub fn earlier(first: u32, second: u32) -> u32
 }
 
 // 11: a room for what the peers have or want, or the reply room, is too small.
-fn side_answer(length: u32, has: usize, wants: usize, reply: usize) -> u32
-    ensures { λ r. ⌜ r ≡ sideAnswer length has wants reply ⌝ }
+fn channel_rooms_answer(length: u32, has: usize, wants: usize, reply: usize) -> u32
+    ensures { λ r. ⌜ r ≡ channelRoomsAnswer length has wants reply ⌝ }
 {
     let row = bits::row_words(tree::pack::chunk_count(length) as u64);
     let words = ROWS as u64 * row;
@@ -35,7 +35,7 @@ fn side_answer(length: u32, has: usize, wants: usize, reply: usize) -> u32
 }
 
 // 12 for the order's length, then 11 for any of the seven rooms.
-pub fn rooms_answer(
+pub fn all_rooms_answer(
     length: u32,
     chunks: usize,
     map: usize,
@@ -45,16 +45,16 @@ pub fn rooms_answer(
     wants: usize,
     reply: usize,
 ) -> u32
-    ensures { λ r. ⌜ r ≡ earlier (orderAnswer length chunks map hashes trusted) (sideAnswer length has wants reply) ⌝ }
+    ensures { λ r. ⌜ r ≡ earlier (orderAnswer length chunks map hashes trusted) (channelRoomsAnswer length has wants reply) ⌝ }
 {
     earlier(
         answers::order_answer(length, chunks, map, hashes, trusted),
-        side_answer(length, has, wants, reply),
+        channel_rooms_answer(length, has, wants, reply),
     )
 }
 
 // The same for building, 12 also for content of another length.
-pub fn build_answer(
+pub fn build_number(
     length: u32,
     content: usize,
     chunks: usize,
@@ -65,10 +65,10 @@ pub fn build_answer(
     wants: usize,
     reply: usize,
 ) -> u32
-    ensures { λ r. ⌜ r ≡ earlier (buildAnswer length content chunks map hashes trusted) (sideAnswer length has wants reply) ⌝ }
+    ensures { λ r. ⌜ r ≡ earlier (buildAnswer length content chunks map hashes trusted) (channelRoomsAnswer length has wants reply) ⌝ }
 {
     earlier(
         answers::build_answer(length, content, chunks, map, hashes, trusted),
-        side_answer(length, has, wants, reply),
+        channel_rooms_answer(length, has, wants, reply),
     )
 }

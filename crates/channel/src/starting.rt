@@ -5,7 +5,7 @@ ghost use Rattle.bits.proofs.Promise.{clearWords, rowWords};
 ghost use Rattle.table.proofs.Promise.{rowCount};
 ghost use Rattle.store.proofs.Promise.{countOf};
 ghost use Rattle.channel.specs.World.{worldOf, outOf};
-ghost use Rattle.channel.specs.Begin.{freshState, startSpec, buildSpec};
+ghost use Rattle.channel.specs.Starting.{freshState, startSpec, buildSpec};
 use crate::rooms;
 use crate::state::Outcome;
 use crate::state::State;
@@ -47,7 +47,7 @@ pub fn start(
     ensures { λ r. ⌜ outOf (r .answer) (r .len) (worldOf (r .state) (now (chunks .entry)) (now (map .exit)) (now (hashes .exit)) (now (trusted .exit)) (now (has .exit)) (now (wants .exit)) (now (reply .entry))) ≡ startSpec (worldOf state (now (chunks .entry)) (now (map .entry)) (now (hashes .entry)) (now (trusted .entry)) (now (has .entry)) (now (wants .entry)) (now (reply .entry))) order ⌝ }
 {
     let length = order.length;
-    let answer = rooms::rooms_answer(
+    let answer = rooms::all_rooms_answer(
         length,
         chunks.len(),
         map.len(),
@@ -89,7 +89,7 @@ pub fn build(
 ) -> Outcome
     ensures { λ r. ⌜ outOf (r .answer) (r .len) (worldOf (r .state) (now (chunks .exit)) (now (map .exit)) (now (hashes .exit)) (now (trusted .exit)) (now (has .exit)) (now (wants .exit)) (now (reply .entry))) ≡ buildSpec (worldOf state (now (chunks .entry)) (now (map .entry)) (now (hashes .entry)) (now (trusted .entry)) (now (has .entry)) (now (wants .entry)) (now (reply .entry))) length (now (content .entry)) ⌝ }
 {
-    let answer = rooms::build_answer(
+    let answer = rooms::build_number(
         length,
         content.len(),
         chunks.len(),

@@ -7,7 +7,7 @@ ghost use Rattle.hash.proofs.Promise.{bytesOf};
 ghost use Rattle.wire.proofs.Promise.{placed, minSize, maxSize};
 ghost use Rattle.store.proofs.Promise.{lengthAnswer};
 ghost use Rattle.channel.specs.World.{channelsOf, worldOf, outOf};
-ghost use Rattle.channel.specs.Take.{ours, handshakeTaken, messagesNumber, marked, messagesTaken, acknowledgement, dataTaken, takeSpec};
+ghost use Rattle.channel.specs.Take.{ours, handshakeTaken, messagesNumber, affected, messagesTaken, acknowledgement, dataTaken, takeSpec};
 use crate::opening;
 use crate::rooms;
 use crate::state::Outcome;
@@ -119,10 +119,10 @@ fn messages_number(state: State, datagram: &[u8]) -> u32
 }
 
 // The effects of messages on the channel that they go to.
-fn mark(state: State, has: &mut [u32], wants: &mut [u32], datagram: &[u8]) -> State
+fn apply_messages(state: State, has: &mut [u32], wants: &mut [u32], datagram: &[u8]) -> State
     requires { ⌜ lengthAnswer (state .order .length) ≡ 0 ⌝ }
     requires { ⌜ minSize ≤ length (now datagram) ⌝ }
-    ensures { λ r. ⌜ channelsOf r (now (has .exit)) (now (wants .exit)) [] ≡ marked (channelsOf state (now (has .entry)) (now (wants .entry)) []) (now (datagram .entry)) ⌝ }
+    ensures { λ r. ⌜ channelsOf r (now (has .exit)) (now (wants .exit)) [] ≡ affected (channelsOf state (now (has .entry)) (now (wants .entry)) []) (now (datagram .entry)) ⌝ }
 {
     let order = state.order;
     let table = state.table;
@@ -166,7 +166,7 @@ fn messages(
     Outcome {
         answer: 0,
         len: 0,
-        state: mark(state, has, wants, datagram),
+        state: apply_messages(state, has, wants, datagram),
     }
 }
 
@@ -245,7 +245,7 @@ fn take_chunk(
     Outcome {
         answer: 0,
         len: sent,
-        state: mark(state, has, wants, datagram),
+        state: apply_messages(state, has, wants, datagram),
     }
 }
 
@@ -266,7 +266,7 @@ pub fn take(
     ensures { λ r. ⌜ outOf (r .answer) (r .len) (worldOf (r .state) (now (chunks .exit)) (now (map .exit)) (now (hashes .exit)) (now (trusted .exit)) (now (has .exit)) (now (wants .exit)) (now (reply .exit))) ≡ takeSpec (worldOf state (now (chunks .entry)) (now (map .entry)) (now (hashes .entry)) (now (trusted .entry)) (now (has .entry)) (now (wants .entry)) (now (reply .entry))) clock id (now (datagram .entry)) ⌝ }
 {
     let order = state.order;
-    let refused = rooms::rooms_answer(
+    let refused = rooms::all_rooms_answer(
         order.length,
         chunks.len(),
         map.len(),

@@ -43,7 +43,7 @@ pub fn write(
     let table = state.table;
     let length = order.length;
     let n = pack::chunk_count(length);
-    let refused = rooms::rooms_answer(
+    let refused = rooms::all_rooms_answer(
         length,
         chunks.len(),
         map.len(),
@@ -62,7 +62,7 @@ pub fn write(
             state,
         };
     }
-    let row = rows::row_at(table, rows::row_of(table, id));
+    let row = rows::row_at(table, rows::open_row_of(table, id));
     let from = CHUNK_SIZE as usize * c as usize;
     let end = from + pack::chunk_size(length, c) as usize;
     let len = replies::chunk(reply, hashes, row.peer, n, c, clock, &chunks[from..end]);

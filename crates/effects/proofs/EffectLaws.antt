@@ -15,29 +15,29 @@ use Rattle.wire.specs.declared.message.Message.the-variants.{Handshake, Data, A
 use Rattle.wire.specs.declared.message.Step.{Step}
 use Rattle.wire.specs.declared.message.Step.the-variants.{Read, End, Refused}
 use Rattle.writer.specs.Lists.{onStep, readFrom}
-use Rattle.effects.specs.Effects.{Marks, marksOf, effect, effects}
+use Rattle.effects.specs.Effects.{Peer, peerOf, effect, effects}
 use Rattle.effects.specs.Steps.{Turned, turnOf, turned}
 use Rattle.effects.proofs.ReadLaws.{read-more}
 
 -- ---- one message
 
 -- A message has the effect of the message that it is.
-pub effect-of : (b : ℕ) (m : Marks) {x : Marks} {i j : Message} → i ≡ j → x ≡ effect b j m → x ≡ effect b i m
+pub effect-of : (b : ℕ) (m : Peer) {x : Peer} {i j : Message} → i ≡ j → x ≡ effect b j m → x ≡ effect b i m
 effect-of b m e d = rw e d
 
 module _ (b : ℕ) (has wants : List ℕ) (k : Bool) (f l : ℕ) where
   -- HAVE sets has-bits and clears wants.
-  pub have-does : {h w : List ℕ} → h ≡ setRange has (b + f) (b + l + 1) → w ≡ clearRange wants (b + f) (b + l + 1) → marksOf h w k ≡ effect b (Have f l) (marksOf has wants k)
+  pub have-does : {h w : List ℕ} → h ≡ setRange has (b + f) (b + l + 1) → w ≡ clearRange wants (b + f) (b + l + 1) → peerOf h w k ≡ effect b (Have f l) (peerOf has wants k)
   unfolding effect
   have-does d e = rw (d, e)
 
   -- REQUEST sets wants.
-  pub request-does : {w : List ℕ} → w ≡ setRange wants (b + f) (b + l + 1) → marksOf has w k ≡ effect b (Request f l) (marksOf has wants k)
+  pub request-does : {w : List ℕ} → w ≡ setRange wants (b + f) (b + l + 1) → peerOf has w k ≡ effect b (Request f l) (peerOf has wants k)
   unfolding effect
   request-does e = rw e
 
   -- CANCEL clears wants.
-  pub cancel-does : {w : List ℕ} → w ≡ clearRange wants (b + f) (b + l + 1) → marksOf has w k ≡ effect b (Cancel f l) (marksOf has wants k)
+  pub cancel-does : {w : List ℕ} → w ≡ clearRange wants (b + f) (b + l + 1) → peerOf has w k ≡ effect b (Cancel f l) (peerOf has wants k)
   unfolding effect
   cancel-does e = rw e
 
@@ -46,7 +46,7 @@ abbrev others : List ℕ
 others = 0 ∷ 1 ∷ 4 ∷ []
 
 -- HANDSHAKE, DATA and INTEGRITY change nothing.
-pub others-do : (b : ℕ) (m : Marks) (i : Message) → OneOf others (tagOf message.the-type i) → m ≡ effect b i m
+pub others-do : (b : ℕ) (m : Peer) (i : Message) → OneOf others (tagOf message.the-type i) → m ≡ effect b i m
 unfolding effect
 others-do b m (Handshake a o) h = refl
 others-do b m (Data c x p n) h = refl
@@ -60,9 +60,9 @@ others-do b m Unchoke h = absurd (miss others 8 tt h)
 
 -- ---- one turn
 
-module _ (b : ℕ) (m : Marks) (left : ℕ) where
+module _ (b : ℕ) (m : Peer) (left : ℕ) where
   -- A turn at a message has its effect and goes on behind it.
-  pub turn-read : {st : Step} {i : Message} {next : Cursor} {x : Marks} → st ≡ Read i next → x ≡ effect b i m → turnOf x (next .at) left ≡ turned b m left st
+  pub turn-read : {st : Step} {i : Message} {next : Cursor} {x : Peer} → st ≡ Read i next → x ≡ effect b i m → turnOf x (next .at) left ≡ turned b m left st
   unfolding turned
   turn-read e d = rw (e, d)
 
@@ -77,7 +77,7 @@ module _ (b : ℕ) (m : Marks) (left : ℕ) where
   turn-refused e = rw e
 
   -- A turn leaves no more messages than it was given.
-  pub turn-less : (st : Step) {x : Marks} {at n : ℕ} → turnOf x at n ≡ turned b m left st → n ≤ left
+  pub turn-less : (st : Step) {x : Peer} {at n : ℕ} → turnOf x at n ≡ turned b m left st → n ≤ left
   unfolding turned
   turn-less (Read i next) e = let d = ap (λ (t : Turned). t .left) e in omega arith
   turn-less End e = let d = ap (λ (t : Turned). t .left) e in omega arith
@@ -86,17 +86,17 @@ module _ (b : ℕ) (m : Marks) (left : ℕ) where
 -- ---- all of them
 
 -- What a turn at a step leaves to do, with n messages behind it, is what the step and they do.
-turn-on : (b : ℕ) (s : List ℕ) (n : ℕ) (m : Marks) (st : Step) → effects b (readFrom (turned b m n st .left) s (turned b m n st .at)) (turned b m n st .marks) ≡ effects b (onStep s st (λ x. readFrom n s x)) m
+turn-on : (b : ℕ) (s : List ℕ) (n : ℕ) (m : Peer) (st : Step) → effects b (readFrom (turned b m n st .left) s (turned b m n st .at)) (turned b m n st .peer) ≡ effects b (onStep s st (λ x. readFrom n s x)) m
 unfolding effects turned readFrom
 turn-on b s n m (Read i next) = refl
 turn-on b s n m End = refl
 turn-on b s n m Refused = refl
 
 -- The effects left after a turn are those before it.
-pub turn-effects : (b : ℕ) (s : List ℕ) (at left : ℕ) (m : Marks) {t : Turned} → 0 < left → t ≡ turned b m (left - 1) (stepAt s at) → effects b (readFrom (t .left) s (t .at)) (t .marks) ≡ effects b (readFrom left s at) m
+pub turn-effects : (b : ℕ) (s : List ℕ) (at left : ℕ) (m : Peer) {t : Turned} → 0 < left → t ≡ turned b m (left - 1) (stepAt s at) → effects b (readFrom (t .left) s (t .at)) (t .peer) ≡ effects b (readFrom left s at) m
 turn-effects b s at left m h e = rw (e, read-more s at left h refl) (turn-on b s (left - 1) m (stepAt s at))
 
 -- No messages have no effect.
-pub effects-none : (b : ℕ) (s : List ℕ) (at left : ℕ) (m : Marks) → left ≡ 0 → effects b (readFrom left s at) m ≡ m
+pub effects-none : (b : ℕ) (s : List ℕ) (at left : ℕ) (m : Peer) → left ≡ 0 → effects b (readFrom left s at) m ≡ m
 unfolding effects readFrom
 effects-none b s at left m e = rw e

@@ -1,4 +1,4 @@
--- What the messages of a datagram ask and change (01, "Datagrams", the effects; number 7). Assumes nothing.
+-- The ranges of a datagram's messages, and what the messages change (01, "Datagrams", the effects; number 7). Assumes nothing.
 use Prim.Native.Nat.{ℕ, _+_}
 use mathlib.Core.List.{List, [], _∷_}
 use mathlib.Core.Bool.{Bool, true, false}
@@ -11,7 +11,7 @@ use Rattle.writer.proofs.Promise.{Item}
 
 -- ---- 7: a range past N-1
 
--- Whether a message's range reaches past N-1; its last chunk is not below its first.
+-- Whether a message's range reaches past N-1: by its layout first is not above last, so the last chunk decides.
 unfoldable pub past : ℕ → Message → Bool
 past N (Handshake a o) = false
 past N (Data c x b n) = leb N c
@@ -30,29 +30,29 @@ anyPast N (i ∷ is) = pick (past N (i .message)) true (anyPast N is)
 
 -- ---- the effects
 
--- The rooms for what peers have and want, and the choke mark of one channel.
-pub record Marks : Type 0 where
+-- The rooms for what peers have and want, and the choke mark of the one channel that a datagram goes to.
+pub record Peer : Type 0 where
   pub has : List ℕ
   pub wants : List ℕ
   pub choked : Bool
 
-abbrev pub marksOf : List ℕ → List ℕ → Bool → Marks
-marksOf has wants choked = record { has = has; wants = wants; choked = choked }
+abbrev pub peerOf : List ℕ → List ℕ → Bool → Peer
+peerOf has wants choked = record { has = has; wants = wants; choked = choked }
 
--- A message on the channel whose bits begin at b in both rooms: "HAVE and ACK set the peer's has-bits and clear its wants;
+-- A message on the channel whose bits begin at b in both rooms: "HAVE and ACK set the peer's has-bits and clear its wants ..;
 -- REQUEST sets wants; CANCEL clears them; CHOKE sets a mark, UNCHOKE clears it". INTEGRITY and DATA change none of these.
-unfoldable pub effect : ℕ → Message → Marks → Marks
+unfoldable pub effect : ℕ → Message → Peer → Peer
 effect b (Handshake a o) m = m
 effect b (Data c x p n) m = m
-effect b (Ack f l d) m = marksOf (setRange (m .has) (b + f) (b + l + 1)) (clearRange (m .wants) (b + f) (b + l + 1)) (m .choked)
-effect b (Have f l) m = marksOf (setRange (m .has) (b + f) (b + l + 1)) (clearRange (m .wants) (b + f) (b + l + 1)) (m .choked)
+effect b (Ack f l d) m = peerOf (setRange (m .has) (b + f) (b + l + 1)) (clearRange (m .wants) (b + f) (b + l + 1)) (m .choked)
+effect b (Have f l) m = peerOf (setRange (m .has) (b + f) (b + l + 1)) (clearRange (m .wants) (b + f) (b + l + 1)) (m .choked)
 effect b (Integrity f l h) m = m
-effect b (Request f l) m = marksOf (m .has) (setRange (m .wants) (b + f) (b + l + 1)) (m .choked)
-effect b (Cancel f l) m = marksOf (m .has) (clearRange (m .wants) (b + f) (b + l + 1)) (m .choked)
-effect b Choke m = marksOf (m .has) (m .wants) true
-effect b Unchoke m = marksOf (m .has) (m .wants) false
+effect b (Request f l) m = peerOf (m .has) (setRange (m .wants) (b + f) (b + l + 1)) (m .choked)
+effect b (Cancel f l) m = peerOf (m .has) (clearRange (m .wants) (b + f) (b + l + 1)) (m .choked)
+effect b Choke m = peerOf (m .has) (m .wants) true
+effect b Unchoke m = peerOf (m .has) (m .wants) false
 
 -- The messages of a datagram, "in datagram order".
-unfoldable pub effects : ℕ → List Item → Marks → Marks
+unfoldable pub effects : ℕ → List Item → Peer → Peer
 effects b [] m = m
 effects b (i ∷ is) m = effects b is (effect b (i .message) m)

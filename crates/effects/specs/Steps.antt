@@ -2,18 +2,18 @@
 use Prim.Native.Nat.{ℕ}
 use Rattle.wire.specs.declared.message.Step.{Step}
 use Rattle.wire.specs.declared.message.Step.the-variants.{Read, End, Refused}
-use Rattle.effects.specs.Effects.{Marks, effect}
+use Rattle.effects.specs.Effects.{Peer, effect}
 
--- The marks after a turn, where the next message stands, and how many are left at most.
+-- The peer after a turn, where the next message stands, and how many are left at most.
 pub record Turned : Type 0 where
-  pub marks : Marks
+  pub peer : Peer
   pub at : ℕ
   pub left : ℕ
 
-abbrev pub turnOf : Marks → ℕ → ℕ → Turned
-turnOf m at left = record { marks = m; at = at; left = left }
+abbrev pub turnOf : Peer → ℕ → ℕ → Turned
+turnOf m at left = record { peer = m; at = at; left = left }
 
-unfoldable pub turned : ℕ → Marks → ℕ → Step → Turned
+unfoldable pub turned : ℕ → Peer → ℕ → Step → Turned
 turned b m left (Read message next) = turnOf (effect b message m) (next .at) left
 turned b m left End = turnOf m 0 0
 turned b m left Refused = turnOf m 0 0

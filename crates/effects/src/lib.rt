@@ -4,7 +4,7 @@ ghost use mathlib.Core.Path.{_≡_};
 ghost use Prim.Native.Nat.{_<_, _^_};
 ghost use Rattle.wire.specs.Read.{stepAt};
 ghost use Rattle.writer.proofs.Promise.{readAll};
-ghost use Rattle.effects.specs.Effects.{past, anyPast, marksOf, effect, effects};
+ghost use Rattle.effects.specs.Effects.{past, anyPast, peerOf, effect, effects};
 ghost use Rattle.effects.specs.Steps.{turnOf, turned};
 use wire::limits::MIN_SIZE;
 use wire::message::Cursor;
@@ -81,7 +81,7 @@ fn have(
     last: u32,
 ) -> bool
     requires { ⌜ base < 2 ^ 32 ⌝ }
-    ensures { λ r. ⌜ marksOf (now (has .exit)) (now (wants .exit)) r ≡ effect base (Message.Have first last) (marksOf (now (has .entry)) (now (wants .entry)) choked) ⌝ }
+    ensures { λ r. ⌜ peerOf (now (has .exit)) (now (wants .exit)) r ≡ effect base (Message.Have first last) (peerOf (now (has .entry)) (now (wants .entry)) choked) ⌝ }
 {
     let from = base + first as usize;
     let upto = base + last as usize + 1;
@@ -99,7 +99,7 @@ fn apply_one(
     message: Message,
 ) -> bool
     requires { ⌜ base < 2 ^ 32 ⌝ }
-    ensures { λ r. ⌜ marksOf (now (has .exit)) (now (wants .exit)) r ≡ effect base message (marksOf (now (has .entry)) (now (wants .entry)) choked) ⌝ }
+    ensures { λ r. ⌜ peerOf (now (has .exit)) (now (wants .exit)) r ≡ effect base message (peerOf (now (has .entry)) (now (wants .entry)) choked) ⌝ }
 {
     match message {
         Message::Ack {
@@ -140,7 +140,7 @@ fn apply_turn(
     datagram: &[u8],
 ) -> Turn
     requires { ⌜ base < 2 ^ 32 ⌝ }
-    ensures { λ r. ⌜ turnOf (marksOf (now (has .exit)) (now (wants .exit)) (r .choked)) (r .at) (r .left) ≡ turned base (marksOf (now (has .entry)) (now (wants .entry)) choked) left (stepAt (now (datagram .entry)) at) ⌝ }
+    ensures { λ r. ⌜ turnOf (peerOf (now (has .exit)) (now (wants .exit)) (r .choked)) (r .at) (r .left) ≡ turned base (peerOf (now (has .entry)) (now (wants .entry)) choked) left (stepAt (now (datagram .entry)) at) ⌝ }
 {
     match read::read(datagram, Cursor { at }) {
         Step::Read { message, next } => Turn {
@@ -164,7 +164,7 @@ fn apply_turn(
 // The effects of a datagram's messages, one after the other; whether the peer choked us afterwards.
 pub fn apply(has: &mut [u32], wants: &mut [u32], base: usize, choked: bool, datagram: &[u8]) -> bool
     requires { ⌜ base < 2 ^ 32 ⌝ }
-    ensures { λ r. ⌜ marksOf (now (has .exit)) (now (wants .exit)) r ≡ effects base (readAll (now (datagram .entry))) (marksOf (now (has .entry)) (now (wants .entry)) choked) ⌝ }
+    ensures { λ r. ⌜ peerOf (now (has .exit)) (now (wants .exit)) r ≡ effects base (readAll (now (datagram .entry))) (peerOf (now (has .entry)) (now (wants .entry)) choked) ⌝ }
 {
     let mut mark = choked;
     let mut at: usize = MIN_SIZE;

@@ -51,6 +51,14 @@ hasId id r = pick (isFree (r .phase)) false (eqb (r .id) id)
 unfoldable pub rowOf : List Row → ℕ → ℕ
 rowOf rs id = firstRow (hasId id) rs
 
+-- Whether a row is open under an ID of ours.
+abbrev pub isOpenUnder : ℕ → Row → Bool
+isOpenUnder id r = pick (isOpen (r .phase)) (eqb (r .id) id) false
+
+-- The lowest row open under an ID.
+unfoldable pub openRowOf : List Row → ℕ → ℕ
+openRowOf rs id = firstRow (isOpenUnder id) rs
+
 -- The row at a place; past the table a free one.
 unfoldable pub rowAt : List Row → ℕ → Row
 rowAt rs i = getD rs i freeRow

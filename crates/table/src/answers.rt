@@ -89,13 +89,7 @@ pub fn handshake_answer(table: Table, destination: u32, source: u32, ours: bool,
 pub fn write_answer(table: Table, id: u32) -> u32
     ensures { λ r. ⌜ r ≡ writeAnswer (table .rows) id ⌝ }
 {
-    let i = rows::row_of(table, id);
-    if ROWS <= i {
-        return 3;
-    }
-    let row = rows::row_at(table, i);
-    let phase = row.phase;
-    if rows::is_open(phase) {
+    if rows::open_row_of(table, id) < ROWS {
         return 0;
     }
     3

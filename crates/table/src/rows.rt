@@ -1,7 +1,7 @@
 // The rows of the channel table, by value.
 ghost use mathlib.Core.Path.{_≡_};
 ghost use Prim.Native.Nat.{_≤_};
-ghost use Rattle.table.specs.Rows.{rowCount, isFree, isOpen, freeRow, freeTable, hasId, lowestFree, rowOf, rowAt, withRow, rowAfter};
+ghost use Rattle.table.specs.Rows.{rowCount, isFree, isOpen, freeRow, freeTable, hasId, lowestFree, rowOf, isOpenUnder, openRowOf, rowAt, withRow, rowAfter};
 
 // How many channels there are.
 pub const ROWS: usize = 16;
@@ -101,6 +101,32 @@ pub fn row_of(table: Table, id: u32) -> usize
     while i < ROWS {
         let row = table.rows[i];
         if has_id(row, id) {
+            return i;
+        }
+        i += 1;
+    }
+    i
+}
+
+// Whether a row is open under an ID of ours.
+fn is_open_under(row: Row, id: u32) -> bool
+    ensures { λ r. ⌜ r ≡ isOpenUnder id row ⌝ }
+{
+    let phase = row.phase;
+    if is_open(phase) {
+        return row.id == id;
+    }
+    false
+}
+
+// The lowest row open under an ID, or 16.
+pub fn open_row_of(table: Table, id: u32) -> usize
+    ensures { λ r. ⌜ (r ≡ openRowOf (table .rows) id) × (r ≤ rowCount) ⌝ }
+{
+    let mut i: usize = 0;
+    while i < ROWS {
+        let row = table.rows[i];
+        if is_open_under(row, id) {
             return i;
         }
         i += 1;

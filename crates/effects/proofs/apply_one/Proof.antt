@@ -1,6 +1,6 @@
 use mathlib.Core.Path.{refl}
 use Rattle.effects.proofs.EffectLaws.{effect-of, request-does, cancel-does, others-do}
-use Rattle.effects.specs.Effects.{marksOf, effect}
+use Rattle.effects.specs.Effects.{peerOf, effect}
 use borrow.Author.Needs.{needs}
 use Rattle.effects.proofs.apply_one.Statement.{statement}
 use Rattle.effects.proofs.apply_one.Tie as tie
@@ -73,7 +73,7 @@ same-length-2 c = search needs
 
 returns : tie.Need-returns
 unfolding effect
-returns c = let a = c .before .before .before .before .before .before .before .before .before .before .before .before .args in effect-of (a .base) (marksOf (a .has .now) (a .wants .now) (a .choked)) (c .before .before .before .before .before .before .before .before .message .given .1) (c .before .before .before .before .have .ensures)
+returns c = let a = c .before .before .before .before .before .before .before .before .before .before .before .before .args in effect-of (a .base) (peerOf (a .has .now) (a .wants .now) (a .choked)) (c .before .before .before .before .before .before .before .before .message .given .1) (c .before .before .before .before .have .ensures)
 
 same-length-3 : tie.Need-same-length-3
 same-length-3 c = search needs
@@ -82,30 +82,30 @@ same-length-4 : tie.Need-same-length-4
 same-length-4 c = search needs
 
 returns-2 : tie.Need-returns-2
-returns-2 c = let a = c .before .before .before .before .before .before .before .before .before .before .before .before .args in effect-of (a .base) (marksOf (a .has .now) (a .wants .now) (a .choked)) (c .before .before .before .before .before .before .before .before .message2 .given .1) (c .before .before .before .before .have2 .ensures)
+returns-2 c = let a = c .before .before .before .before .before .before .before .before .before .before .before .before .args in effect-of (a .base) (peerOf (a .has .now) (a .wants .now) (a .choked)) (c .before .before .before .before .before .before .before .before .message2 .given .1) (c .before .before .before .before .have2 .ensures)
 
 same-length-5 : tie.Need-same-length-5
 same-length-5 c = search needs
 
 returns-3 : tie.Need-returns-3
-returns-3 c = let a = c .before .before .before .before .before .before .before .before .before .args in effect-of (a .base) (marksOf (a .has .now) (a .wants .now) (a .choked)) (c .before .before .before .before .before .message3 .given .1) (request-does (a .base) (a .has .now) (a .wants .now) (a .choked) _ _ (c .before .before .set-range .ensures))
+returns-3 c = let a = c .before .before .before .before .before .before .before .before .before .args in effect-of (a .base) (peerOf (a .has .now) (a .wants .now) (a .choked)) (c .before .before .before .before .before .message3 .given .1) (request-does (a .base) (a .has .now) (a .wants .now) (a .choked) _ _ (c .before .before .set-range .ensures))
 
 same-length-6 : tie.Need-same-length-6
 same-length-6 c = search needs
 
 returns-4 : tie.Need-returns-4
-returns-4 c = let a = c .before .before .before .before .before .before .before .before .before .args in effect-of (a .base) (marksOf (a .has .now) (a .wants .now) (a .choked)) (c .before .before .before .before .before .message4 .given .1) (cancel-does (a .base) (a .has .now) (a .wants .now) (a .choked) _ _ (c .before .before .clear-range .ensures))
+returns-4 c = let a = c .before .before .before .before .before .before .before .before .before .args in effect-of (a .base) (peerOf (a .has .now) (a .wants .now) (a .choked)) (c .before .before .before .before .before .message4 .given .1) (cancel-does (a .base) (a .has .now) (a .wants .now) (a .choked) _ _ (c .before .before .clear-range .ensures))
 
 returns-5 : tie.Need-returns-5
 unfolding effect
-returns-5 c = let a = c .before .before .before .before .args in effect-of (a .base) (marksOf (a .has .now) (a .wants .now) (a .choked)) (c .enum-told .given .1) refl
+returns-5 c = let a = c .before .before .before .before .args in effect-of (a .base) (peerOf (a .has .now) (a .wants .now) (a .choked)) (c .enum-told .given .1) refl
 
 returns-6 : tie.Need-returns-6
 unfolding effect
-returns-6 c = let a = c .before .before .before .before .args in effect-of (a .base) (marksOf (a .has .now) (a .wants .now) (a .choked)) (c .enum-told2 .given .1) refl
+returns-6 c = let a = c .before .before .before .before .args in effect-of (a .base) (peerOf (a .has .now) (a .wants .now) (a .choked)) (c .enum-told2 .given .1) refl
 
 returns-7 : tie.Need-returns-7
-returns-7 c = let a = c .before .before .before .args in others-do (a .base) (marksOf (a .has .now) (a .wants .now) (a .choked)) (a .message) (c .match .keys7)
+returns-7 c = let a = c .before .before .before .args in others-do (a .base) (peerOf (a .has .now) (a .wants .now) (a .choked)) (a .message) (c .match .keys7)
 
 pub apply-one-spec : {M : Type 1} → statement M
 apply-one-spec =

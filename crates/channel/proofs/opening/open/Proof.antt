@@ -8,8 +8,8 @@ use borrow.Author.Needs.{needs}
 use Rattle.channel.proofs.opening.open.Statement.{statement}
 use Rattle.channel.proofs.opening.open.Tie as tie
 
-rooms-answer-requires : tie.Need-rooms-answer-requires
-rooms-answer-requires c κs = search needs
+all-rooms-answer-requires : tie.Need-all-rooms-answer-requires
+all-rooms-answer-requires c κs = search needs
 
 open-answer-requires : tie.Need-open-answer-requires
 open-answer-requires c κs = search needs
@@ -18,10 +18,10 @@ earlier-requires : tie.Need-earlier-requires
 earlier-requires c κs = search needs
 
 returns : tie.Need-returns
-returns c = let a = c .before .before .before .before .before .before .before .before .before .before .before .before .before .args in open-refused (worldOf (a .state) (a .chunks .now) (a .map .now) (a .hashes .now) (a .trusted .now) (a .has .now) (a .wants .now) (a .reply .now)) (a .id) (both-numbers (c .before .before .before .rooms-answer .ensures) (c .before .before .open-answer .ensures) (c .before .earlier .ensures)) (c .if1 .taken)
+returns c = let a = c .before .before .before .before .before .before .before .before .before .before .before .before .before .args in open-refused (worldOf (a .state) (a .chunks .now) (a .map .now) (a .hashes .now) (a .trusted .now) (a .has .now) (a .wants .now) (a .reply .now)) (a .id) (both-numbers (c .before .before .before .all-rooms-answer .ensures) (c .before .before .open-answer .ensures) (c .before .earlier .ensures)) (c .if1 .taken)
 
 occupy-requires : tie.Need-occupy-requires
-occupy-requires c κs = call-accepted _ _ _ _ _ _ _ _ (sym (c .before .before .before .before .before .before .rooms-answer .ensures) ∙ both-zero _ _ (sym (c .before .before .before .before .earlier .ensures) ∙ omega arith) .0) .1
+occupy-requires c κs = call-accepted _ _ _ _ _ _ _ _ (sym (c .before .before .before .before .before .before .all-rooms-answer .ensures) ∙ both-zero _ _ (sym (c .before .before .before .before .earlier .ensures) ∙ omega arith) .0) .1
 
 same-length : tie.Need-same-length
 same-length c = search needs
@@ -33,13 +33,13 @@ same-length-3 : tie.Need-same-length-3
 same-length-3 c = search needs
 
 returns-2 : tie.Need-returns-2
-returns-2 c = let a = c .before .before .before .before .before .before .before .before .before .before .before .before .before .before .before .before .before .before .before .before .before .before .before .args in open-done (worldOf (a .state) (a .chunks .now) (a .map .now) (a .hashes .now) (a .trusted .now) (a .has .now) (a .wants .now) (a .reply .now)) (a .id) (both-numbers (c .before .before .before .before .before .before .before .before .before .before .before .before .before .rooms-answer .ensures) (c .before .before .before .before .before .before .before .before .before .before .before .before .open-answer .ensures) (c .before .before .before .before .before .before .before .before .before .before .before .earlier .ensures)) (omega (arith, c .before .before .before .before .before .before .before .before .before .before .if1 .left)) (c .before .before .before .before .before .before .occupy .ensures)
+returns-2 c = let a = c .before .before .before .before .before .before .before .before .before .before .before .before .before .before .before .before .before .before .before .before .before .before .before .args in open-done (worldOf (a .state) (a .chunks .now) (a .map .now) (a .hashes .now) (a .trusted .now) (a .has .now) (a .wants .now) (a .reply .now)) (a .id) (both-numbers (c .before .before .before .before .before .before .before .before .before .before .before .before .before .all-rooms-answer .ensures) (c .before .before .before .before .before .before .before .before .before .before .before .before .open-answer .ensures) (c .before .before .before .before .before .before .before .before .before .before .before .earlier .ensures)) (omega (arith, c .before .before .before .before .before .before .before .before .before .before .if1 .left)) (c .before .before .before .before .before .before .occupy .ensures)
 
 pub open-spec : {M : Type 1} → statement M
 open-spec =
     tie.close
     (tie.spec
-    rooms-answer-requires
+    all-rooms-answer-requires
     open-answer-requires
     earlier-requires
     returns

@@ -1,18 +1,18 @@
 use native.Mathlib.Omega.{arith}
 use Rattle.store.proofs.Promise.{roomsOf}
 use Rattle.channel.specs.World.{worldOf}
-use Rattle.channel.proofs.BeginLaws.{start-not, start-done}
+use Rattle.channel.proofs.StartLaws.{start-not, start-done}
 use borrow.Author.Needs.{needs}
 use Rattle.channel.proofs.starting.start.Statement.{statement}
 use Rattle.channel.proofs.starting.start.Tie as tie
 
-rooms-answer-requires : tie.Need-rooms-answer-requires
-rooms-answer-requires c κs = search needs
+all-rooms-answer-requires : tie.Need-all-rooms-answer-requires
+all-rooms-answer-requires c κs = search needs
 
 returns : tie.Need-returns
 returns c =
     let a = c .before .before .before .before .before .before .before .before .before .args in
-    start-not (worldOf (a .state) (a .chunks .now) (a .map .now) (a .hashes .now) (a .trusted .now) (a .has .now) (a .wants .now) (a .reply .now)) (a .order) _ (c .before .rooms-answer .ensures) (c .if1 .taken)
+    start-not (worldOf (a .state) (a .chunks .now) (a .map .now) (a .hashes .now) (a .trusted .now) (a .has .now) (a .wants .now) (a .reply .now)) (a .order) _ (c .before .all-rooms-answer .ensures) (c .if1 .taken)
 
 start-requires : tie.Need-start-requires
 start-requires c κs = search needs
@@ -45,13 +45,13 @@ returns-2 : tie.Need-returns-2
 returns-2 c =
     let a = c .before .before .before .before .before .before .before .before .before .before .before .before .before .before .before .before .before .before .before .before .before .before .before .before .before .before .before .before .args in
     let g = c .before .before .before .before .before .before .before .before .before .before .before .before .before .before .before .start in
-    start-done (worldOf (a .state) (a .chunks .now) (a .map .now) (a .hashes .now) (a .trusted .now) (a .has .now) (a .wants .now) (a .reply .now)) (a .order) _ (c .before .before .before .before .before .before .before .before .before .before .before .before .before .before .before .before .before .before .before .before .rooms-answer .ensures) (omega (arith, c .before .before .before .before .before .before .before .before .before .before .before .before .before .before .before .before .before .before .before .if1 .left)) {rooms = roomsOf (a .chunks .now) (g .last .1 .1 .0) (g .last .1 .1 .1 .0) (g .last .1 .1 .1 .1 .0)} (g .ensures) (c .before .before .before .before .before .before .before .clear-rows .ensures) (c .before .before .before .clear-rows2 .ensures) (c .fresh-state .ensures)
+    start-done (worldOf (a .state) (a .chunks .now) (a .map .now) (a .hashes .now) (a .trusted .now) (a .has .now) (a .wants .now) (a .reply .now)) (a .order) _ (c .before .before .before .before .before .before .before .before .before .before .before .before .before .before .before .before .before .before .before .before .all-rooms-answer .ensures) (omega (arith, c .before .before .before .before .before .before .before .before .before .before .before .before .before .before .before .before .before .before .before .if1 .left)) {rooms = roomsOf (a .chunks .now) (g .last .1 .1 .0) (g .last .1 .1 .1 .0) (g .last .1 .1 .1 .1 .0)} (g .ensures) (c .before .before .before .before .before .before .before .clear-rows .ensures) (c .before .before .before .clear-rows2 .ensures) (c .fresh-state .ensures)
 
 pub start-spec : {M : Type 1} → statement M
 start-spec =
     tie.close
     (tie.spec
-    rooms-answer-requires
+    all-rooms-answer-requires
     returns
     start-requires
     clear-rows-requires

@@ -8,8 +8,8 @@ use Rattle.channel.proofs.writing.write.Tie as tie
 chunk-count-requires : tie.Need-chunk-count-requires
 chunk-count-requires c κs = search needs
 
-rooms-answer-requires : tie.Need-rooms-answer-requires
-rooms-answer-requires c κs = search needs
+all-rooms-answer-requires : tie.Need-all-rooms-answer-requires
+all-rooms-answer-requires c κs = search needs
 
 write-answer-requires : tie.Need-write-answer-requires
 write-answer-requires c κs = search needs
@@ -26,10 +26,10 @@ earlier-requires-2 c κs = search needs
 returns : tie.Need-returns
 returns c =
     let a = c .before .before .before .before .before .before .before .before .before .before .before .before .before .before .before .before .args in
-    write-not (worldOf (a .state) (a .chunks .now) (a .map .now) (a .hashes .now) (a .trusted .now) (a .has .now) (a .wants .now) (a .reply .now)) (a .id) (a .c) (a .clock) _ (c .before .before .before .before .before .before .chunk-count .ensures) (c .before .before .before .before .before .rooms-answer .ensures) (c .before .before .before .before .write-answer .ensures) (c .before .before .before .held-answer .ensures) (c .before .before .earlier .ensures) (c .before .earlier2 .ensures) (c .if1 .taken)
+    write-not (worldOf (a .state) (a .chunks .now) (a .map .now) (a .hashes .now) (a .trusted .now) (a .has .now) (a .wants .now) (a .reply .now)) (a .id) (a .c) (a .clock) _ (c .before .before .before .before .before .before .chunk-count .ensures) (c .before .before .before .before .before .all-rooms-answer .ensures) (c .before .before .before .before .write-answer .ensures) (c .before .before .before .held-answer .ensures) (c .before .before .earlier .ensures) (c .before .earlier2 .ensures) (c .if1 .taken)
 
-row-of-requires : tie.Need-row-of-requires
-row-of-requires c κs = search needs
+open-row-of-requires : tie.Need-open-row-of-requires
+open-row-of-requires c κs = search needs
 
 row-at-requires : tie.Need-row-at-requires
 row-at-requires c κs = search needs
@@ -58,13 +58,13 @@ part-chunk-start c = search needs
 part-chunk-end : tie.Need-part-chunk-end
 part-chunk-end c =
     let a = c .before .before .before .before .before .before .before .before .before .before .before .before .before .before .before .before .before .before .before .before .args in
-    let p = write-facts (worldOf (a .state) (a .chunks .now) (a .map .now) (a .hashes .now) (a .trusted .now) (a .has .now) (a .wants .now) (a .reply .now)) (a .id) (a .c) (a .clock) _ (c .before .before .before .before .before .before .before .before .before .before .chunk-count .ensures) (c .before .before .before .before .before .before .before .before .before .rooms-answer .ensures) (c .before .before .before .before .before .before .before .before .write-answer .ensures) (c .before .before .before .before .before .before .before .held-answer .ensures) (c .before .before .before .before .before .before .earlier .ensures) (c .before .before .before .before .before .earlier2 .ensures) (omega arith) _ (c .before .chunk-size .ensures) in
+    let p = write-facts (worldOf (a .state) (a .chunks .now) (a .map .now) (a .hashes .now) (a .trusted .now) (a .has .now) (a .wants .now) (a .reply .now)) (a .id) (a .c) (a .clock) _ (c .before .before .before .before .before .before .before .before .before .before .chunk-count .ensures) (c .before .before .before .before .before .before .before .before .before .all-rooms-answer .ensures) (c .before .before .before .before .before .before .before .before .write-answer .ensures) (c .before .before .before .before .before .before .before .held-answer .ensures) (c .before .before .before .before .before .before .earlier .ensures) (c .before .before .before .before .before .earlier2 .ensures) (omega arith) _ (c .before .chunk-size .ensures) in
     omega (arith, p .inside)
 
 chunk-requires : tie.Need-chunk-requires
 chunk-requires c κs =
     let a = c .before .before .before .before .before .before .before .before .before .before .before .before .before .before .before .before .before .before .before .before .before .args in
-    let p = write-facts (worldOf (a .state) (a .chunks .now) (a .map .now) (a .hashes .now) (a .trusted .now) (a .has .now) (a .wants .now) (a .reply .now)) (a .id) (a .c) (a .clock) _ (c .before .before .before .before .before .before .before .before .before .before .before .chunk-count .ensures) (c .before .before .before .before .before .before .before .before .before .before .rooms-answer .ensures) (c .before .before .before .before .before .before .before .before .before .write-answer .ensures) (c .before .before .before .before .before .before .before .before .held-answer .ensures) (c .before .before .before .before .before .before .before .earlier .ensures) (c .before .before .before .before .before .before .earlier2 .ensures) (omega arith) _ (c .before .before .chunk-size .ensures) in
+    let p = write-facts (worldOf (a .state) (a .chunks .now) (a .map .now) (a .hashes .now) (a .trusted .now) (a .has .now) (a .wants .now) (a .reply .now)) (a .id) (a .c) (a .clock) _ (c .before .before .before .before .before .before .before .before .before .before .before .chunk-count .ensures) (c .before .before .before .before .before .before .before .before .before .before .all-rooms-answer .ensures) (c .before .before .before .before .before .before .before .before .before .write-answer .ensures) (c .before .before .before .before .before .before .before .before .held-answer .ensures) (c .before .before .before .before .before .before .before .earlier .ensures) (c .before .before .before .before .before .before .earlier2 .ensures) (omega arith) _ (c .before .before .chunk-size .ensures) in
     (p .fits, (p .count, p .short))
 
 same-length : tie.Need-same-length
@@ -73,20 +73,20 @@ same-length c = search needs
 returns-2 : tie.Need-returns-2
 returns-2 c =
     let a = c .before .before .before .before .before .before .before .before .before .before .before .before .before .before .before .before .before .before .before .before .before .before .before .before .args in
-    write-done (worldOf (a .state) (a .chunks .now) (a .map .now) (a .hashes .now) (a .trusted .now) (a .has .now) (a .wants .now) (a .reply .now)) (a .id) (a .c) (a .clock) _ (c .before .before .before .before .before .before .before .before .before .before .before .before .before .before .chunk-count .ensures) (c .before .before .before .before .before .before .before .before .before .before .before .before .before .rooms-answer .ensures) (c .before .before .before .before .before .before .before .before .before .before .before .before .write-answer .ensures) (c .before .before .before .before .before .before .before .before .before .before .before .held-answer .ensures) (c .before .before .before .before .before .before .before .before .before .before .earlier .ensures) (c .before .before .before .before .before .before .before .before .before .earlier2 .ensures) (omega arith) _ (c .before .before .before .before .before .chunk-size .ensures) _ (c .before .before .before .before .before .before .row-at .ensures) (c .before .before .before .before .before .before .before .row-of .ensures .0) (c .before .before .chunk .ensures)
+    write-done (worldOf (a .state) (a .chunks .now) (a .map .now) (a .hashes .now) (a .trusted .now) (a .has .now) (a .wants .now) (a .reply .now)) (a .id) (a .c) (a .clock) _ (c .before .before .before .before .before .before .before .before .before .before .before .before .before .before .chunk-count .ensures) (c .before .before .before .before .before .before .before .before .before .before .before .before .before .all-rooms-answer .ensures) (c .before .before .before .before .before .before .before .before .before .before .before .before .write-answer .ensures) (c .before .before .before .before .before .before .before .before .before .before .before .held-answer .ensures) (c .before .before .before .before .before .before .before .before .before .before .earlier .ensures) (c .before .before .before .before .before .before .before .before .before .earlier2 .ensures) (omega arith) _ (c .before .before .before .before .before .chunk-size .ensures) _ (c .before .before .before .before .before .before .row-at .ensures) (c .before .before .before .before .before .before .before .open-row-of .ensures .0) (c .before .before .chunk .ensures)
 
 pub write-spec : {M : Type 1} → statement M
 write-spec =
     tie.close
     (tie.spec
     chunk-count-requires
-    rooms-answer-requires
+    all-rooms-answer-requires
     write-answer-requires
     held-answer-requires
     earlier-requires
     earlier-requires-2
     returns
-    row-of-requires
+    open-row-of-requires
     row-at-requires
     cast-from
     mul-from

@@ -3,8 +3,8 @@ use mir.Val.{Fits}
 use mir.Syntax.{w32}
 use Rattle.channel.proofs.RoomLaws.{rows-small, has-short, wants-short, reply-short, sides-right}
 use borrow.Author.Needs.{needs}
-use Rattle.channel.proofs.rooms.side_answer.Statement.{statement}
-use Rattle.channel.proofs.rooms.side_answer.Tie as tie
+use Rattle.channel.proofs.rooms.channel_rooms_answer.Statement.{statement}
+use Rattle.channel.proofs.rooms.channel_rooms_answer.Tie as tie
 
 chunk-count-requires : tie.Need-chunk-count-requires
 chunk-count-requires c κs = search needs
@@ -41,8 +41,8 @@ returns-4 c =
     let a = c .before .before .before .before .before .args in
     sides-right (a .length) (a .has) (a .wants) (a .reply) _ _ (c .before .before .before .before .chunk-count .ensures) (c .before .before .before .row-words .ensures) (omega arith) (omega arith) (omega arith)
 
-pub side-answer-spec : {M : Type 1} → statement M
-side-answer-spec =
+pub channel-rooms-answer-spec : {M : Type 1} → statement M
+channel-rooms-answer-spec =
     tie.close
     (tie.spec
     chunk-count-requires

@@ -1,8 +1,8 @@
 use native.Mathlib.Omega.{arith}
 use Rattle.channel.proofs.AskLaws.{ask-length, ask-short, ask-right}
 use borrow.Author.Needs.{needs}
-use Rattle.channel.proofs.asking.ask_answer.Statement.{statement}
-use Rattle.channel.proofs.asking.ask_answer.Tie as tie
+use Rattle.channel.proofs.asking.ask_number.Statement.{statement}
+use Rattle.channel.proofs.asking.ask_number.Tie as tie
 
 length-answer-requires : tie.Need-length-answer-requires
 length-answer-requires c κs = search needs
@@ -19,6 +19,6 @@ returns-2 c = ask-short _ _ _ (c .before .before .before .length-answer .ensures
 returns-3 : tie.Need-returns-3
 returns-3 c = ask-right _ _ _ (c .before .before .before .length-answer .ensures) (omega arith) (c .before .row-words .ensures) (omega arith)
 
-pub ask-answer-spec : {M : Type 1} → statement M
-ask-answer-spec =
+pub ask-number-spec : {M : Type 1} → statement M
+ask-number-spec =
     tie.close (tie.spec length-answer-requires returns row-words-requires returns-2 returns-3)

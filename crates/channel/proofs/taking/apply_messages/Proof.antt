@@ -1,8 +1,8 @@
 use native.Mathlib.Omega.{arith}
-use Rattle.channel.proofs.TakeLaws.{base-small, marked-is}
+use Rattle.channel.proofs.TakeLaws.{base-small, affected-is}
 use borrow.Author.Needs.{needs}
-use Rattle.channel.proofs.taking.mark.Statement.{statement}
-use Rattle.channel.proofs.taking.mark.Tie as tie
+use Rattle.channel.proofs.taking.apply_messages.Statement.{statement}
+use Rattle.channel.proofs.taking.apply_messages.Tie as tie
 
 load32-requires : tie.Need-load32-requires
 load32-requires c κs = search needs
@@ -41,10 +41,10 @@ same-length-2 : tie.Need-same-length-2
 same-length-2 c = search needs
 
 returns : tie.Need-returns
-returns c = marked-is _ _ _ _ (c .before .before .before .before .before .before .before .before .before .before .before .before .load32 .ensures) (c .before .before .before .before .before .before .before .before .before .chunk-count .ensures) (c .before .before .before .before .before .before .before .before .row-words .ensures) (c .before .before .before .before .before .before .before .before .before .before .before .row-of .ensures .0) (c .before .before .before .before .before .before .before .before .before .before .row-at .ensures) (c .before .before .before .before .before .apply .ensures) (c .with-row .ensures)
+returns c = affected-is _ _ _ _ (c .before .before .before .before .before .before .before .before .before .before .before .before .load32 .ensures) (c .before .before .before .before .before .before .before .before .before .chunk-count .ensures) (c .before .before .before .before .before .before .before .before .row-words .ensures) (c .before .before .before .before .before .before .before .before .before .before .before .row-of .ensures .0) (c .before .before .before .before .before .before .before .before .before .before .row-at .ensures) (c .before .before .before .before .before .apply .ensures) (c .with-row .ensures)
 
-pub mark-spec : {M : Type 1} → statement M
-mark-spec =
+pub apply-messages-spec : {M : Type 1} → statement M
+apply-messages-spec =
     tie.close
     (tie.spec
     load32-requires

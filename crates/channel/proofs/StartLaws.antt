@@ -13,8 +13,8 @@ use Rattle.store.proofs.Promise as store
 use Rattle.store.specs.declared.calls.Order.{Order}
 use Rattle.channel.specs.declared.state.State.{State}
 use Rattle.channel.specs.World.{World, Channels, channelsOf, outOf}
-use Rattle.channel.specs.Answers.{channelsAnswer, worldAnswer}
-use Rattle.channel.specs.Begin.{freshState, freshChannels, startSpec, orderFor, packAnswer, buildSpec}
+use Rattle.channel.specs.Answers.{channelsAnswer, allRoomsAnswer}
+use Rattle.channel.specs.Starting.{freshState, freshChannels, startSpec, orderFor, buildNumber, buildSpec}
 use Rattle.channel.proofs.OutLaws.{unless-not, unless-done}
 
 -- What a store begins with: its chunk rooms, every row free, and both rooms for peers cleared.
@@ -27,11 +27,11 @@ begun ch o se re he we = cc
 
 -- ---- starting
 
-module _ (w : World) (o : Order) (k : ℕ) (ke : k ≡ worldAnswer (o .length) w) where
+module _ (w : World) (o : Order) (k : ℕ) (ke : k ≡ allRoomsAnswer (o .length) w) where
   -- A refused start.
   pub start-not : k ≢ 0 → outOf k 0 w ≡ startSpec w o
   unfolding startSpec
-  start-not d = ap (λ (x : ℕ). outOf x 0 w) ke ∙ unless-not (worldAnswer (o .length) w) w _ (λ z. d (ke ∙ z))
+  start-not d = ap (λ (x : ℕ). outOf x 0 w) ke ∙ unless-not (allRoomsAnswer (o .length) w) w _ (λ z. d (ke ∙ z))
 
   -- One that is not refused: the store's rooms as its start leaves them, the rooms for peers cleared.
   pub start-done : k ≡ 0 → {n : ℕ} {st : State} {rooms : Rooms} {has wants : List ℕ}
@@ -43,7 +43,7 @@ module _ (w : World) (o : Order) (k : ℕ) (ke : k ≡ worldAnswer (o .length) w
   unfolding startSpec
   start-done z e he we se =
       ap (outOf 0 0) (begun (w .channels) o se (ap (λ (x : store.Out). x .rooms) e) he we)
-      ∙ unless-done (worldAnswer (o .length) w) w _ (sym ke ∙ z)
+      ∙ unless-done (allRoomsAnswer (o .length) w) w _ (sym ke ∙ z)
 
 -- ---- building
 
@@ -51,11 +51,11 @@ module _ (w : World) (o : Order) (k : ℕ) (ke : k ≡ worldAnswer (o .length) w
 found-words : (u r : List ℕ) → length u ≡ 8 → Words u → bytesOf u ≡ r → u ≡ words 8 r
 found-words u r l f e = sym (words-bytes u f) ∙ ap₂ words l e
 
-module _ (w : World) (L : ℕ) (s : List ℕ) (k : ℕ) (ke : k ≡ packAnswer w L s) where
+module _ (w : World) (L : ℕ) (s : List ℕ) (k : ℕ) (ke : k ≡ buildNumber w L s) where
   -- A refused building.
   pub build-not : k ≢ 0 → outOf k 0 w ≡ buildSpec w L s
   unfolding buildSpec
-  build-not d = ap (λ (x : ℕ). outOf x 0 w) ke ∙ unless-not (packAnswer w L s) w _ (λ z. d (ke ∙ z))
+  build-not d = ap (λ (x : ℕ). outOf x 0 w) ke ∙ unless-not (buildNumber w L s) w _ (λ z. d (ke ∙ z))
 
   -- One that is not refused: the root found is the content's.
   build-root : k ≡ 0 → (n : ℕ) (u : List ℕ) → n ≡ store.buildSpec (w .rooms) L s .answer → length u ≡ 8 → Words u
@@ -76,4 +76,4 @@ module _ (w : World) (L : ℕ) (s : List ℕ) (k : ℕ) (ke : k ≡ packAnswer w
   build-done z {n} v e l f he we se =
       let r : v .words ≡ words 8 (rootOf s) = build-root z n (v .words) (ap (λ (x : store.Out). x .answer) (e .0)) l f (e .1) in
       ap (outOf 0 0) (begun (w .channels) (orderFor L s) (se ∙ ap (λ (u : List ℕ). freshState (record { root = record { words = u }; length = L })) r) (ap (λ (x : store.Out). x .rooms) (e .0)) he we)
-      ∙ unless-done (packAnswer w L s) w _ (sym ke ∙ z)
+      ∙ unless-done (buildNumber w L s) w _ (sym ke ∙ z)

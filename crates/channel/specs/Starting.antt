@@ -10,7 +10,7 @@ use Rattle.store.proofs.Promise as store
 use Rattle.store.specs.declared.calls.Order.{Order}
 use Rattle.channel.specs.declared.state.State.{State}
 use Rattle.channel.specs.World.{World, Channels, channelsOf, Out, outOf, unless}
-use Rattle.channel.specs.Answers.{channelsAnswer, worldAnswer}
+use Rattle.channel.specs.Answers.{channelsAnswer, allRoomsAnswer}
 
 -- The state under a new order: every row is free.
 abbrev pub freshState : Order → State
@@ -28,7 +28,7 @@ freshChannels o ch =
 -- 12, then 11.
 unfoldable pub startSpec : World → Order → Out World
 startSpec w o =
-    unless (worldAnswer (o .length) w) w
+    unless (allRoomsAnswer (o .length) w) w
     (outOf 0 0 (record {
       rooms = store.startSpec (w .rooms) (bytesOf (o .root .words)) (o .length) .rooms;
       channels = freshChannels o (w .channels);
@@ -38,9 +38,9 @@ startSpec w o =
 abbrev pub orderFor : ℕ → List ℕ → Order
 orderFor L s = record { root = record { words = words 8 (store.rootOf s) }; length = L }
 
--- 12 also for "content of another length", then 11.
-abbrev pub packAnswer : World → ℕ → List ℕ → ℕ
-packAnswer w L s =
+-- 12 for the order's length and for "content of another length", then 11 for any of the seven rooms.
+abbrev pub buildNumber : World → ℕ → List ℕ → ℕ
+buildNumber w L s =
     earlier
     (buildAnswer L (length s) (length (w .rooms .bytes)) (length (w .rooms .map)) (length (w .rooms .hashes)) (length (w .rooms .trusted)))
     (channelsAnswer L (w .channels))
@@ -48,7 +48,7 @@ packAnswer w L s =
 -- "Building takes L and content ..; the rest is as after starting".
 unfoldable pub buildSpec : World → ℕ → List ℕ → Out World
 buildSpec w L s =
-    unless (packAnswer w L s) w
+    unless (buildNumber w L s) w
     (outOf 0 0 (record {
       rooms = store.buildSpec (w .rooms) L s .rooms;
       channels = freshChannels (orderFor L s) (w .channels);
