@@ -6,9 +6,8 @@ use lib.Dec.{ltb}
 use Rattle.bits.proofs.Promise.{rowWords}
 use Rattle.table.proofs.Promise.{rowCount}
 use Rattle.wire.proofs.Promise.{maxSize}
-use Rattle.store.proofs.Promise.{refuse, earlier, both-zero, countOf, lengthAnswer, orderAnswer, order-accepted}
+use Rattle.store.proofs.Promise.{earlier, passed, both-zero, countOf, lengthAnswer, orderAnswer, order-accepted}
 use Rattle.channel.specs.Answers.{channelRoomsAnswer}
-use Rattle.store.proofs.AnswerLaws.{passed}
 
 -- The rooms for what the peers have and want hold their rows, and the reply room a datagram.
 pub channel-rooms-accepted : (L h w r : ℕ) → channelRoomsAnswer L h w r ≡ 0

@@ -8,11 +8,10 @@ use borrow.Author.Tests.{lt-ltb, le-ltb}
 use lib.Dec.{eqb}
 use lib.ListN.{length}
 use Rattle.bits.proofs.Promise.{countBits, rowWords}
-use Rattle.store.proofs.Promise.{lengthAnswer}
+use Rattle.store.proofs.Promise.{earlier-not, lengthAnswer}
 use Rattle.channel.specs.declared.state.State.{State}
 use Rattle.channel.specs.World.{orderLength, chunkCount}
 use Rattle.channel.specs.Ask.{askedOf, askNumber, countedUnless, askSpec}
-use Rattle.channel.proofs.RoomLaws.{earlier-not}
 
 -- ---- its number
 

@@ -10,9 +10,7 @@ use lib.ListN.{length}
 use lib.Seq.{take-all}
 use Rattle.bits.proofs.Promise.{bitAt, countBits, rowWords, count-full, full-count}
 use Rattle.hash.proofs.Promise.{bytesOf, words, bytes-words}
-use Rattle.store.specs.Room.{Digest}
-use Rattle.store.specs.Whole.{Whole}
-use Rattle.store.proofs.Promise.{Rooms, countOf, Roomy, Running, HangsIn, Alike, lengthAnswer, roomsAnswer, rootOf, both-zero, order-accepted, build-accepted, start-zero, started-running, build-zero, built-running, content-root, running-hangs, whole-alike}
+use Rattle.store.proofs.Promise.{Rooms, countOf, Digest, Roomy, Running, Whole, HangsIn, Alike, lengthAnswer, roomsAnswer, rootOf, both-zero, order-accepted, build-accepted, start-zero, started-running, build-zero, built-running, content-root, running-hangs, whole-alike}
 use Rattle.store.specs.declared.calls.Order.{Order}
 use Rattle.channel.specs.declared.state.State.{State}
 use Rattle.channel.specs.World.{World, orderLength, chunkCount}

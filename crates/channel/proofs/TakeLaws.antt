@@ -25,7 +25,7 @@ use Rattle.replies.proofs.Promise.{ackReply}
 use Rattle.table.proofs.Promise.{rowCount, rowOf, rowAt, withRow, rowAfter, messagesAnswer, handshakeAnswer}
 use Rattle.table.specs.declared.rows.Row.{Row}
 use Rattle.table.specs.declared.rows.Table.{Table}
-use Rattle.store.proofs.Promise.{Out as StoreOut, outOf as storedOf, earlier, Rooms, countOf, lengthAnswer, length-accepted, integrityOf, takeSpec as storeTake, refused-same}
+use Rattle.store.proofs.Promise.{Out as StoreOut, outOf as storedOf, earlier-not, Rooms, countOf, lengthAnswer, length-accepted, integrityOf, takeSpec as storeTake, refused-same}
 use Rattle.channel.specs.declared.state.State.{State}
 use Rattle.channel.specs.World.{Channels, channelsOf, World, worldOf, Out, outOf, unless, beside, orderRoot, orderLength, chunkCount, tableRows, putRow, rowBit}
 use Rattle.channel.specs.Answers.{ownRoomsAnswer}
@@ -104,11 +104,7 @@ module _ (st : State) (s : List ℕ) {to k : ℕ} {alive : Bool} (te : to ≡ be
   -- 5 or 3.
   pub messages-table : k ≢ 0 → k ≡ messagesNumber st s
   unfolding messagesNumber
-  messages-table d = table-number ∙ first (messagesAnswer (tableRows st) (be32 s 0) (eqb (length s) minSize)) _ (λ z. d (table-number ∙ z))
-    where
-      first : (m n : ℕ) → m ≢ 0 → m ≡ earlier m n
-      first zero n q = absurd (q refl)
-      first (suc m) n q = refl
+  messages-table d = table-number ∙ earlier-not (messagesAnswer (tableRows st) (be32 s 0) (eqb (length s) minSize)) _ (λ z. d (table-number ∙ z))
 
   module _ (z : k ≡ 0) {n : ℕ} {b : Bool} (ne : n ≡ chunkCount st) (be : b ≡ anyPast n (readAll s)) where
     past-is : anyPast (chunkCount st) (readAll s) ≡ b

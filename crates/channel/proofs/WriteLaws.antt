@@ -15,12 +15,12 @@ use Rattle.wire.proofs.Promise.{placed, maxSize}
 use Rattle.table.specs.declared.rows.Row.{Row}
 use Rattle.table.proofs.Promise.{openRowOf, rowAt, writeAnswer}
 use Rattle.replies.proofs.Promise.{chunkReply}
-use Rattle.store.proofs.Promise.{earlier, roomsAnswer, both-zero, order-accepted, length-accepted, rooms-accepted}
+use Rattle.store.proofs.Promise.{earlier, roomsAnswer, passed, both-zero, order-accepted, length-accepted, rooms-accepted}
 use Rattle.channel.specs.World.{World, channelsOf, Out, outOf, orderLength, chunkCount, tableRows}
 use Rattle.channel.specs.Answers.{channelsAnswer, ownRoomsAnswer}
 use Rattle.channel.specs.Write.{heldAnswer, writeNumber, chunkDatagram, writeSpec}
 use Rattle.channel.proofs.OutLaws.{unless-not, unless-done}
-use Rattle.channel.proofs.RoomLaws.{passed, reply-accepted}
+use Rattle.channel.proofs.AcceptLaws.{channel-rooms-accepted}
 
 -- ---- the chunk
 
@@ -88,7 +88,7 @@ module _ (w : World) (id c clock N : ℕ) (ne : N ≡ chunkCount (w .channels .s
         let t = rooms-accepted L (length (w .rooms .bytes)) (length (w .rooms .map)) (length (w .rooms .hashes)) (length (w .rooms .trusted)) (s .1) in
         let j : c < chunks chunkSize L = rw ne at i in record {
           inside = omega (arith, me, t .0, chunk-inside chunkSize L (omega arith) c j);
-          fits = reply-accepted L (length (w .channels .has)) (length (w .channels .wants)) (length (w .channels .reply)) (r .1);
+          fits = channel-rooms-accepted L (length (w .channels .has)) (length (w .channels .wants)) (length (w .channels .reply)) (r .1) .2;
           count = rw ne (count-within L (length-accepted L (s .0) .1));
           short = simp length-take (omega (arith, me, chunk-some chunkSize L (omega arith) c j));
         }

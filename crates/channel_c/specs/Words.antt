@@ -45,7 +45,7 @@ unfoldable pub tableIn : List ℕ → Table
 tableIn w =
     record {
       rows = rowIn w 9 ∷ rowIn w 13 ∷ rowIn w 17 ∷ rowIn w 21 ∷ rowIn w 25 ∷ rowIn w 29 ∷ rowIn w 33 ∷ rowIn w 37 ∷
-        rowIn w 41 ∷ rowIn w 45 ∷ rowIn w 49 ∷ rowIn w 53 ∷ rowIn w 57 ∷ rowIn w 61 ∷ rowIn w 65 ∷ rowIn w 69 ∷ [];
+          rowIn w 41 ∷ rowIn w 45 ∷ rowIn w 49 ∷ rowIn w 53 ∷ rowIn w 57 ∷ rowIn w 61 ∷ rowIn w 65 ∷ rowIn w 69 ∷ [];
     }
 
 unfoldable pub stateIn : List ℕ → State

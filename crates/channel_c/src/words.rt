@@ -46,9 +46,7 @@ pub fn root_in(ws: &[u32]) -> HashValue
     ensures { λ r. ⌜ r ≡ rootIn (now (ws .entry)) ⌝ }
 {
     HashValue {
-        words: [
-            ws[0], ws[1], ws[2], ws[3], ws[4], ws[5], ws[6], ws[7],
-        ],
+        words: [ws[0], ws[1], ws[2], ws[3], ws[4], ws[5], ws[6], ws[7]],
     }
 }
 
@@ -104,7 +102,7 @@ fn phase_word(phase: Phase) -> u32
     }
 }
 
-fn flag(set: bool) -> u32
+pub fn flag(set: bool) -> u32
     ensures { λ r. ⌜ r ≡ flag set ⌝ }
 {
     if set { 1 } else { 0 }

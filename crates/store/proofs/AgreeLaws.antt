@@ -3,7 +3,7 @@ use mathlib.Core.Path.{_≡_, refl, sym, ap, ap₂, _∙_}
 use mathlib.Core.Logic.{_⊎_, inl, inr, _≢_}
 use mathlib.Core.Bool.{Bool, true, false}
 use mathlib.Core.List.{List, map}
-use Prim.Native.Nat.{ℕ, zero, suc, _+_, _*_, _^_, _≤_, _<_}
+use Prim.Native.Nat.{ℕ, suc, _+_, _*_, _^_, _≤_, _<_}
 use native.Mathlib.Omega.{arith}
 use native.Mathlib.Decide.{ℕ-discrete}
 use borrow.Author.Tests.{eq-eqb, ne-eqb}
@@ -25,6 +25,7 @@ use Rattle.store.specs.Room.{filler, Digest, hashIn, putHash}
 use Rattle.store.specs.Integrity.{Integrity, cameFrom}
 use Rattle.store.specs.Rooms.{Rooms, stateOf, SoundRooms, trustedIn, gotBy}
 use Rattle.store.specs.Storing.{Put, mark, putPeaks, putAll, copied, stored, storeSpec, roomVerdict, roomsBy}
+use Rattle.store.proofs.ClimbLaws.{digest-climb}
 use Rattle.store.proofs.RoomLaws.{digest-hash, length-putHash, hash-same, hash-other}
 use Rattle.store.proofs.IntegrityLaws.{digest-got}
 use Rattle.store.proofs.VerdictLaws.{verdict-sees, fits-within}
@@ -95,9 +96,7 @@ module _ (A : Type 0) (put : Put) (look : List ℕ → ℕ → A) (shows : List 
 
 module _ (L : ℕ) (w : Rooms) (N c t : ℕ) (d : List ℕ) (o : Integrity) (R : Fitting L w N c d) (height-in : t ≤ levels N) where
   own-digest : (h : ℕ) → Digest (climb sha256 (gotBy o) (sha256 d) c h (above h c))
-  unfolding climb
-  own-digest zero = digest-hash d
-  own-digest (suc h) = digest-hash _
+  own-digest = digest-climb (gotBy o) (sha256 d) c (digest-hash d)
 
   abbrev trusts : Bool
   trusts = every (trustedIn (w .trusted)) (peaks N)

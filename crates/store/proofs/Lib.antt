@@ -4,6 +4,7 @@ pub mod IntegrityLaws
 pub mod LoopLaws
 pub mod VerdictLaws
 pub mod CopyLaws
+pub mod ClimbLaws
 pub mod StoringLaws
 pub mod WrittenLaws
 pub mod AgreeLaws

@@ -2,9 +2,9 @@
 -- Assumes nothing.
 use mathlib.Core.Path.{_≡_}
 use mathlib.Core.Logic.{_≢_}
-use mathlib.Core.Bool.{true, false}
+use mathlib.Core.Bool.{Bool, true, false}
 use mathlib.Core.List.{List, map}
-use Prim.Native.Nat.{ℕ, _*_, _<_, _≤_}
+use Prim.Native.Nat.{ℕ, suc, _*_, _<_, _≤_}
 use lib.Dec.{eqb}
 use lib.ListN.{length, take}
 use Rattle.hash.proofs.Promise.{bytesOf}
@@ -17,13 +17,15 @@ use Rattle.store.proofs.TakenLaws.{take-refused-same, take-means, take-
 use Rattle.store.proofs.AlikeLaws.{hangs, alike}
 use Rattle.store.proofs.AnswerLaws as answers
 use Rattle.store.proofs.AcceptLaws as accept
-pub use Rattle.store.specs.Room.{filler, Digest, hashIn}
+pub use Rattle.store.specs.Room.{filler, hashIn}
+unfoldable pub use Rattle.store.specs.Room.{Digest}
 pub use Rattle.store.specs.Integrity.{Integrity, integrityOf}
 pub use Rattle.store.specs.Rooms.{Rooms, roomsOf, countOf, chunkIn, stateOf, SoundRooms}
 pub use Rattle.store.specs.Building.{rootOf}
 pub use Rattle.store.specs.Answers.{refuse, earlier, lengthAnswer, roomAnswer, orderAnswer, chunkAnswer}
 pub use Rattle.store.specs.Calls.{Out, outOf, roomsAnswer, startSpec, buildAnswer, buildSpec, foundRoot, takeSpec}
-pub use Rattle.store.specs.Whole.{Roomy, SameSizes, Running, HangsIn, Whole, Alike}
+pub use Rattle.store.specs.Whole.{Roomy, SameSizes, Running, HangsIn, Alike}
+unfoldable pub use Rattle.store.specs.Whole.{Whole}
 
 -- The words of an order's root stand for 32 bytes.
 pub root-words : (u : List ℕ) → length u ≡ 8 → Digest (bytesOf u)
@@ -34,6 +36,14 @@ pub content-root : (s : List ℕ) → Digest (rootOf s)
 content-root = accept.root-digest
 
 -- ---- what an answer of 0 says
+
+-- A test that would refuse failed, and so did those behind it.
+pub passed : (b : Bool) (n rest : ℕ) → refuse b (suc n) rest ≡ 0 → (b ≡ false) × (rest ≡ 0)
+passed = answers.passed
+
+-- Of two numbers the first counts if it refuses.
+pub earlier-not : (m n : ℕ) → m ≢ 0 → m ≡ earlier m n
+earlier-not = answers.earlier-not
 
 -- Of two numbers that refuse in turn, neither does.
 pub both-zero : (m n : ℕ) → earlier m n ≡ 0 → (m ≡ 0) × (n ≡ 0)

@@ -17,13 +17,14 @@ use Rattle.tree.specs.Bin.{bin}
 use Rattle.tree.specs.Node.{other, above}
 use Rattle.tree.specs.Pack.{chunkSize, chunks, levels}
 use Rattle.tree.specs.Peaks.{peaks}
-use Rattle.tree.specs.Tree.{climb}
 use Rattle.tree.specs.Verdicts.{got, every}
-use Rattle.store.specs.Room.{putHash}
+use Rattle.store.specs.Room.{hashIn, putHash}
 use Rattle.store.specs.Integrity.{Integrity}
 use Rattle.store.specs.Rooms.{Rooms, roomsOf, trustedIn, gotBy}
+use Rattle.store.specs.Steps.{Climbed}
 use Rattle.store.specs.Storing.{Put, mark, putIf, putPeaks, putPath, putAll, copied, stored, storeSpec}
 use Rattle.tree.proofs.NodeLaws.{above-in, above-right, above-inside}
+use Rattle.store.proofs.ClimbLaws.{path-climbed}
 
 -- one peak
 pub put-one : (put : Put) (l : List ℕ) {l′ : List ℕ} {b b′ : ℕ} {v v′ : List ℕ} (x : ℕ) → l′ ≡ put l b v → b ≡ b′ → v ≡ v′ → x ≡ 1 → l′ ≡ putIf put (eqb x 1) l b′ v′
@@ -103,21 +104,17 @@ open-yes l x e f = rw (← e, f)
 rooms-eq : {c c′ m m′ h h′ t t′ : List ℕ} → c ≡ c′ → m ≡ m′ → h ≡ h′ → t ≡ t′ → roomsOf c m h t ≡ roomsOf c′ m′ h′ t′
 rooms-eq e f g i = cc
 
-pub stored-is : (chunks map hashes trusted : List ℕ) (N c t : ℕ) (d : List ℕ) (o : Integrity) {chunks′ map′ h1 h2 t1 t2 : List ℕ} (v : List ℕ) {top : ℕ}
-    → chunks′ ≡ copied chunks (chunkSize * c) d → map′ ≡ setBit map c → top ≡ levels N → v ≡ sha256 d
+pub stored-is : (chunks map hashes trusted : List ℕ) (N c t : ℕ) (d : List ℕ) (o : Integrity) {chunks′ map′ h1 h2 t1 t2 : List ℕ} (s : List ℕ) {top : ℕ}
+    → chunks′ ≡ copied chunks (chunkSize * c) d → map′ ≡ setBit map c → top ≡ levels N → Climbed s (gotBy o) (sha256 d) c t
     → (h1 ≡ pick (every (trustedIn trusted) (peaks N)) hashes (putPeaks putHash (gotBy o) N (suc top) hashes))
     × (t1 ≡ pick (every (trustedIn trusted) (peaks N)) trusted (putPeaks mark (gotBy o) N (suc top) trusted))
-    → (h2 ≡ putPath putHash (λ h. climb sha256 (gotBy o) v c h (above h c)) (gotBy o) c t h1)
-    × (t2 ≡ putPath mark (λ h. climb sha256 (gotBy o) v c h (above h c)) (gotBy o) c t t1)
+    → (h2 ≡ putPath putHash (hashIn s) (gotBy o) c t h1) × (t2 ≡ putPath mark (hashIn s) (gotBy o) c t t1)
     → roomsOf chunks′ map′ h2 t2 ≡ stored (roomsOf chunks map hashes trusted) N c t d o
 unfolding stored putAll
-stored-is chunks map hashes trusted N c t d o v e f g i p q =
+stored-is chunks map hashes trusted N c t d o s e f g K p q =
     rooms-eq e f
-    (q .0 ∙ path putHash (p .0 ∙ ap (λ (x : ℕ). pick (every (trustedIn trusted) (peaks N)) hashes (putPeaks putHash (gotBy o) N (suc x) hashes)) g))
-    (q .1 ∙ path mark (p .1 ∙ ap (λ (x : ℕ). pick (every (trustedIn trusted) (peaks N)) trusted (putPeaks mark (gotBy o) N (suc x) trusted)) g))
-  where
-    path : (put : Put) {l l′ : List ℕ} → l ≡ l′ → putPath put (λ h. climb sha256 (gotBy o) v c h (above h c)) (gotBy o) c t l ≡ putPath put (λ h. climb sha256 (gotBy o) (sha256 d) c h (above h c)) (gotBy o) c t l′
-    path put j = ap₂ (λ (x y : List ℕ). putPath put (λ h. climb sha256 (gotBy o) x c h (above h c)) (gotBy o) c t y) i j
+    (q .0 ∙ path-climbed putHash (gotBy o) (sha256 d) c t s (p .0 ∙ ap (λ (x : ℕ). pick (every (trustedIn trusted) (peaks N)) hashes (putPeaks putHash (gotBy o) N (suc x) hashes)) g) K)
+    (q .1 ∙ path-climbed mark (gotBy o) (sha256 d) c t s (p .1 ∙ ap (λ (x : ℕ). pick (every (trustedIn trusted) (peaks N)) trusted (putPeaks mark (gotBy o) N (suc x) trusted)) g) K)
 
 module _ (w : Rooms) (N c t : ℕ) (d : List ℕ) (o : Integrity) where
   pub store-new : {x : Rooms} {q : Bool} → q ≡ bitAt (w .map) c → q ≡ false → x ≡ stored w N c t d o → x ≡ storeSpec w N c t d o

@@ -12,12 +12,11 @@ use Rattle.tree.specs.Peaks.{peaks, peakOf, siblings}
 use Rattle.tree.specs.Tree.{given, combined, climb}
 use Rattle.tree.specs.State.{adopted}
 use Rattle.tree.specs.Verdicts.{got, every, reachFrom, peaksTrusted, counted, reached, complete, rooted, met, verdict}
-use Rattle.tree.specs.declared.verdict.Verdict.{Verdict}
 use Rattle.tree.specs.declared.verdict.Verdict.the-variants.{Fits, Missing, WrongPeaks, WrongClimb}
 use Rattle.store.specs.Room.{filler}
 use Rattle.store.specs.Integrity.{Integrity, cameFrom}
 use Rattle.store.specs.Rooms.{roomsOf, stateOf, trustedIn, cameIn, gotBy}
-use Rattle.store.specs.Steps.{countedBit, countedHash, leafFor}
+use Rattle.store.specs.Steps.{countedBit, countedHash}
 use Rattle.store.specs.Storing.{roomVerdict}
 use Rattle.tree.proofs.NodeLaws.{whole-below, above-aligned}
 use Rattle.tree.proofs.PackLaws.{high-bound}
@@ -171,11 +170,3 @@ module _ (N : ℕ) (r hashes trusted : List ℕ) (c : ℕ) (d : List ℕ) (o : I
       pub judge-fits : w ≡ true → Fits t ≡ roomVerdict N r hashes trusted c d o
       unfolding roomVerdict
       judge-fits e = at-fits 0 [] [] N r hashes trusted c d o b t bo at-levels u uo v roots ut w meets vt e
-
--- ---- the leaf's hash that comes with a verdict
-
-pub leaf-refused : (v u : Verdict) (x y : List ℕ) → v ≡ u → leafFor u y ≡ filler → x ≡ filler → x ≡ leafFor v y
-leaf-refused v u x y e f g = g ∙ sym f ∙ ap (λ (z : Verdict). leafFor z y) (sym e)
-
-pub leaf-fits : (v : Verdict) (t : ℕ) (x y : List ℕ) → v ≡ Fits t → x ≡ leafFor v y → x ≡ y
-leaf-fits v t x y e f = f ∙ ap (λ (z : Verdict). leafFor z y) e

@@ -1,4 +1,4 @@
--- The hashes that came with a chunk (RFC 7574, 8.6: INTEGRITY): pairs of a node's number and the place of its hash in a
+-- The hashes that came with a chunk (RFC 7574, 8.8: INTEGRITY): pairs of a node's number and the place of its hash in a
 -- slice of bytes. Assumes nothing.
 use Prim.Native.Nat.{ℕ, _+_}
 use mathlib.Core.List.{List, [], _∷_}
@@ -44,7 +44,7 @@ hashFor o b = hashFrom (o .bytes) (find (o .entries) b)
 abbrev pub cameFrom : Integrity → Came
 cameFrom o h a = hashFor o (bin h a)
 
--- Whether it came; one that didn't is read as the filler, and no verdict but "missing" hangs on it.
+-- Whether it came; one that didn't is read as the filler, and no verdict but "missing" depends on it.
 abbrev pub came : Integrity → ℕ → Bool
 came o b = isThere (hashFor o b)
 

@@ -4,13 +4,13 @@ use mathlib.Core.Path.{_≡_}
 use mathlib.Core.List.{List}
 use mathlib.Core.Bool.{Bool, true, false}
 use Rattle.bits.proofs.Promise.{bitAt}
+use Rattle.hash.proofs.Promise.{sha256}
 use Rattle.tree.specs.Pick.{pick}
 use Rattle.tree.specs.Bin.{bin}
 use Rattle.tree.specs.Node.{above}
 use Rattle.tree.specs.State.{isPeak}
-use Rattle.tree.specs.declared.verdict.Verdict.{Verdict}
-use Rattle.tree.specs.declared.verdict.Verdict.the-variants.{Fits, Missing, WrongPeaks, WrongClimb}
-use Rattle.store.specs.Room.{filler, hashIn}
+use Rattle.tree.specs.Tree.{climb}
+use Rattle.store.specs.Room.{hashIn}
 use Rattle.store.specs.Integrity.{Integrity, gotAt}
 
 -- Node b's hash: of those that came, or of the room.
@@ -34,9 +34,11 @@ countedHash peaksTrusted N hashes o h a =
 unfoldable pub Filled : List ℕ → (ℕ → ℕ → List ℕ) → ℕ → ℕ → Type 0
 Filled hashes got N k = (h a : ℕ) → h < k → above h a ≡ a → a + 2 ^ h ≤ N → hashIn hashes (bin h a) ≡ got h a
 
--- With a verdict that the chunk fits comes its hash, with any other the filler.
-abbrev pub leafFor : Verdict → List ℕ → List ℕ
-leafFor (Fits t) x = x
-leafFor Missing x = filler
-leafFor WrongPeaks x = filler
-leafFor WrongClimb x = filler
+-- Eight words for each height from 0 to 32.
+abbrev pub scratchWords : ℕ
+scratchWords = 264
+
+-- The scratch keeps the climb from chunk c, whose leaf has the hash v: for each height h below t, at place h, the hash of
+-- the node of height h above c.
+unfoldable pub Climbed : List ℕ → (ℕ → ℕ → List ℕ) → List ℕ → ℕ → ℕ → Type 0
+Climbed scratch got v c t = (h : ℕ) → h < t → hashIn scratch h ≡ climb sha256 got v c h (above h c)

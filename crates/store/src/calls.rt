@@ -103,8 +103,18 @@ pub fn verdict(
 {
     let root = order.root;
     let n = tree::pack::chunk_count(order.length);
-    let judged = verdicts::judge(hashes, trusted, root, n, c, chunk, entries, bytes);
-    judged.verdict
+    let mut scratch = [0u32; verdicts::SCRATCH];
+    verdicts::judge(
+        &mut scratch,
+        hashes,
+        trusted,
+        root,
+        n,
+        c,
+        chunk,
+        entries,
+        bytes,
+    )
 }
 
 // The verdict's number, and the chunk stored where it fits.
@@ -123,9 +133,18 @@ fn settle(
     requires { ⌜ (c < n) × (chunkSize * c + length (now chunk) ≤ length (now chunks)) ⌝ }
     ensures { λ r. ⌜ outOf r (roomsOf (now (chunks .exit)) (now (map .exit)) (now (hashes .exit)) (now (trusted .exit))) ≡ settleSpec (roomsOf (now (chunks .entry)) (now (map .entry)) (now (hashes .entry)) (now (trusted .entry))) (bytesOf (root .words)) n c (now (chunk .entry)) (integrityOf (now (entries .entry)) (now (bytes .entry))) ⌝ }
 {
-    let judged = verdicts::judge(hashes, trusted, root, n, c, chunk, entries, bytes);
-    let v = judged.verdict;
-    let leaf = judged.leaf;
+    let mut scratch = [0u32; verdicts::SCRATCH];
+    let v = verdicts::judge(
+        &mut scratch,
+        hashes,
+        trusted,
+        root,
+        n,
+        c,
+        chunk,
+        entries,
+        bytes,
+    );
     let answer = tree::verdict::number(v);
     match v {
         Verdict::Fits(t) => {
@@ -137,7 +156,7 @@ fn settle(
                 n,
                 c,
                 t,
-                leaf,
+                &scratch,
                 chunk,
                 entries,
                 bytes,

@@ -10,16 +10,15 @@ ghost use Rattle.tree.specs.Node.{above, other};
 ghost use Rattle.tree.specs.Pack.{chunkSize, levels};
 ghost use Rattle.tree.specs.Peaks.{peaks};
 ghost use Rattle.tree.specs.Steps.{peakBit};
-ghost use Rattle.tree.specs.Tree.{joined, climb};
 ghost use Rattle.tree.specs.Verdicts.{every};
-ghost use Rattle.store.specs.Room.{putHash};
+ghost use Rattle.store.specs.Room.{hashIn, putHash};
 ghost use Rattle.store.specs.Integrity.{integrityOf};
 ghost use Rattle.store.specs.Rooms.{roomsOf, trustedIn, gotBy};
+ghost use Rattle.store.specs.Steps.{Climbed};
 ghost use Rattle.store.specs.Storing.{mark, putIf, putPeaks, putPath, copied, stored, storeSpec};
 use crate::integrity;
 use crate::peaks;
 use crate::room;
-use crate::verdicts;
 use hash::value::HashValue;
 use tree::pack::CHUNK_SIZE;
 
@@ -84,7 +83,7 @@ fn put_new_peaks(
     }
 }
 
-// The node of height h above chunk c, whose hash is acc, and its sibling.
+// The node of height h above chunk c, whose hash is own, and its sibling.
 fn put_pair(
     hashes: &mut [u32],
     trusted: &mut [u32],
@@ -92,47 +91,35 @@ fn put_pair(
     bytes: &[u8],
     c: u32,
     h: u32,
-    acc: HashValue,
+    own: HashValue,
 )
     requires { ⌜ h < 59 ⌝ }
-    ensures { λ _. ⌜ (now (hashes .exit) ≡ putHash (putHash (now (hashes .entry)) (bin h (above h c)) (bytesOf (acc .words))) (bin h (other c h (above (suc h) c))) (gotBy (integrityOf (now (entries .entry)) (now (bytes .entry))) h (other c h (above (suc h) c)))) × (now (trusted .exit) ≡ setBit (setBit (now (trusted .entry)) (bin h (above h c))) (bin h (other c h (above (suc h) c)))) ⌝ }
+    ensures { λ _. ⌜ (now (hashes .exit) ≡ putHash (putHash (now (hashes .entry)) (bin h (above h c)) (bytesOf (own .words))) (bin h (other c h (above (suc h) c))) (gotBy (integrityOf (now (entries .entry)) (now (bytes .entry))) h (other c h (above (suc h) c)))) × (now (trusted .exit) ≡ setBit (setBit (now (trusted .entry)) (bin h (above h c))) (bin h (other c h (above (suc h) c)))) ⌝ }
 {
     let b = tree::peaks::node(c, h);
-    room::trust(hashes, trusted, b, acc);
+    room::trust(hashes, trusted, b, own);
     let s = tree::peaks::sibling(c, h);
     let v = integrity::get(entries, bytes, s);
     room::trust(hashes, trusted, s, v);
 }
 
-// The hash of the node above that one, where it lies below height t; else none is made.
-fn next(entries: &[u64], bytes: &[u8], c: u32, h: u32, t: u32, acc: HashValue) -> HashValue
-    requires { ⌜ h < 59 ⌝ }
-    ensures { λ r. ⌜ (suc h < t → bytesOf (r .words) ≡ joined sha256 c h (above (suc h) c) (bytesOf (acc .words)) (gotBy (integrityOf (now (entries .entry)) (now (bytes .entry))) h (other c h (above (suc h) c)))) ⌝ }
-{
-    if h + 1 < t {
-        return verdicts::step(entries, bytes, c, h, acc);
-    }
-    acc
-}
-
-// The path from chunk c, whose leaf has the hash v, up to below height t.
+// The path from chunk c up to below height t, with the hashes of its own nodes copied from the scratch.
 fn put_path(
     hashes: &mut [u32],
     trusted: &mut [u32],
+    scratch: &[u32],
     entries: &[u64],
     bytes: &[u8],
     c: u32,
     t: u32,
-    v: HashValue,
 )
     requires { ⌜ t ≤ 33 ⌝ }
-    ensures { λ _. ⌜ (now (hashes .exit) ≡ putPath putHash (λ h. climb sha256 (gotBy (integrityOf (now (entries .entry)) (now (bytes .entry)))) (bytesOf (v .words)) c h (above h c)) (gotBy (integrityOf (now (entries .entry)) (now (bytes .entry)))) c t (now (hashes .entry))) × (now (trusted .exit) ≡ putPath mark (λ h. climb sha256 (gotBy (integrityOf (now (entries .entry)) (now (bytes .entry)))) (bytesOf (v .words)) c h (above h c)) (gotBy (integrityOf (now (entries .entry)) (now (bytes .entry)))) c t (now (trusted .entry))) ⌝ }
+    ensures { λ _. ⌜ (now (hashes .exit) ≡ putPath putHash (hashIn (now (scratch .entry))) (gotBy (integrityOf (now (entries .entry)) (now (bytes .entry)))) c t (now (hashes .entry))) × (now (trusted .exit) ≡ putPath mark (hashIn (now (scratch .entry))) (gotBy (integrityOf (now (entries .entry)) (now (bytes .entry)))) c t (now (trusted .entry))) ⌝ }
 {
-    let mut acc = v;
     let mut h = 0u32;
     while h < t {
-        put_pair(hashes, trusted, entries, bytes, c, h, acc);
-        acc = next(entries, bytes, c, h, t, acc);
+        let own = room::read(scratch, h as u64);
+        put_pair(hashes, trusted, entries, bytes, c, h, own);
         h = h + 1;
     }
 }
@@ -146,12 +133,12 @@ fn put(
     n: u32,
     c: u32,
     t: u32,
-    leaf: HashValue,
+    scratch: &[u32],
     chunk: &[u8],
     entries: &[u64],
     bytes: &[u8],
 )
-    requires { ⌜ (t ≤ 33) × (chunkSize * c + length (now chunk) ≤ length (now chunks)) × (bytesOf (leaf .words) ≡ sha256 (now chunk)) ⌝ }
+    requires { ⌜ (t ≤ 33) × (chunkSize * c + length (now chunk) ≤ length (now chunks)) × Climbed (now scratch) (gotBy (integrityOf (now entries) (now bytes))) (sha256 (now chunk)) c t ⌝ }
     ensures { λ _. ⌜ roomsOf (now (chunks .exit)) (now (map .exit)) (now (hashes .exit)) (now (trusted .exit)) ≡ stored (roomsOf (now (chunks .entry)) (now (map .entry)) (now (hashes .entry)) (now (trusted .entry))) n c t (now (chunk .entry)) (integrityOf (now (entries .entry)) (now (bytes .entry))) ⌝ }
 {
     let i = c as usize;
@@ -159,10 +146,11 @@ fn put(
     copy_in(chunks, CHUNK_SIZE as usize * i, chunk);
     bits::set(map, i);
     put_new_peaks(hashes, trusted, entries, bytes, n, top);
-    put_path(hashes, trusted, entries, bytes, c, t, leaf);
+    put_path(hashes, trusted, scratch, entries, bytes, c, t);
 }
 
-// Stores chunk c of n, found to fit below the trusted node of height t. A chunk already held changes nothing.
+// Stores chunk c of n, found to fit below the trusted node of height t, with the hashes of its climb in the scratch. A chunk
+// already held changes nothing.
 pub fn store(
     chunks: &mut [u8],
     map: &mut [u32],
@@ -171,12 +159,12 @@ pub fn store(
     n: u32,
     c: u32,
     t: u32,
-    leaf: HashValue,
+    scratch: &[u32],
     chunk: &[u8],
     entries: &[u64],
     bytes: &[u8],
 )
-    requires { ⌜ (t ≤ 33) × (chunkSize * c + length (now chunk) ≤ length (now chunks)) × (bytesOf (leaf .words) ≡ sha256 (now chunk)) ⌝ }
+    requires { ⌜ (t ≤ 33) × (chunkSize * c + length (now chunk) ≤ length (now chunks)) × Climbed (now scratch) (gotBy (integrityOf (now entries) (now bytes))) (sha256 (now chunk)) c t ⌝ }
     ensures { λ _. ⌜ roomsOf (now (chunks .exit)) (now (map .exit)) (now (hashes .exit)) (now (trusted .exit)) ≡ storeSpec (roomsOf (now (chunks .entry)) (now (map .entry)) (now (hashes .entry)) (now (trusted .entry))) n c t (now (chunk .entry)) (integrityOf (now (entries .entry)) (now (bytes .entry))) ⌝ }
 {
     let held = bits::test(map, c as usize);
@@ -189,7 +177,7 @@ pub fn store(
             n,
             c,
             t,
-            leaf,
+            scratch,
             chunk,
             entries,
             bytes,

@@ -1,7 +1,8 @@
 // Whether a chunk that came may be stored: the climb to the first trusted node, and the verdict.
 ghost use mathlib.Core.Path.{_≡_};
-ghost use Prim.Native.Nat.{suc, _≤_, _<_, _^_};
+ghost use Prim.Native.Nat.{ℕ, suc, _≤_, _<_, _^_};
 ghost use mathlib.Core.Bool.{true, false};
+ghost use lib.ListN.{length};
 ghost use Rattle.hash.proofs.Promise.{bytesOf, sha256, same};
 ghost use Rattle.tree.specs.Pick.{pick};
 ghost use Rattle.tree.specs.Node.{above, other};
@@ -13,7 +14,7 @@ ghost use Rattle.tree.specs.Verdicts.{every, reachFrom};
 ghost use Rattle.store.specs.Room.{filler};
 ghost use Rattle.store.specs.Integrity.{integrityOf};
 ghost use Rattle.store.specs.Rooms.{cameIn, gotBy};
-ghost use Rattle.store.specs.Steps.{countedBit, countedHash, leafFor};
+ghost use Rattle.store.specs.Steps.{countedBit, countedHash, scratchWords, Climbed};
 ghost use Rattle.store.specs.Storing.{roomVerdict};
 use crate::integrity;
 use crate::peaks;
@@ -24,11 +25,8 @@ use hash::value;
 use hash::value::HashValue;
 use tree::verdict::Verdict;
 
-// A verdict, and with one that the chunk fits its hash, which storing needs again; with any other the filler.
-pub struct Judged {
-    pub verdict: Verdict,
-    pub leaf: HashValue,
-}
+// The words of a scratch: it keeps the hash of a climb's node at each height from 0 to 32, so that storing hashes none again.
+pub const SCRATCH: usize = 264;
 
 // One height of siblings_came.
 fn sibling_came(entries: &[u64], bytes: &[u8], c: u32, h: u32, ok: bool) -> bool
@@ -89,7 +87,7 @@ fn reach(trusted: &[u32], opened: bool, n: u32, c: u32, top: u32) -> u32
 }
 
 // One step of the climb from chunk c, from height h to the next: left then right.
-pub fn step(entries: &[u64], bytes: &[u8], c: u32, h: u32, acc: HashValue) -> HashValue
+fn step(entries: &[u64], bytes: &[u8], c: u32, h: u32, acc: HashValue) -> HashValue
     requires { ⌜ h < 59 ⌝ }
     ensures { λ r. ⌜ bytesOf (r .words) ≡ joined sha256 c h (above (suc h) c) (bytesOf (acc .words)) (gotBy (integrityOf (now (entries .entry)) (now (bytes .entry))) h (other c h (above (suc h) c))) ⌝ }
 {
@@ -101,14 +99,22 @@ pub fn step(entries: &[u64], bytes: &[u8], c: u32, h: u32, acc: HashValue) -> Ha
     node::parent(s, acc)
 }
 
-// The climb from chunk c, whose leaf has the hash v, to the node of height t above it.
-fn climb(entries: &[u64], bytes: &[u8], c: u32, v: HashValue, t: u32) -> HashValue
-    requires { ⌜ t ≤ 33 ⌝ }
-    ensures { λ r. ⌜ bytesOf (r .words) ≡ climb sha256 (gotBy (integrityOf (now (entries .entry)) (now (bytes .entry)))) (bytesOf (v .words)) c t (above t c) ⌝ }
+// The climb from chunk c, whose leaf has the hash v, to the node of height t above it; the scratch keeps the hashes below.
+fn climb(
+    scratch: &mut [u32],
+    entries: &[u64],
+    bytes: &[u8],
+    c: u32,
+    v: HashValue,
+    t: u32,
+) -> HashValue
+    requires { ⌜ (t ≤ 33) × (scratchWords ≤ length (now scratch)) ⌝ }
+    ensures { λ r. ⌜ (bytesOf (r .words) ≡ climb sha256 (gotBy (integrityOf (now (entries .entry)) (now (bytes .entry)))) (bytesOf (v .words)) c t (above t c)) × Climbed (now (scratch .exit)) (gotBy (integrityOf (now (entries .entry)) (now (bytes .entry)))) (bytesOf (v .words)) c t ⌝ }
 {
     let mut acc = v;
     let mut h = 0u32;
     while h < t {
+        room::write(scratch, h as u64, acc);
         acc = step(entries, bytes, c, h, acc);
         h = h + 1;
     }
@@ -172,8 +178,9 @@ fn rooted(
     value::same(p, root)
 }
 
-// Whether the climb from the leaf's hash gives the hash that counts for the node of height t.
+// Whether the climb from the leaf's hash gives the hash that counts for the node of height t; the scratch keeps the climb.
 fn met(
+    scratch: &mut [u32],
     hashes: &[u32],
     entries: &[u64],
     bytes: &[u8],
@@ -183,26 +190,18 @@ fn met(
     t: u32,
     leaf: HashValue,
 ) -> bool
-    requires { ⌜ t ≤ 33 ⌝ }
-    ensures { λ r. ⌜ r ≡ same (climb sha256 (gotBy (integrityOf (now (entries .entry)) (now (bytes .entry)))) (bytesOf (leaf .words)) c t (above t c)) (countedHash opened n (now (hashes .entry)) (integrityOf (now (entries .entry)) (now (bytes .entry))) t (above t c)) ⌝ }
+    requires { ⌜ (t ≤ 33) × (scratchWords ≤ length (now scratch)) ⌝ }
+    ensures { λ r. ⌜ (r ≡ same (climb sha256 (gotBy (integrityOf (now (entries .entry)) (now (bytes .entry)))) (bytesOf (leaf .words)) c t (above t c)) (countedHash opened n (now (hashes .entry)) (integrityOf (now (entries .entry)) (now (bytes .entry))) t (above t c))) × Climbed (now (scratch .exit)) (gotBy (integrityOf (now (entries .entry)) (now (bytes .entry)))) (bytesOf (leaf .words)) c t ⌝ }
 {
-    let x = climb(entries, bytes, c, leaf, t);
+    let x = climb(scratch, entries, bytes, c, leaf, t);
     let y = target(hashes, entries, bytes, opened, n, c, t);
     value::same(x, y)
 }
 
-// A verdict that refuses the chunk.
-fn refused(v: Verdict) -> Judged
-    ensures { λ r. ⌜ (r .verdict ≡ v) × (bytesOf (r .leaf .words) ≡ filler) ⌝ }
-{
-    Judged {
-        verdict: v,
-        leaf: value::zero(),
-    }
-}
-
-// What becomes of chunk c of n that came with these hashes. The chunk is hashed once, and only where that decides.
+// What becomes of chunk c of n that came with these hashes. The chunk is hashed once, and only where that decides; where it
+// fits, the scratch keeps the climb.
 pub fn judge(
+    scratch: &mut [u32],
     hashes: &[u32],
     trusted: &[u32],
     root: HashValue,
@@ -211,24 +210,22 @@ pub fn judge(
     chunk: &[u8],
     entries: &[u64],
     bytes: &[u8],
-) -> Judged
-    ensures { λ r. ⌜ (r .verdict ≡ roomVerdict n (bytesOf (root .words)) (now (hashes .entry)) (now (trusted .entry)) c (now (chunk .entry)) (integrityOf (now (entries .entry)) (now (bytes .entry)))) × (bytesOf (r .leaf .words) ≡ leafFor (r .verdict) (sha256 (now (chunk .entry)))) ⌝ }
+) -> Verdict
+    requires { ⌜ scratchWords ≤ length (now scratch) ⌝ }
+    ensures { λ r. ⌜ (r ≡ roomVerdict n (bytesOf (root .words)) (now (hashes .entry)) (now (trusted .entry)) c (now (chunk .entry)) (integrityOf (now (entries .entry)) (now (bytes .entry)))) × ((t : ℕ) → r ≡ Verdict.Fits t → Climbed (now (scratch .exit)) (gotBy (integrityOf (now (entries .entry)) (now (bytes .entry)))) (sha256 (now (chunk .entry))) c t) ⌝ }
 {
     let top = tree::pack::levels(n);
     let opened = peaks::all_trusted(trusted, n, top);
     let t = reach(trusted, opened, n, c, top);
     if !complete(entries, bytes, opened, n, c, top, t) {
-        return refused(Verdict::Missing);
+        return Verdict::Missing;
     }
     if !rooted(entries, bytes, hashes, opened, root, n, top) {
-        return refused(Verdict::WrongPeaks);
+        return Verdict::WrongPeaks;
     }
     let leaf = message::sha256(chunk);
-    if !met(hashes, entries, bytes, opened, n, c, t, leaf) {
-        return refused(Verdict::WrongClimb);
+    if !met(scratch, hashes, entries, bytes, opened, n, c, t, leaf) {
+        return Verdict::WrongClimb;
     }
-    Judged {
-        verdict: Verdict::Fits(t),
-        leaf: leaf,
-    }
+    Verdict::Fits(t)
 }

@@ -70,9 +70,9 @@ module _ (H : List ℕ → List ℕ) (Z : List ℕ) (N : ℕ) (r : List ℕ) (s 
       S .up k (above (suc k) x) (above-aligned (suc k) x) w (left-trusted x k w (trusted-up x l f k (whole-down N x k w))) .0
 
   -- both children of the node above x at height k + 1
-  kids-trusted : (x : ℕ) → x < N → s .inMap x ≡ true → (k : ℕ) → above (suc k) x + 2 ^ suc k ≤ N
+  children-trusted : (x : ℕ) → x < N → s .inMap x ≡ true → (k : ℕ) → above (suc k) x + 2 ^ suc k ≤ N
       → (s .trust k (above (suc k) x) ≡ true) × (s .trust k (above (suc k) x + 2 ^ k) ≡ true)
-  kids-trusted x l f k w =
+  children-trusted x l f k w =
       let t = left-trusted x k w (trusted-up x l f k (whole-down N x k w)) in
       (t, sym (S .pair k (above (suc k) x) (above-aligned (suc k) x) w) ∙ t)
 
@@ -85,8 +85,8 @@ module _ (H : List ℕ → List ℕ) (Z : List ℕ) (N : ℕ) (r : List ℕ) (s 
         leaf-held = S .leaf x l f .0;
         leaf = S .leaf x l f .1;
         up-held = λ k w. trusted-up x l f (suc k) w;
-        kids-held = λ k w. kids-trusted x l f k w;
-        up = λ k w. S .up k (above (suc k) x) (above-aligned (suc k) x) w (kids-trusted x l f k w .0) .1;
+        children-held = λ k w. children-trusted x l f k w;
+        up = λ k w. S .up k (above (suc k) x) (above-aligned (suc k) x) w (children-trusted x l f k w .0) .1;
       }
 
 -- ---- a store sound at the nodes within 0..N-1 is sound, whatever it says elsewhere

@@ -26,7 +26,7 @@ abbrev pub orElse : List ℕ → Option (List ℕ) → List ℕ
 orElse z none = z
 orElse z (some v) = v
 
--- One that isn't there is read as the filler: no verdict but Missing hangs on it.
+-- One that isn't there is read as the filler: no verdict but Missing depends on it.
 abbrev pub got : List ℕ → Came → ℕ → ℕ → List ℕ
 got Z m h a = orElse Z (m h a)
 

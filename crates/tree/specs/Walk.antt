@@ -30,7 +30,7 @@ module _ (H : List ℕ → List ℕ) (Z : List ℕ) (N : ℕ) where
     -- and each node above that up to its peak is held
     pub up-held : (k : ℕ) → above (suc k) c + 2 ^ suc k ≤ N → s .trust (suc k) (above (suc k) c) ≡ true
     -- and the hash of its two held children.
-    pub kids-held : (k : ℕ) → above (suc k) c + 2 ^ suc k ≤ N
+    pub children-held : (k : ℕ) → above (suc k) c + 2 ^ suc k ≤ N
         → (s .trust k (above (suc k) c) ≡ true) × (s .trust k (above (suc k) c + 2 ^ k) ≡ true)
     pub up : (k : ℕ) → above (suc k) c + 2 ^ suc k ≤ N
         → s .hash (suc k) (above (suc k) c) ≡ H (s .hash k (above (suc k) c) ++ s .hash k (above (suc k) c + 2 ^ k))

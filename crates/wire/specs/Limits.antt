@@ -1,5 +1,5 @@
--- The sizes of a datagram (01, "What a store works under": "a datagram is 4 to 2,048 bytes"). No other definition names
--- them. Assumes nothing.
+-- The sizes of a datagram (01, "What a store works under": "a datagram is 4 to 2,048 bytes"). The numbers stand here alone.
+-- Assumes nothing.
 use Prim.Native.Nat.{ℕ, _*_, _-_, _/_}
 
 abbrev pub minSize : ℕ

@@ -21,7 +21,7 @@ use Rattle.writer.specs.Message.{within, optionBytes, bytesOf, inBounds,
 use Rattle.writer.proofs.PlaceLaws.{size32, size64, sizeRange}
 use Rattle.writer.proofs.PutLaws.{within-length}
 
--- ---- what inBounds in the source
+-- ---- what lies in the source
 
 -- the test, as an order of numbers
 pub lies-in : (size at n : ℕ) → inBounds size at n ≡ true → at + n ≤ size
@@ -29,7 +29,7 @@ lies-in size at n h =
     let g = both-true (leb n size) (leb at (size - n)) h in
     omega (arith, leb-true n size (g .0), leb-true at (size - n) (g .1))
 
--- a chunk inBounds in the source
+-- a chunk lies in the source
 pub data-in : (size : ℕ) {m : Message} {c t b n : ℕ} → writable size m ≡ true → m ≡ Data c t b n → b + n ≤ size
 unfolding writable
 data-in size {b = b} {n = n} w e = lies-in size b n (rw e at w)

@@ -1,5 +1,5 @@
--- Lists of messages, added one after another and read from a datagram: what the round trips speak of (demand 2, "round
--- trips both ways"). Assumes nothing.
+-- Lists of messages, added one after another and read from a datagram: what the two round trips of demand 2 speak of.
+-- Assumes nothing.
 use Prim.Native.Nat.{ℕ, zero, suc, _+_, _<_, _^_}
 use mathlib.Core.List.{List, [], _∷_, _++_}
 use lib.ListN.{length, getD, take}

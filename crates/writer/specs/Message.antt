@@ -38,7 +38,7 @@ bytesOf s Unchoke = 11 ∷ []
 abbrev pub inBounds : ℕ → ℕ → ℕ → Bool
 inBounds size at n = pick (leb n size) (leb at (size - n)) false
 
--- Whether a message can be written: its hash, chunk or root inBounds in the source, and its options are not others.
+-- Whether a message can be written: its hash, chunk or root lies in the source, and its options are not others.
 unfoldable pub writableOptions : ℕ → Options → Bool
 writableOptions size (Fixed root) = inBounds size root 32
 writableOptions size EndOnly = true

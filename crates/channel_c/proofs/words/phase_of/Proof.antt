@@ -1,19 +1,15 @@
+use Rattle.channel_c.proofs.WordLaws.{phase-calling, phase-open, phase-free}
 use Rattle.channel_c.proofs.words.phase_of.Statement.{statement}
 use Rattle.channel_c.proofs.words.phase_of.Tie as tie
-use Rattle.channel_c.proofs.words.phase_of.Reads as reads
-use Rattle.channel_c.proofs.words.phase_of.Lts as lts
 
--- src/words.rt:20:1
 returns : tie.Need-returns
-returns c = ?
+returns c = phase-calling _ (c .match .keys1)
 
--- src/words.rt:20:1
 returns-2 : tie.Need-returns-2
-returns-2 c = ?
+returns-2 c = phase-open _ (c .match .keys2)
 
--- src/words.rt:20:1
 returns-3 : tie.Need-returns-3
-returns-3 c = ?
+returns-3 c = phase-free _ (c .match .rest .0 .1) (c .match .rest .1)
 
 pub phase-of-spec : {M : Type 1} → statement M
 phase-of-spec = tie.close (tie.spec returns returns-2 returns-3)

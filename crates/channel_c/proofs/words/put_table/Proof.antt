@@ -1,58 +1,62 @@
+use Prim.Native.Nat.{_+_, _*_, _-_, _≤_}
+use native.Mathlib.Omega.{arith}
+use borrow.Author.Needs.{needs}
+use mathlib.Core.Path.{_≡_, refl}
+use lib.ListN.{length, drop, length-map}
+use lib.Seq.{sets}
+use Rattle.table.proofs.Promise.{rowCount}
+use Rattle.channel_c.specs.Words.{stateWords, tableWords}
+use Rattle.channel_c.proofs.WordLaws.{rows-next, rows-end}
 use Rattle.channel_c.proofs.words.put_table.Statement.{statement}
 use Rattle.channel_c.proofs.words.put_table.Tie as tie
-use Rattle.channel_c.proofs.words.put_table.Reads as reads
-use Rattle.channel_c.proofs.words.put_table.Lts as lts
-use Rattle.channel_c.proofs.words.put_row.Reads as put-row-reads
 
 abbrev Inv-loop : tie.InvT-loop
-Inv-loop ws₀ table i₀ ws i = ?
+Inv-loop ws₀ table i₀ ws i =
+    (i ≤ rowCount) × (length (table .rows) ≡ rowCount) × (stateWords ≤ length ws) × (length ws ≡ length ws₀)
+    × (sets ws (9 + 4 * i) (tableWords (drop i (table .rows))) ≡ sets ws₀ 9 (tableWords (table .rows)))
 
 abbrev μ-loop : tie.MeasureT-loop
-μ-loop ws₀ table i₀ ws i = ?
+μ-loop ws₀ table i₀ ws i = rowCount - i
 
--- src/words.rt:148:5
 loop-holds : tie.Need-loop-holds Inv-loop μ-loop
-loop-holds c = ?
+loop-holds c = (omega arith, simp length-map at (c .before .good .1 .0 .1 .1 .0 .1 .0 .1), c .before .pre, refl, refl)
 
--- src/words.rt:149:19
 mul-row : tie.Need-mul-row Inv-loop μ-loop
-mul-row c = ?
+mul-row c = omega arith
 
--- src/words.rt:149:19
 element-copy-out-row : tie.Need-element-copy-out-row Inv-loop μ-loop
-element-copy-out-row c = ?
+element-copy-out-row c = omega arith
 
--- src/words.rt:150:25
 mul-put-row : tie.Need-mul-put-row Inv-loop μ-loop
-mul-put-row c = ?
+mul-put-row c = omega arith
 
--- src/words.rt:150:21
 add-put-row : tie.Need-add-put-row Inv-loop μ-loop
-add-put-row c = ?
+add-put-row c = omega arith
 
--- src/words.rt:150:9
 put-row-requires : tie.Need-put-row-requires Inv-loop μ-loop
-put-row-requires c κs = ?
+put-row-requires c κs = omega arith
 
--- src/words.rt:151:9
 add-i : tie.Need-add-i Inv-loop μ-loop
-add-i c = ?
+add-i c = omega arith
 
--- src/words.rt:148:5
 loop-less : tie.Need-loop-less Inv-loop μ-loop
-loop-less c = ?
+loop-less c = omega arith
 
--- src/words.rt:148:5
 loop-again : tie.Need-loop-again Inv-loop μ-loop
-loop-again c = ?
+loop-again c =
+    let l = c .before .before .before .before .before .before in
+    let s = c .before .before .put-row in
+    let a = l .before .before .args in
+    let kept : length (s .last .0) ≡ length (l .loop .ws) = s .kept .0 in
+    (omega arith, l .loop .inv .1, omega (arith, kept), omega (arith, kept), rows-next (a .ws .now) (a .t2 .rows) (l .loop .i) (l .loop .ws) (omega arith) (l .loop .inv .4) (s .ensures))
 
--- src/words.rt:143:1
 same-length : tie.Need-same-length Inv-loop μ-loop
-same-length c = ?
+same-length c = omega arith
 
--- src/words.rt:143:1
 returns : tie.Need-returns Inv-loop μ-loop
-returns c = ?
+returns c =
+    let a = c .before .before .before .args in
+    rows-end (a .ws .now) (a .t2 .rows) (c .before .loop .i) (omega arith) (c .before .loop .inv .4)
 
 pub put-table-spec : {M : Type 1} → statement M
 put-table-spec =

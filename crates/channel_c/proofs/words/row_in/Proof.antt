@@ -1,61 +1,46 @@
+use Rattle.channel_c.proofs.WordLaws.{row-read}
 use borrow.Author.Needs.{needs}
 use Rattle.channel_c.proofs.words.row_in.Statement.{statement}
 use Rattle.channel_c.proofs.words.row_in.Tie as tie
-use Rattle.channel_c.proofs.words.row_in.Reads as reads
-use Rattle.channel_c.proofs.words.row_in.Lts as lts
-use Rattle.channel_c.proofs.words.phase_of.Reads as phase-of-reads
 
--- src/words.rt:36:25
 mul-phase-of : tie.Need-mul-phase-of
 mul-phase-of c = search needs
 
--- src/words.rt:36:25
 shared-slice-read-phase-of : tie.Need-shared-slice-read-phase-of
 shared-slice-read-phase-of c = search needs
 
--- src/words.rt:36:16
 phase-of-requires : tie.Need-phase-of-requires
 phase-of-requires c κs = search needs
 
--- src/words.rt:37:16
 add-t7 : tie.Need-add-t7
 add-t7 c = search needs
 
--- src/words.rt:37:13
 mul-t8 : tie.Need-mul-t8
 mul-t8 c = search needs
 
--- src/words.rt:37:13
 shared-slice-read-t10 : tie.Need-shared-slice-read-t10
 shared-slice-read-t10 c = search needs
 
--- src/words.rt:38:18
 add-t11 : tie.Need-add-t11
 add-t11 c = search needs
 
--- src/words.rt:38:15
 mul-t12 : tie.Need-mul-t12
 mul-t12 c = search needs
 
--- src/words.rt:38:15
 shared-slice-read-t14 : tie.Need-shared-slice-read-t14
 shared-slice-read-t14 c = search needs
 
--- src/words.rt:39:20
 add-t15 : tie.Need-add-t15
 add-t15 c = search needs
 
--- src/words.rt:39:17
 mul-t16 : tie.Need-mul-t16
 mul-t16 c = search needs
 
--- src/words.rt:39:17
 shared-slice-read-t18 : tie.Need-shared-slice-read-t18
 shared-slice-read-t18 c = search needs
 
--- src/words.rt:31:1
 returns : tie.Need-returns
-returns c = ?
+returns c = row-read _ _ (c .before .before .before .phase-of .ensures)
 
 pub row-in-spec : {M : Type 1} → statement M
 row-in-spec =

@@ -1,7 +1,5 @@
 use mathlib.Core.Path.{ap, _∙_}
-use Rattle.hash.proofs.Promise.{bytesOf, words}
-use Rattle.tree.specs.Node.{node, sibling}
-use Rattle.tree.specs.Peaks.{before}
+use Rattle.hash.proofs.Promise.{bytesOf}
 use Rattle.store.specs.Room.{putHash}
 use Rattle.store.specs.Integrity.{integrityOf, gotAt}
 use Rattle.store.specs.Storing.{mark}
@@ -39,7 +37,7 @@ returns c = let a = c .before .before .before .before .before .before .before .b
     let n = c .before .before .before .before .before .before .before .before .before .before .before .before .before .before .before .before .node .ensures in
     let s = c .before .before .before .before .before .before .before .before .sibling .ensures in
     let v = c .before .before .before .before .before .before .before .get .ensures ∙ ap (gotAt o) s in
-    (w .0 ∙ writes putHash (bytesOf (a .acc .words)) (u .0) n s v, w .1 ∙ writes mark (bytesOf (a .acc .words)) (u .1) n s v)
+    (w .0 ∙ writes putHash (bytesOf (a .own .words)) (u .0) n s v, w .1 ∙ writes mark (bytesOf (a .own .words)) (u .1) n s v)
 
 pub put-pair-spec : {M : Type 1} → statement M
 put-pair-spec =

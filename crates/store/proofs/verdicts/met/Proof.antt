@@ -1,7 +1,5 @@
 use mathlib.Core.Path.{ap₂, _∙_}
 use Rattle.hash.proofs.Promise.{same}
-use Rattle.tree.specs.Peaks.{before}
-use Rattle.tree.specs.Tree.{climb}
 use borrow.Author.Needs.{needs}
 use Rattle.store.proofs.verdicts.met.Statement.{statement}
 use Rattle.store.proofs.verdicts.met.Tie as tie
@@ -15,8 +13,14 @@ target-requires c κs = search needs
 same-requires : tie.Need-same-requires
 same-requires c κs = search needs
 
+same-length : tie.Need-same-length
+same-length c = search needs
+
 returns : tie.Need-returns
-returns c = c .same .ensures ∙ ap₂ same (c .before .before .climb .ensures) (c .before .target .ensures)
+returns c = let k = c .before .before .before .before .climb .ensures in
+    (c .same .ensures ∙ ap₂ same (k .0) (c .before .target .ensures), k .1)
 
 pub met-spec : {M : Type 1} → statement M
-met-spec = tie.close (tie.spec climb-requires target-requires same-requires returns)
+met-spec =
+    tie.close
+    (tie.spec climb-requires target-requires same-requires same-length returns)

@@ -1,0 +1,108 @@
+-- Laws of a state's words: the phases, the rows one behind the other, and the stores. Assumes nothing.
+use Prim.Native.Nat.{ℕ, suc, _+_, _*_, _<_, _≤_}
+use native.Mathlib.Numerals.{add-one}
+use native.Mathlib.Omega.{arith}
+use mathlib.Core.Path.{_≡_, refl, sym, ap, _∙_}
+use mathlib.Core.List.{List, [], _∷_, _++_}
+use lib.Dec.{eqb}
+use lib.ListN.{length, getD, set, drop}
+use lib.Seq.{sets, drop-cons, drop-length}
+use borrow.Author.Tests.{ne-eqb}
+use Rattle.hash.specs.declared.value.HashValue.{HashValue}
+use Rattle.table.proofs.Promise.{rowCount, freeRow}
+use Rattle.table.specs.declared.rows.Phase.{Phase}
+use Rattle.table.specs.declared.rows.Phase.the-variants.{Free, Calling, Open}
+use Rattle.table.specs.declared.rows.Row.{Row}
+use Rattle.table.specs.declared.rows.Table.{Table}
+use Rattle.store.specs.declared.calls.Order.{Order}
+use Rattle.channel.specs.declared.state.State.{State}
+use Rattle.channel_c.specs.Words.{phaseOf, rowIn, rootIn, tableIn, stateIn, phaseWord, flag, rowWords, orderWords, tableWords, statePut}
+
+-- ---- read
+
+module _ (x : ℕ) where
+  pub phase-calling : x ≡ 1 → Calling ≡ phaseOf x
+  unfolding phaseOf
+  phase-calling e = rw e
+
+  pub phase-open : x ≡ 2 → Open ≡ phaseOf x
+  unfolding phaseOf
+  phase-open e = rw e
+
+  pub phase-free : (x ≡ 1 → ⊥) → (x ≡ 2 → ⊥) → Free ≡ phaseOf x
+  unfolding phaseOf
+  phase-free a b = rw (ne-eqb x 1 a, ne-eqb x 2 b)
+
+pub row-read : (w : List ℕ) (at : ℕ) {p : Phase} → p ≡ phaseOf (getD w at 0)
+    → _≡_ {A = Row} (record { phase = p; id = getD w (at + 1) 0; peer = getD w (at + 2) 0; choked = eqb (getD w (at + 3) 0) 1 }) (rowIn w at)
+unfolding rowIn
+row-read w at e = rw e
+
+pub table-read : (w : List ℕ) {r₀ r₁ r₂ r₃ r₄ r₅ r₆ r₇ r₈ r₉ ra rb rc rd re rf : Row}
+    → r₀ ≡ rowIn w 9 → r₁ ≡ rowIn w 13 → r₂ ≡ rowIn w 17 → r₃ ≡ rowIn w 21
+    → r₄ ≡ rowIn w 25 → r₅ ≡ rowIn w 29 → r₆ ≡ rowIn w 33 → r₇ ≡ rowIn w 37
+    → r₈ ≡ rowIn w 41 → r₉ ≡ rowIn w 45 → ra ≡ rowIn w 49 → rb ≡ rowIn w 53
+    → rc ≡ rowIn w 57 → rd ≡ rowIn w 61 → re ≡ rowIn w 65 → rf ≡ rowIn w 69
+    → _≡_ {A = Table} (record { rows = r₀ ∷ r₁ ∷ r₂ ∷ r₃ ∷ r₄ ∷ r₅ ∷ r₆ ∷ r₇ ∷ r₈ ∷ r₉ ∷ ra ∷ rb ∷ rc ∷ rd ∷ re ∷ rf ∷ [] }) (tableIn w)
+unfolding tableIn
+table-read w e₀ e₁ e₂ e₃ e₄ e₅ e₆ e₇ e₈ e₉ ea eb ec ed ee ef = rw (e₀, e₁, e₂, e₃, e₄, e₅, e₆, e₇, e₈, e₉, ea, eb, ec, ed, ee, ef)
+
+pub state-read : (w : List ℕ) {h : HashValue} {t : Table} → h ≡ rootIn w → t ≡ tableIn w
+    → _≡_ {A = State} (record { order = record { root = h; length = getD w 8 0 }; table = t }) (stateIn w)
+unfolding stateIn
+state-read w e f = rw (e, f)
+
+-- ---- written
+
+-- four stores
+pub row-stored : (l : List ℕ) (at : ℕ) (r : Row) {p k : ℕ} → p ≡ phaseWord (r .phase) → k ≡ flag (r .choked)
+    → set (set (set (set l at p) (at + 1) (r .id)) (at + 2) (r .peer)) (at + 3) k ≡ sets l at (rowWords r)
+row-stored l at r e f =
+    let e₁ : at + 1 ≡ suc at = omega arith in
+    let e₂ : at + 2 ≡ suc (suc at) = omega arith in
+    let e₃ : at + 3 ≡ suc (suc (suc at)) = omega arith in
+    rw (e, f, e₁, e₂, e₃)
+
+-- a list of eight, written out
+eight-cells : (w : List ℕ) → length w ≡ 8
+    → getD w 0 0 ∷ getD w 1 0 ∷ getD w 2 0 ∷ getD w 3 0 ∷ getD w 4 0 ∷ getD w 5 0 ∷ getD w 6 0 ∷ getD w 7 0 ∷ [] ≡ w
+eight-cells [] h = absurd (omega arith)
+eight-cells (a ∷ []) h = absurd (omega arith)
+eight-cells (a ∷ b ∷ []) h = absurd (omega arith)
+eight-cells (a ∷ b ∷ c ∷ []) h = absurd (omega arith)
+eight-cells (a ∷ b ∷ c ∷ d ∷ []) h = absurd (omega arith)
+eight-cells (a ∷ b ∷ c ∷ d ∷ e ∷ []) h = absurd (omega arith)
+eight-cells (a ∷ b ∷ c ∷ d ∷ e ∷ f ∷ []) h = absurd (omega arith)
+eight-cells (a ∷ b ∷ c ∷ d ∷ e ∷ f ∷ g ∷ []) h = absurd (omega arith)
+eight-cells (a ∷ b ∷ c ∷ d ∷ e ∷ f ∷ g ∷ i ∷ []) h = refl
+eight-cells (a ∷ b ∷ c ∷ d ∷ e ∷ f ∷ g ∷ i ∷ j ∷ w) h = absurd (omega arith)
+
+-- nine stores
+pub order-stored : (l w : List ℕ) (n : ℕ) → length w ≡ 8
+    → set (set (set (set (set (set (set (set (set l 0 (getD w 0 0)) 1 (getD w 1 0)) 2 (getD w 2 0)) 3 (getD w 3 0)) 4 (getD w 4 0)) 5 (getD w 5 0)) 6 (getD w 6 0)) 7 (getD w 7 0)) 8 n
+    ≡ sets l 0 (w ++ n ∷ [])
+order-stored l w n h = ap (λ (u : List ℕ). sets l 0 (u ++ n ∷ [])) (eight-cells w h)
+
+-- the place of the next row
+place-next : (i : ℕ) → suc (suc (suc (suc (9 + 4 * i)))) ≡ 9 + 4 * suc i
+place-next i = omega arith
+
+module _ (w : List ℕ) (rs : List Row) where
+  -- a turn: the row at i is stored, and those behind it are left
+  pub rows-next : (i : ℕ) (l : List ℕ) {l′ : List ℕ} → i < length rs → sets l (9 + 4 * i) (tableWords (drop i rs)) ≡ sets w 9 (tableWords rs)
+      → l′ ≡ sets l (9 + 4 * i) (rowWords (getD rs i freeRow)) → sets l′ (9 + 4 * (i + 1)) (tableWords (drop (i + 1) rs)) ≡ sets w 9 (tableWords rs)
+  unfolding tableWords
+  rows-next i l h e s =
+      let d : drop i rs ≡ getD rs i freeRow ∷ drop (suc i) rs = drop-cons rs i freeRow h in
+      rw (s, add-one i, ← place-next i) (rw d at e)
+
+  -- the end: none is left
+  pub rows-end : (i : ℕ) {l : List ℕ} → i ≡ length rs → sets l (9 + 4 * i) (tableWords (drop i rs)) ≡ sets w 9 (tableWords rs) → l ≡ sets w 9 (tableWords rs)
+  unfolding tableWords
+  rows-end i h e =
+      let d : drop i rs ≡ [] = rw h (drop-length rs) in
+      rw d at e
+
+pub state-stored : (w : List ℕ) (st : State) {l l′ : List ℕ} → l ≡ sets w 0 (orderWords (st .order)) → l′ ≡ sets l 9 (tableWords (st .table .rows)) → l′ ≡ statePut w st
+unfolding statePut
+state-stored w st e f = rw (f, e)
