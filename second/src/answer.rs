@@ -6,8 +6,16 @@ pub const DONE: u8 = 0;
 pub const BAD_SIZE: u8 = 1;
 /// A message that cannot be read as 01's table says, or comes after DATA.
 pub const BAD_LAYOUT: u8 = 2;
-/// A HANDSHAKE that is not alone or cannot be, or closes in a wrong way.
+/// A HANDSHAKE that is not alone or cannot be, or closes in a wrong way; a
+/// message that the channel's phase does not allow; a chunk to be written on an
+/// ID without an open row.
 pub const MISPLACED: u8 = 3;
+/// An option of a HANDSHAKE is missing or another one than in 01.
+pub const BAD_OPTIONS: u8 = 4;
+/// The destination matches no row of the channel table.
+pub const NO_CHANNEL: u8 = 5;
+/// All rows of the channel table are in use.
+pub const TABLE_FULL: u8 = 6;
 /// A chunk past the last one.
 pub const PAST_THE_END: u8 = 7;
 /// A chunk of another length than its number has.
@@ -20,3 +28,7 @@ pub const HASH_WRONG: u8 = 10;
 pub const ROOM_TOO_SMALL: u8 = 11;
 /// The order's length is 0 or over the limit, or the content has another one.
 pub const BAD_LENGTH: u8 = 12;
+/// The chunk to be written is not held.
+pub const NOT_HELD: u8 = 13;
+/// A channel is to be opened under ID 0 or one in use.
+pub const BAD_ID: u8 = 14;

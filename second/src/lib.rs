@@ -6,6 +6,8 @@
 #![forbid(unsafe_code)]
 
 pub mod answer;
+pub mod channel;
+mod climb;
 pub mod hex;
 pub mod sha256;
 pub mod store;

@@ -4,8 +4,6 @@
 //! has exactly h ones at its low end. The functions of one node take numbers
 //! below 2^63 - 1: those of its parent and of its sibling then fit 64 bits.
 
-use std::cmp::Reverse;
-
 #[cfg(test)]
 mod tests;
 
@@ -86,18 +84,28 @@ pub fn root(count: u32) -> u64 {
     u64::from(leaf_places(count)) - 1
 }
 
-/// The peaks over `count` chunks: one for each one bit, the largest first.
+/// The node of a height, at most 32, that covers a chunk.
+pub fn over(chunk: u32, height: u32) -> u64 {
+    (u64::from(chunk) >> height << (height + 1)) + ((1 << height) - 1)
+}
+
+/// The peaks over `count` chunks, the largest first, in a list.
 pub fn peaks(count: u32) -> Vec<u64> {
-    let mut peaks = Vec::with_capacity(count.count_ones() as usize);
-    let mut first = 0;
-    for height in (0..u32::BITS).rev() {
-        if count & (1 << height) != 0 {
-            let width = 1u64 << height;
-            peaks.push(2 * first + (width - 1));
-            first += width;
-        }
-    }
-    peaks
+    each_peak(count).collect()
+}
+
+/// The peaks over `count` chunks: one for each one bit, the largest first.
+pub fn each_peak(count: u32) -> impl Iterator<Item = u64> {
+    let bits = u32::BITS - count.leading_zeros();
+    let heights = (0..bits).rev();
+    heights.filter_map(move |height| peak_of_height(count, height))
+}
+
+/// The peak of a height over `count` chunks, if there is one: its first chunk
+/// is the number that the bits above its own one bit make.
+fn peak_of_height(count: u32, height: u32) -> Option<u64> {
+    let bit = 1 << height;
+    (count & bit != 0).then(|| over(count ^ bit, height))
 }
 
 /// Which of these peaks covers the chunk, which is one of theirs.
@@ -105,18 +113,22 @@ pub fn peak_over(peaks: &[u64], chunk: u32) -> usize {
     peaks.partition_point(|&peak| last_chunk(peak) < u64::from(chunk))
 }
 
+/// The nodes whose hashes go out with a chunk, in a list.
+pub fn sending_order(count: u32, chunk: u32) -> Vec<u64> {
+    each_sent(count, chunk).collect()
+}
+
 /// The nodes whose hashes go out with a chunk, one of `count`: all peaks, and
 /// all siblings on the way from its leaf to its peak. No node is both: such a
 /// sibling lies below a peak. Sorted by height falling, then by first chunk
 /// rising.
-pub fn sending_order(count: u32, chunk: u32) -> Vec<u64> {
-    let mut nodes = peaks(count);
-    let peak = nodes[peak_over(&nodes, chunk)];
-    let mut node = leaf(chunk);
-    while node != peak {
-        nodes.push(sibling(node));
-        node = parent(node);
-    }
-    nodes.sort_by_key(|&node| (Reverse(height(node)), first_chunk(node)));
-    nodes
+pub fn each_sent(count: u32, chunk: u32) -> impl Iterator<Item = u64> {
+    // The highest bit that differs is 1 in the count and 0 in the chunk: the
+    // chunk's peak is the one of that bit.
+    let top = (count ^ chunk).ilog2();
+    (0..=count.ilog2()).rev().flat_map(move |height| {
+        // Peaks lower than the chunk's own stand right of it.
+        let sibling = (height < top).then(|| over(chunk ^ (1 << height), height));
+        sibling.into_iter().chain(peak_of_height(count, height))
+    })
 }

@@ -12,8 +12,10 @@ mod plain;
 mod tests;
 
 pub use layout::layout;
+pub(crate) use layout::{check, node};
 pub use read::step;
 pub use write::{add, begin};
+pub(crate) use write::{address, append};
 
 /// The fewest bytes of a datagram: its destination channel.
 pub const MIN_SIZE: usize = 4;
@@ -21,6 +23,9 @@ pub const MIN_SIZE: usize = 4;
 pub const MAX_SIZE: usize = 2048;
 /// The bytes of a hash, and of the swarm ID in the fixed options.
 pub const HASH_SIZE: usize = 32;
+
+/// The most INTEGRITY messages that a datagram has room for.
+pub(crate) const MOST_NODES: usize = (MAX_SIZE - MIN_SIZE) / (9 + HASH_SIZE);
 
 /// The type bytes of the messages.
 mod kind {

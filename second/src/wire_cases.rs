@@ -20,7 +20,7 @@
 //! room for, and in half of the cases DATA behind them.
 
 mod messages;
-mod parts;
+pub(crate) mod parts;
 #[cfg(test)]
 mod tests;
 

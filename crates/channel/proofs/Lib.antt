@@ -10,3 +10,5 @@ pub mod TakeLaws
 pub mod StepLaws
 pub mod RunLaws
 pub mod DemandLaws
+pub mod RefusedLaws
+pub mod Promise

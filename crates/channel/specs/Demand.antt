@@ -1,5 +1,5 @@
 -- Demand 3: one claim about every list of calls on a fresh or built store (00, demand 3; 01, "Demand 3's words"). The
--- theorem is `demand-3` of proofs/DemandLaws.antt. Assumes nothing.
+-- theorem is `demand-3` of proofs/Promise.antt. Assumes nothing.
 use Prim.Native.Nat.{ℕ, _<_}
 use mathlib.Core.Path.{_≡_}
 use mathlib.Core.Bool.{Bool, true}

@@ -1,5 +1,7 @@
 // The store's state, by value: its order and its channel table.
 ghost use mathlib.Core.Path.{_≡_};
+ghost use lib.ListN.{replicate};
+ghost use Rattle.hash.proofs.Promise.{bytesOf};
 ghost use Rattle.table.proofs.Promise.{freeTable};
 use hash::value;
 use store::calls::Order;
@@ -20,7 +22,7 @@ pub struct Outcome {
 
 // The state before the first start: no order, so that each call on it but those that begin a store is refused with 12.
 pub fn unstarted() -> State
-    ensures { λ r. ⌜ (r .order .length ≡ 0) × (r .table ≡ freeTable) ⌝ }
+    ensures { λ r. ⌜ (bytesOf (r .order .root .words) ≡ replicate 32 0) × (r .order .length ≡ 0) × (r .table ≡ freeTable) ⌝ }
 {
     let root = value::zero();
     State {

@@ -1,6 +1,7 @@
 //! The numbers the papers give, and the definitions tried on many nodes.
 
 use super::*;
+use std::cmp::Reverse;
 
 /// Figure 2 of RFC 7574: a parent, its children, and the chunks it covers.
 const FIGURE_2: [(u64, [u64; 2], [u64; 2]); 7] = [
@@ -163,6 +164,18 @@ fn the_least_tree() {
     }
 }
 
+/// The node of each height over a chunk is the parent of the one below it.
+#[test]
+fn nodes_over_a_chunk() {
+    for chunk in (0..100).chain([0x7fff_ffff, 0x8000_0000, u32::MAX]) {
+        let mut node = leaf(chunk);
+        for height in 0..=32 {
+            assert_eq!(over(chunk, height), node, "{chunk} {height}");
+            node = parent(node);
+        }
+    }
+}
+
 /// "N=7 has peaks 3, 9, 12; N=8 has 7; N=1 has 0; N=5 has 3, 8."
 #[test]
 fn tried_peaks() {
@@ -170,6 +183,7 @@ fn tried_peaks() {
     assert_eq!(peaks(8), [7]);
     assert_eq!(peaks(1), [0]);
     assert_eq!(peaks(5), [3, 8]);
+    assert_eq!(peaks(0), []);
 }
 
 /// "The whole subtrees that make up 0..N-1 from left to right, one per one bit
@@ -219,7 +233,7 @@ fn sending_order_at_the_ends() {
 /// peak every node that does not cover the chunk but whose parent does.
 #[test]
 fn sending_order_as_defined() {
-    for count in 1..=40 {
+    for count in (1..=40).chain([63, 64, 65, 511, 512]) {
         let peaks = peaks(count);
         for chunk in 0..count {
             let covers = |node| (first_chunk(node)..=last_chunk(node)).contains(&u64::from(chunk));

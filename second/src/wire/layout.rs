@@ -12,7 +12,11 @@ use crate::answer::{BAD_LAYOUT, BAD_SIZE, MISPLACED};
 #[inline]
 pub fn layout(datagram: &[u8], nodes: &mut Vec<(u64, usize)>) -> Result<Layout, u8> {
     nodes.clear();
-    check(datagram, |node, hash| {
+    check(datagram, |message| {
+        let Message::Integrity { first, last, hash } = message else {
+            return true;
+        };
+        let node = node(first, last);
         // Without a way out of the loop: nearly always the node is new.
         let new = nodes
             .iter()
@@ -24,13 +28,10 @@ pub fn layout(datagram: &[u8], nodes: &mut Vec<(u64, usize)>) -> Result<Layout, 
     })
 }
 
-/// The checks of `layout`. `keep` is given the node and the place of the hash
-/// of each INTEGRITY, and tells whether the node is new.
+/// The checks of `layout`. `keep` is given each message but HANDSHAKE and DATA,
+/// and tells whether it may stand there: an INTEGRITY if its node is new.
 #[inline]
-pub(super) fn check(
-    datagram: &[u8],
-    mut keep: impl FnMut(u64, usize) -> bool,
-) -> Result<Layout, u8> {
+pub(crate) fn check(datagram: &[u8], mut keep: impl FnMut(Message) -> bool) -> Result<Layout, u8> {
     let destination = match datagram.first_chunk::<MIN_SIZE>() {
         Some(&bytes) if datagram.len() <= MAX_SIZE => u32::from_be_bytes(bytes),
         _ => return Err(BAD_SIZE),
@@ -63,17 +64,17 @@ pub(super) fn check(
                     len,
                 });
             }
-            Message::Integrity { first, last, hash } => {
-                if !keep(node(first, last), hash) {
-                    return Err(BAD_LAYOUT);
-                }
-            }
-            Message::Ack { .. }
+            Message::Integrity { .. }
+            | Message::Ack { .. }
             | Message::Have { .. }
             | Message::Request { .. }
             | Message::Cancel { .. }
             | Message::Choke
-            | Message::Unchoke => {}
+            | Message::Unchoke => {
+                if !keep(message) {
+                    return Err(BAD_LAYOUT);
+                }
+            }
         }
         at = next;
     }
@@ -89,6 +90,6 @@ pub(super) fn source_fits(destination: u32, source: u32, options: Options) -> bo
 /// The number of the node that covers exactly these chunks, if one does: it is
 /// halfway between the leaves of the first and of the last.
 #[inline]
-pub(super) fn node(first: u32, last: u32) -> u64 {
+pub(crate) fn node(first: u32, last: u32) -> u64 {
     u64::from(first) + u64::from(last)
 }

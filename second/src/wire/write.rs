@@ -2,7 +2,7 @@
 
 use super::layout::{check, node, source_fits};
 use super::{kind, Layout, Message, Options};
-use super::{BEFORE_ID, BEHIND_ID, END, FIXED_SIZE, HASH_SIZE, MAX_SIZE, MIN_SIZE};
+use super::{BEFORE_ID, BEHIND_ID, END, FIXED_SIZE, HASH_SIZE, MAX_SIZE, MIN_SIZE, MOST_NODES};
 use crate::answer::{BAD_LAYOUT, BAD_SIZE, MISPLACED, ROOM_TOO_SMALL};
 use crate::tree;
 
@@ -12,8 +12,14 @@ pub fn begin(room: &mut [u8], destination: u32) -> Result<usize, u8> {
     if room.len() < MAX_SIZE {
         return Err(ROOM_TOO_SMALL);
     }
+    Ok(address(room, destination))
+}
+
+/// The same in a room that is known to be large enough.
+#[inline]
+pub(crate) fn address(room: &mut [u8], destination: u32) -> usize {
     room[..MIN_SIZE].copy_from_slice(&destination.to_be_bytes());
-    Ok(MIN_SIZE)
+    MIN_SIZE
 }
 
 /// Adds a message to the datagram in the first `len` bytes of the room and
@@ -35,7 +41,10 @@ pub fn add(room: &mut [u8], len: usize, message: &Message, source: &[u8]) -> Res
     }
     let (so_far, free) = room.split_at_mut(len);
     let mut nodes = Nodes::new();
-    let layout = check(so_far, |node, _| nodes.keep(node))?;
+    let layout = check(so_far, |message| match message {
+        Message::Integrity { first, last, .. } => nodes.keep(node(first, last)),
+        _ => true,
+    })?;
     let (size, bytes) = parts(message, source).ok_or(BAD_LAYOUT)?;
     let lengthened = len + size;
     if lengthened > MAX_SIZE {
@@ -48,10 +57,19 @@ pub fn add(room: &mut [u8], len: usize, message: &Message, source: &[u8]) -> Res
         Layout::MessagesAndData { .. } => return Err(BAD_LAYOUT),
         Layout::Messages => {}
     }
+    check_behind(so_far, &mut nodes, message)?;
+    write(&mut free[..size], message, bytes);
+    Ok(lengthened)
+}
+
+/// The reader's layout checks of a message behind a datagram so far that has
+/// neither HANDSHAKE nor DATA.
+#[inline]
+fn check_behind(so_far: &[u8], nodes: &mut Nodes, message: &Message) -> Result<(), u8> {
     match *message {
         Message::Handshake { source, options } => {
             let destination = u32::from_be_bytes([so_far[0], so_far[1], so_far[2], so_far[3]]);
-            if len > MIN_SIZE || !source_fits(destination, source, options) {
+            if so_far.len() > MIN_SIZE || !source_fits(destination, source, options) {
                 return Err(MISPLACED);
             }
         }
@@ -70,28 +88,52 @@ pub fn add(room: &mut [u8], len: usize, message: &Message, source: &[u8]) -> Res
         }
         Message::Data { .. } | Message::Choke | Message::Unchoke => {}
     }
-    write(&mut free[..size], message, bytes);
-    Ok(lengthened)
+    Ok(())
+}
+
+/// Adds a message that `add` would take, without any look at the datagram so
+/// far, and gives the new length. `bytes` are its hash, chunk or root, if it has
+/// one, wherever it says that they stand.
+#[inline]
+pub(crate) fn append(room: &mut [u8], len: usize, message: &Message, bytes: &[u8]) -> usize {
+    let lengthened = len + around(message) + bytes.len();
+    write(&mut room[len..lengthened], message, bytes);
+    lengthened
 }
 
 /// The number of bytes of a message, and those it takes from the source; none
 /// if it cannot be written.
 #[inline]
 fn parts<'a>(message: &Message, source: &'a [u8]) -> Option<(usize, &'a [u8])> {
-    let (start, len, around) = match *message {
+    let (start, len) = match *message {
         Message::Handshake { options, .. } => match options {
-            Options::Fixed { root } => (root, HASH_SIZE, 5 + FIXED_SIZE - HASH_SIZE),
-            Options::EndOnly => (0, 0, 6),
+            Options::Fixed { root } => (root, HASH_SIZE),
+            Options::EndOnly => (0, 0),
             Options::Other => return None,
         },
-        Message::Data { start, len, .. } => (start, len, 17),
-        Message::Integrity { hash, .. } => (hash, HASH_SIZE, 9),
-        Message::Ack { .. } => (0, 0, 17),
-        Message::Have { .. } | Message::Request { .. } | Message::Cancel { .. } => (0, 0, 9),
-        Message::Choke | Message::Unchoke => (0, 0, 1),
+        Message::Data { start, len, .. } => (start, len),
+        Message::Integrity { hash, .. } => (hash, HASH_SIZE),
+        _ => (0, 0),
     };
     let bytes = source.get(start..)?.get(..len)?;
-    Some((around + len, bytes))
+    Some((around(message) + len, bytes))
+}
+
+/// The number of bytes of a message without those it takes from the source.
+#[inline]
+fn around(message: &Message) -> usize {
+    match *message {
+        Message::Handshake { options, .. } => match options {
+            Options::EndOnly => 6,
+            Options::Fixed { .. } | Options::Other => 5 + FIXED_SIZE - HASH_SIZE,
+        },
+        Message::Data { .. } | Message::Ack { .. } => 17,
+        Message::Have { .. }
+        | Message::Integrity { .. }
+        | Message::Request { .. }
+        | Message::Cancel { .. } => 9,
+        Message::Choke | Message::Unchoke => 1,
+    }
 }
 
 /// Writes a message into the bytes that are its own; `bytes` are those it takes
@@ -149,7 +191,7 @@ struct Nodes {
 
 impl Nodes {
     /// The most that a datagram has room for, and one to be added.
-    const MOST: usize = (MAX_SIZE - MIN_SIZE) / (9 + HASH_SIZE) + 1;
+    const MOST: usize = MOST_NODES + 1;
 
     #[inline]
     fn new() -> Nodes {

@@ -1,0 +1,38 @@
+-- What the crates above know of this one: of its definitions the names passed on here, that a refused call alters nothing,
+-- and demand 3. Assumes nothing.
+use mathlib.Core.List.{List}
+use Prim.Native.Nat.{ℕ}
+use Rattle.store.specs.declared.calls.Order.{Order}
+use Rattle.channel.proofs.RefusedLaws as refused
+use Rattle.channel.proofs.DemandLaws as demand
+pub use Rattle.channel.specs.World.{Channels, channelsOf, World, worldOf, Out, outOf, orderRoot, orderLength, chunkCount, tableRows}
+pub use Rattle.channel.specs.Opening.{openSpec}
+pub use Rattle.channel.specs.Starting.{startSpec, buildSpec}
+pub use Rattle.channel.specs.Take.{takeSpec}
+pub use Rattle.channel.specs.Write.{writeSpec}
+pub use Rattle.channel.specs.Ask.{Asked, askedOf, askSpec}
+pub use Rattle.channel.specs.Run.{Call, run, FreshOrBuilt, firstBrought}
+pub use Rattle.channel.specs.Demand.{BothWhole, Demand}
+pub use Rattle.channel.proofs.RefusedLaws.{Unaltered}
+
+-- ---- demand 1: a refusal gives a reply length of 0 and changes neither store, channel table nor any lent room
+
+pub start-refused-same : (w : World) (o : Order) → Unaltered w (startSpec w o)
+start-refused-same = refused.start-unaltered
+
+pub build-refused-same : (w : World) (L : ℕ) (s : List ℕ) → Unaltered w (buildSpec w L s)
+build-refused-same = refused.build-unaltered
+
+pub open-refused-same : (w : World) (id : ℕ) → Unaltered w (openSpec w id)
+open-refused-same = refused.open-unaltered
+
+pub take-refused-same : (w : World) (clock id : ℕ) (s : List ℕ) → Unaltered w (takeSpec w clock id s)
+take-refused-same = refused.take-unaltered
+
+pub write-refused-same : (w : World) (id c clock : ℕ) → Unaltered w (writeSpec w id c clock)
+write-refused-same = refused.write-unaltered
+
+-- ---- demand 3, of every list of calls on a fresh or built store
+
+pub demand-3 : (w : World) (ks : List Call) → FreshOrBuilt w → Demand w ks
+demand-3 = demand.demand-3

@@ -1,0 +1,235 @@
+//! Any states, rooms, numbers and bytes: each call gives what the slow reading
+//! gives, which is an answer for all of them.
+
+mod made;
+
+use super::*;
+use crate::wire_cases::datagrams;
+use crate::wire_cases::parts::Random;
+
+/// Orders whose rows have one word or two, with whole and short last chunks.
+const LENGTHS: [u32; 10] = [
+    1, 1_024, 1_025, 2_048, 3_066, 5_120, SEVEN, 8_192, 33_000, 40_954,
+];
+
+/// A pack with all the hashes of its tree, and what goes on.
+struct Scene {
+    random: Random,
+    pack: Pack,
+    hashes: Vec<Digest>,
+    /// Datagrams of any layout.
+    any: Vec<Vec<u8>>,
+    /// How often each number was given.
+    seen: [usize; 15],
+}
+
+impl Scene {
+    fn new(seed: u64, length: u32) -> Self {
+        let pack = Pack::new(length);
+        let top = tree::root(tree::chunk_count(length));
+        Scene {
+            random: Random::new(seed),
+            hashes: (0..=2 * top).map(|node| pack.hash(node)).collect(),
+            any: datagrams(seed, 200).collect(),
+            seen: [0; 15],
+            pack,
+        }
+    }
+
+    fn chance(&mut self, one_in: usize) -> bool {
+        self.random.below(one_in) == 0
+    }
+
+    /// One of the few channel numbers that are used.
+    fn id(&mut self) -> u32 {
+        self.random.below(6) as u32
+    }
+
+    /// A chunk of the pack, or just behind it.
+    fn chunk(&mut self) -> u32 {
+        let count = tree::chunk_count(self.pack.length());
+        match self.random.below(30) {
+            0 => count + self.random.below(2) as u32,
+            1 => self.random.number(),
+            _ => self.random.below(count as usize) as u32,
+        }
+    }
+
+    /// Rooms just large enough or a little larger, at times one too small, with
+    /// anything in them.
+    fn caller(&mut self) -> Caller {
+        let mut sizes = Sizes::of(self.pack.length());
+        for size in [
+            &mut sizes.chunks,
+            &mut sizes.map,
+            &mut sizes.hashes,
+            &mut sizes.trusted,
+            &mut sizes.has,
+            &mut sizes.wants,
+            &mut sizes.reply,
+        ] {
+            match self.random.below(60) {
+                0 => *size -= 1,
+                1..20 => *size += self.random.below(5),
+                _ => {}
+            }
+        }
+        let mut caller = Caller::with_sizes(sizes);
+        caller.state = self.state();
+        self.garble(&mut caller);
+        caller
+    }
+
+    /// An order, mostly the pack's, and rows with anything in them.
+    fn state(&mut self) -> State {
+        let mut state = State {
+            root: self.pack.root(),
+            length: self.pack.length(),
+            ..State::default()
+        };
+        if self.chance(10) {
+            state.length = [0, 524_288, 524_289, u32::MAX][self.random.below(4)];
+        }
+        let (used, free) = match self.random.below(3) {
+            0 => (16, 0),
+            _ => (self.random.below(17), 1),
+        };
+        for row in &mut state.rows[..used] {
+            *row = Row {
+                phase: match self.random.below(8) {
+                    0 if free == 1 => Phase::Free,
+                    1 => Phase::Calling,
+                    _ => Phase::Open,
+                },
+                id: self.random.below(20) as u32,
+                peer: self.random.below(6) as u32,
+                choked: self.random.below(2) == 0,
+            };
+        }
+        state
+    }
+
+    /// Bits of the map and of the trusted nodes as no call leaves them; each
+    /// hash is right, wrong or stays.
+    fn garble(&mut self, caller: &mut Caller) {
+        for room in [&mut caller.map, &mut caller.trusted] {
+            for word in room {
+                let bits = self.random.next() as u32;
+                *word = [0, bits, bits & self.random.next() as u32, u32::MAX][self.random.below(4)];
+            }
+        }
+        for room in [&mut caller.has, &mut caller.wants] {
+            room.fill_with(|| self.random.next() as u32);
+        }
+        for (hash, words) in self.hashes.iter().zip(caller.hashes.chunks_exact_mut(8)) {
+            if self.random.below(4) != 0 {
+                for (word, bytes) in words.iter_mut().zip(hash.as_chunks().0) {
+                    *word = u32::from_be_bytes(*bytes);
+                }
+            }
+            if self.random.below(8) == 0 {
+                words[self.random.below(8)] ^= 1;
+            }
+        }
+    }
+}
+
+impl Scene {
+    /// Makes some call, and compares it with the slow reading.
+    fn step(&mut self, caller: &mut Caller) {
+        let before = caller.clone();
+        let (got, wanted) = match self.random.below(40) {
+            0 => {
+                let (root, length) = (self.pack.root(), self.length());
+                let got = (caller.start(&root, length), vec![]);
+                (got, plain::start(&before, &root, length))
+            }
+            1 => {
+                let length = self.length();
+                let content = &self.pack.content;
+                let got = (caller.build(length, content), vec![]);
+                (got, plain::build(&before, length, content))
+            }
+            2..5 => {
+                let id = self.random.below(40) as u32;
+                (caller.open(id), plain::open(&before, id))
+            }
+            5..10 => {
+                let (id, chunk, clock) = (self.id(), self.chunk(), self.random.time());
+                let got = caller.write(id, chunk, clock);
+                (got, plain::write(&before, id, chunk, clock))
+            }
+            _ => {
+                let (clock, id) = (self.random.time(), self.random.below(40) as u32);
+                let datagram = self.datagram(&before.state);
+                let got = caller.take(clock, id, &datagram);
+                (got, plain::take(&before, clock, id, &datagram))
+            }
+        };
+        self.seen[usize::from(got.0)] += 1;
+        match wanted {
+            Ok((after, reply)) => {
+                assert_eq!(got, (0, reply));
+                assert!(*caller == after);
+            }
+            Err(number) => assert_eq!(got, (number, vec![])),
+        }
+        assert_eq!(caller.ask(), plain::ask(caller));
+    }
+
+    /// The pack's length, at times another one.
+    fn length(&mut self) -> u32 {
+        match self.random.below(8) {
+            0 => [0, 524_288, 524_289, u32::MAX][self.random.below(4)],
+            1 => LENGTHS[self.random.below(LENGTHS.len())],
+            _ => self.pack.length(),
+        }
+    }
+}
+
+/// From a state that no call wrote, and on from what the calls make of it.
+#[test]
+fn calls_from_any_state() {
+    let mut seen = [0; 15];
+    for (seed, length) in (0..).zip(LENGTHS) {
+        let mut scene = Scene::new(seed, length);
+        for _ in 0..150 {
+            let mut caller = scene.caller();
+            for _ in 0..40 {
+                scene.step(&mut caller);
+            }
+        }
+        for (all, here) in seen.iter_mut().zip(scene.seen) {
+            *all += here;
+        }
+    }
+    assert!(seen.iter().all(|&count| count > 100), "{seen:?}");
+}
+
+/// From a fresh store: lists of calls as demand 3 has them.
+#[test]
+fn calls_from_a_fresh_store() {
+    let mut whole = 0;
+    for (seed, length) in (100..).zip(LENGTHS) {
+        let mut scene = Scene::new(seed, length);
+        for _ in 0..30 {
+            let mut caller = Caller::new(length);
+            assert_eq!(caller.start(&scene.pack.root(), length), 0);
+            caller.opened_by_peer(1, 2);
+            for _ in 0..200 {
+                scene.step(&mut caller);
+            }
+            whole += u32::from(caller.ask().2);
+            if caller.state.length != length {
+                continue;
+            }
+            for chunk in 0..tree::chunk_count(length) {
+                if is_set(&caller.map, chunk.into()) {
+                    let start = 1024 * chunk as usize;
+                    assert!(caller.chunks[start..].starts_with(scene.pack.chunk(chunk)));
+                }
+            }
+        }
+    }
+    assert!(whole > 20, "{whole}");
+}

@@ -1,0 +1,201 @@
+//! Taking in a datagram, a second time.
+
+use super::*;
+use crate::sha256::{node, sha256};
+use crate::wire::{layout, step, Layout, Message, Options, Step};
+use std::collections::BTreeMap;
+
+/// Nodes and their hashes.
+type Hashes = BTreeMap<u64, Digest>;
+
+pub fn take(before: &Caller, clock: u64, id: u32, datagram: &[u8]) -> Done {
+    let State { root, length, .. } = &before.state;
+    check(before, *length)?;
+    let layout = layout(datagram, &mut Vec::new())?;
+    let destination = u32::from_be_bytes(datagram[..4].try_into().unwrap());
+    let row = match destination {
+        0 => None,
+        _ => row_of(&before.state, destination),
+    };
+    let Layout::HandshakeAlone { source, options } = layout else {
+        let row = row.ok_or(5)?;
+        return take_messages(before, clock, row, datagram);
+    };
+    let good = match options {
+        Options::Fixed { root: at } => datagram[at..at + 32] == *root,
+        _ => false,
+    };
+    match destination {
+        0 if good => occupy(before, id, source, Phase::Open),
+        0 => Err(4),
+        _ => take_handshake(before, row.ok_or(5)?, source, good),
+    }
+}
+
+fn take_handshake(before: &Caller, row: usize, source: u32, good: bool) -> Done {
+    let mut after = before.clone();
+    let record = &mut after.state.rows[row];
+    match (record.phase, source) {
+        (Phase::Open, 0) => *record = Row::default(),
+        (Phase::Calling, 0) => return Err(3),
+        (Phase::Open, source) if source != record.peer => return Err(3),
+        (Phase::Open, _) if good => {}
+        (Phase::Calling, source) if good => {
+            record.phase = Phase::Open;
+            record.peer = source;
+        }
+        _ => return Err(4),
+    }
+    done(after, vec![])
+}
+
+fn take_messages(before: &Caller, clock: u64, row: usize, datagram: &[u8]) -> Done {
+    let mut messages = Vec::new();
+    let mut at = 4;
+    while let Step::Read { message, next } = step(datagram, at) {
+        messages.push(message);
+        at = next;
+    }
+    let record = &before.state.rows[row];
+    if record.phase == Phase::Calling && !messages.is_empty() {
+        return Err(3);
+    }
+    let (count, _) = counts(before.state.length);
+    if messages.iter().any(|message| last(message) >= count as u64) {
+        return Err(7);
+    }
+    let mut after = before.clone();
+    let mut came = Hashes::new();
+    let mut reply = vec![];
+    for message in messages {
+        match message {
+            Message::Integrity { first, last, hash } => {
+                let node = u64::from(first) + u64::from(last);
+                came.insert(node, datagram[hash..hash + 32].try_into().unwrap());
+            }
+            Message::Data {
+                chunk, time, start, ..
+            } => {
+                take_chunk(&mut after, chunk as usize, &datagram[start..], &came)?;
+                let delay = clock.wrapping_sub(time);
+                reply = to(record.peer, &[&ack(chunk, chunk, delay)]);
+            }
+            message => apply(&mut after, row, message),
+        }
+    }
+    done(after, reply)
+}
+
+/// The last chunk of a message, if any.
+fn last(message: &Message) -> u64 {
+    match *message {
+        Message::Data { chunk, .. } => chunk.into(),
+        Message::Ack { last, .. }
+        | Message::Have { last, .. }
+        | Message::Integrity { last, .. }
+        | Message::Request { last, .. }
+        | Message::Cancel { last, .. } => last.into(),
+        _ => 0,
+    }
+}
+
+/// The effects of the other messages.
+fn apply(after: &mut Caller, row: usize, message: Message) {
+    let start = row * words(counts(after.state.length).0);
+    let has = &mut after.has[start..];
+    let wants = &mut after.wants[start..];
+    match message {
+        Message::Ack { first, last, .. } | Message::Have { first, last } => {
+            set(has, first, last, true);
+            set(wants, first, last, false);
+        }
+        Message::Request { first, last } => set(wants, first, last, true),
+        Message::Cancel { first, last } => set(wants, first, last, false),
+        Message::Choke => after.state.rows[row].choked = true,
+        Message::Unchoke => after.state.rows[row].choked = false,
+        _ => {}
+    }
+}
+
+fn set(row: &mut [u32], first: u32, last: u32, value: bool) {
+    for bit in first as usize..=last as usize {
+        row[bit / 32] &= !(1 << (bit % 32));
+        row[bit / 32] |= u32::from(value) << (bit % 32);
+    }
+}
+
+/// 8, 9, 10, or the chunk and its hashes are there afterwards.
+fn take_chunk(after: &mut Caller, chunk: usize, bytes: &[u8], came: &Hashes) -> Result<(), u8> {
+    let (count, places) = counts(after.state.length);
+    if bytes.len() != (after.state.length as usize - 1024 * chunk).min(1024) {
+        return Err(8);
+    }
+    let peaks = peaks(count, places);
+    let mut kept = Hashes::new();
+    let trusted = peaks.iter().all(|&peak| is_set(&after.trusted, peak));
+    if !trusted {
+        for peak in &peaks {
+            kept.insert(*peak, *came.get(peak).ok_or(9)?);
+        }
+    }
+    // From the leaf to the first trusted node.
+    let mut path = Vec::new();
+    let mut top = 2 * chunk as u64;
+    while !is_set(&after.trusted, top) && !peaks.contains(&top) {
+        let [other, above] = beside_and_above(top);
+        path.push((top, other, *came.get(&other).ok_or(9)?));
+        top = above;
+    }
+    let wanted = kept.get(&top).copied().unwrap_or_else(|| after.hash(top));
+    if !trusted && over(&kept, count, 0, places) != Some(after.state.root) {
+        return Err(10);
+    }
+    if climb(&mut kept, sha256(bytes), path) != wanted {
+        return Err(10);
+    }
+    if !is_set(&after.map, chunk as u64) {
+        set(&mut after.map, chunk as u32, chunk as u32, true);
+        after.chunks[1024 * chunk..1024 * chunk + bytes.len()].copy_from_slice(bytes);
+        kept.iter()
+            .for_each(|(&node, hash)| trust(after, node, hash));
+    }
+    Ok(())
+}
+
+/// The hash that a leaf's leads to; each node climbed from, with its sibling, is
+/// kept.
+fn climb(kept: &mut Hashes, leaf: Digest, path: Vec<(u64, u64, Digest)>) -> Digest {
+    let mut hash = leaf;
+    for (own, other, sibling) in path {
+        kept.extend([(own, hash), (other, sibling)]);
+        let [left, right] = [own.min(other), own.max(other)].map(|node| kept[&node]);
+        hash = node(&left, &right);
+    }
+    hash
+}
+
+/// The other half of the pair that a node is of, and the node over both.
+fn beside_and_above(node: u64) -> [u64; 2] {
+    let width = 1 << node.trailing_ones();
+    let first = (node + 1 - width) / 2;
+    if first / width % 2 == 1 {
+        [node - 2 * width, node - width]
+    } else {
+        [node + 2 * width, node + width]
+    }
+}
+
+/// The hash that peaks and fillers give over `width` leaves from `first` on;
+/// none if all are fillers.
+fn over(peaks: &Hashes, count: usize, first: usize, width: usize) -> Option<Digest> {
+    if first >= count {
+        return None;
+    }
+    if let Some(hash) = peaks.get(&((2 * first + width - 1) as u64)) {
+        return Some(*hash);
+    }
+    let half = width / 2;
+    let left = over(peaks, count, first, half).unwrap_or([0; 32]);
+    let right = over(peaks, count, first + half, half).unwrap_or([0; 32]);
+    Some(node(&left, &right))
+}

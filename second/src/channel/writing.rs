@@ -1,0 +1,49 @@
+//! Writing the datagram for one chunk.
+
+use super::rooms::{bit, hash_at};
+use super::{Rooms, State};
+use crate::answer;
+use crate::tree::{self, CHUNK_SIZE};
+use crate::wire::{address, append, Message};
+
+/// "All peaks and all siblings below its peak, each node once, sorted by height
+/// falling, then by first chunk rising, then DATA with the given clock."
+pub fn write(
+    state: &State,
+    rooms: &mut Rooms,
+    id: u32,
+    chunk: u32,
+    clock: u64,
+) -> Result<usize, u8> {
+    state.check(rooms)?;
+    let row = state.lowest_open(id).ok_or(answer::MISPLACED)?;
+    let peer = state.rows[row].peer;
+    let count = tree::chunk_count(state.length);
+    if chunk >= count {
+        return Err(answer::PAST_THE_END);
+    }
+    if !bit(rooms.map, chunk as usize) {
+        return Err(answer::NOT_HELD);
+    }
+    let mut length = address(rooms.reply, peer);
+    for node in tree::each_sent(count, chunk) {
+        // The nodes of a tree over 512 chunks have small numbers.
+        let integrity = Message::Integrity {
+            first: tree::first_chunk(node) as u32,
+            last: tree::last_chunk(node) as u32,
+            hash: 0,
+        };
+        let hash = hash_at(rooms.hashes, node);
+        length = append(rooms.reply, length, &integrity, &hash);
+    }
+    let start = (chunk * CHUNK_SIZE) as usize;
+    let len = tree::chunk_size(state.length, chunk) as usize;
+    let data = Message::Data {
+        chunk,
+        time: clock,
+        start,
+        len,
+    };
+    let bytes = &rooms.chunks[start..start + len];
+    Ok(append(rooms.reply, length, &data, bytes))
+}
