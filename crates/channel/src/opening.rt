@@ -26,7 +26,7 @@ fn clear_row(ws: &mut [u32], n: u32, i: usize)
 }
 
 // A channel in the lowest free row; the reply is our HANDSHAKE.
-pub fn occupy(
+pub(crate) fn occupy(
     state: State,
     has: &mut [u32],
     wants: &mut [u32],

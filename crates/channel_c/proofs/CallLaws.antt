@@ -12,9 +12,7 @@ use borrow.Author.Tests.{lt-ltb, le-ltb, ltb-false, eq-eqb, ne-eqb}
 use Rattle.tree.specs.Pick.{pick}
 use Rattle.hash.specs.declared.value.HashValue.{HashValue}
 use Rattle.channel.specs.declared.state.State.{State}
-use Rattle.channel.specs.World.{World, channelsOf, worldOf, Out, outOf}
-use Rattle.channel.specs.Starting.{startSpec}
-use Rattle.channel.specs.Ask.{askedOf, askSpec}
+use Rattle.channel.proofs.Promise.{World, channelsOf, worldOf, Out, outOf, startSpec, askedOf, askSpec}
 use Rattle.channel_c.specs.Words.{stateWords, rootIn, stateIn, flag, statePut}
 use Rattle.channel_c.specs.Calls.{Lent, lentOf, Told, toldOf, wordsAfter, made, tooShort, callTold, startTold, countOf, counted, askTold}
 

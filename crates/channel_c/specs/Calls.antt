@@ -9,9 +9,7 @@ use lib.Seq.{sets}
 use Rattle.tree.specs.Pick.{pick}
 use Rattle.store.proofs.Promise.{Rooms, roomsOf}
 use Rattle.channel.specs.declared.state.State.{State}
-use Rattle.channel.specs.World.{World, channelsOf, Out}
-use Rattle.channel.specs.Starting.{startSpec}
-use Rattle.channel.specs.Ask.{Asked, askSpec}
+use Rattle.channel.proofs.Promise.{World, channelsOf, Out, startSpec, Asked, askSpec}
 use Rattle.channel_c.specs.Words.{stateWords, rootIn, stateIn, flag, statePut}
 
 -- What a call is lent besides its arguments: the words of a state, the seven rooms, and words for the reply's length.

@@ -13,10 +13,7 @@ pub mod left; // what a call leaves of its outcome
 pub mod words; // a state as words
 
 ghost use mathlib.Core.Path.{_≡_};
-ghost use Rattle.channel.specs.Starting.{startSpec, buildSpec};
-ghost use Rattle.channel.specs.Opening.{openSpec};
-ghost use Rattle.channel.specs.Take.{takeSpec};
-ghost use Rattle.channel.specs.Write.{writeSpec};
+ghost use Rattle.channel.proofs.Promise.{startSpec, buildSpec, openSpec, takeSpec, writeSpec};
 ghost use Rattle.channel_c.specs.Calls.{lentOf, toldOf, callTold, startTold, countOf, askTold};
 use channel::asking;
 use channel::opening;

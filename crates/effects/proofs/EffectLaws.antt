@@ -8,13 +8,13 @@ use types.Run.{OneOf, miss}
 use denote.Enum.Declared.{tagOf}
 use Rattle.bits.proofs.Promise.{setRange, clearRange}
 use Rattle.wire.proofs.message.Message as message
-use Rattle.wire.specs.Read.{stepAt}
+use Rattle.wire.proofs.Promise.{stepAt}
 use Rattle.wire.specs.declared.message.Cursor.{Cursor}
 use Rattle.wire.specs.declared.message.Message.{Message}
 use Rattle.wire.specs.declared.message.Message.the-variants.{Handshake, Data, Ack, Have, Integrity, Request, Cancel, Choke, Unchoke}
 use Rattle.wire.specs.declared.message.Step.{Step}
 use Rattle.wire.specs.declared.message.Step.the-variants.{Read, End, Refused}
-use Rattle.writer.specs.Lists.{onStep, readFrom}
+use Rattle.writer.proofs.Promise.{onStep, readFrom}
 use Rattle.effects.specs.Effects.{Peer, peerOf, effect, effects}
 use Rattle.effects.specs.Steps.{Turned, turnOf, turned}
 use Rattle.effects.proofs.ReadLaws.{read-more}

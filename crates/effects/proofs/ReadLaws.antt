@@ -4,12 +4,12 @@ use native.Mathlib.Omega.{arith}
 use mathlib.Core.Path.{_≡_}
 use mathlib.Core.List.{List}
 use mathlib.Core.Bool.{true, false}
-use Rattle.wire.specs.Read.{stepAt}
+use Rattle.wire.proofs.Promise.{stepAt}
 use Rattle.wire.specs.declared.message.Cursor.{Cursor}
 use Rattle.wire.specs.declared.message.Message.{Message}
 use Rattle.wire.specs.declared.message.Step.{Step}
 use Rattle.wire.specs.declared.message.Step.the-variants.{Read, End, Refused}
-use Rattle.writer.specs.Lists.{onStep, readFrom}
+use Rattle.writer.proofs.Promise.{onStep, readFrom}
 use Rattle.effects.specs.Effects.{past, anyPast}
 
 -- What is read from a place on: what stands there, and what is read behind it.

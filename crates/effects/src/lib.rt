@@ -2,7 +2,7 @@
 // peer has, what it wants and the choke mark.
 ghost use mathlib.Core.Path.{_≡_};
 ghost use Prim.Native.Nat.{_<_, _^_};
-ghost use Rattle.wire.specs.Read.{stepAt};
+ghost use Rattle.wire.proofs.Promise.{stepAt};
 ghost use Rattle.writer.proofs.Promise.{readAll};
 ghost use Rattle.effects.specs.Effects.{past, anyPast, peerOf, effect, effects};
 ghost use Rattle.effects.specs.Steps.{turnOf, turned};

@@ -7,12 +7,9 @@ use mathlib.Core.List.{List, [], _∷_, _++_, append-assoc, append-nil}
 use mathlib.Core.Bool.{true}
 use borrow.Author.Tests.{le-ltb}
 use lib.ListN.{length, length-append}
-use Rattle.wire.proofs.Promise.{placed, minSize, maxSize}
-use Rattle.wire.proofs.PlacedLaws.{placed-none, placed-then}
+use Rattle.wire.proofs.Promise.{placed, minSize, maxSize, placed-none, placed-then}
 use Rattle.wire.specs.declared.message.Message.{Message}
-use Rattle.writer.specs.Add.{beginSpec}
-use Rattle.writer.proofs.Promise.{bytes32, bytesOf, writable, sizeOf, Written, writtenOf, Item, itemOf, encode, message-size}
-use Rattle.writer.proofs.PlaceLaws.{size32}
+use Rattle.writer.proofs.Promise.{beginSpec, bytes32, bytesOf, writable, sizeOf, Written, writtenOf, Item, itemOf, encode, message-size, size32}
 use Rattle.replies.specs.Replies.{datagram}
 
 -- ---- encoding

@@ -8,13 +8,10 @@ use mathlib.Core.Bool.{true}
 use lib.ListN.{length, getD, take, length-append}
 use lib.Seq.{take-suc, take-all, length-take-le}
 use Rattle.tree.specs.Bin.{first, last}
-use Rattle.store.proofs.Promise.{hashIn}
-use Rattle.store.proofs.RoomLaws.{hash-length}
-use Rattle.wire.proofs.Promise.{placed}
-use Rattle.wire.proofs.PlacedLaws.{placed-length}
+use Rattle.store.proofs.Promise.{hashIn, hash-length}
+use Rattle.wire.proofs.Promise.{placed, placed-length}
 use Rattle.wire.specs.declared.message.Message.the-variants.{Integrity}
-use Rattle.writer.specs.Message.{writable, sizeOf}
-use Rattle.writer.proofs.Promise.{bytesOf, encode, message-size}
+use Rattle.writer.proofs.Promise.{writable, sizeOf, bytesOf, encode, message-size}
 use Rattle.replies.specs.Replies.{hashItem}
 use Rattle.replies.specs.Steps.{integritySize}
 use Rattle.replies.proofs.DatagramLaws.{Stand, stand-more}

@@ -12,8 +12,7 @@ use Rattle.tree.specs.Peaks.{sent}
 use Rattle.wire.proofs.Promise.{placed, minSize, maxSize}
 use Rattle.wire.specs.declared.message.Options.the-variants.{Fixed}
 use Rattle.wire.specs.declared.message.Message.the-variants.{Handshake, Data, Ack}
-use Rattle.writer.specs.Message.{writable, writableOptions, sizeOf, optionSpan}
-use Rattle.writer.proofs.Promise.{bytesOf, writtenOf, beginSpec, itemOf, encode}
+use Rattle.writer.proofs.Promise.{writable, writableOptions, sizeOf, optionSpan, bytesOf, writtenOf, beginSpec, itemOf, encode}
 use Rattle.replies.specs.Replies.{handshakeReply, ackReply, hashItem, chunkReply}
 use Rattle.replies.specs.Steps.{integritySize}
 use Rattle.replies.proofs.DatagramLaws.{datagram-last, begun, stand-more, stand-datagram, one-datagram}

@@ -18,7 +18,7 @@ use Rattle.tree.specs.Steps.{peakBit, peakAt, siblingAt, peakTurn, sentBelow, l
 use Rattle.tree.proofs.NodeLaws.{above-in}
 use Rattle.tree.proofs.SentLaws.{sent-is}
 use Rattle.tree.proofs.StepLaws.{sent-short}
-use Rattle.store.proofs.AnswerLaws.{levels-small}
+use Rattle.store.proofs.Promise.{levels-small}
 
 -- ---- how many
 

@@ -19,6 +19,8 @@ use Rattle.store.proofs.AnswerLaws as answers
 use Rattle.store.proofs.AcceptLaws as accept
 pub use Rattle.store.specs.Room.{filler, hashIn}
 unfoldable pub use Rattle.store.specs.Room.{Digest}
+pub use Rattle.store.proofs.RoomLaws.{hash-length}
+pub use Rattle.store.proofs.AnswerLaws.{levels-small}
 pub use Rattle.store.specs.Integrity.{Integrity, integrityOf}
 pub use Rattle.store.specs.Rooms.{Rooms, roomsOf, countOf, chunkIn, stateOf, SoundRooms}
 pub use Rattle.store.specs.Building.{rootOf}

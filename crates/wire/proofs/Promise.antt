@@ -16,6 +16,7 @@ pub use Rattle.wire.specs.Layout.{Checked, checkedOf, numberOf, isEndOnl
 pub use Rattle.wire.proofs.FaultLaws.{Passed, Numbered}
 pub use Rattle.wire.proofs.CountLaws.{Says}
 pub use Rattle.wire.proofs.DataLaws.{ToEnd}
+pub use Rattle.wire.proofs.PlacedLaws.{placed-none, placed-length, placed-then}
 
 -- A refusal is 1, 2 or 3.
 pub layout-numbered : (s : List ℕ) → Numbered (layoutOf s .layout)

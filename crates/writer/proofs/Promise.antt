@@ -13,9 +13,13 @@ use Rattle.wire.specs.declared.message.Message.{Message}
 use Rattle.writer.proofs.SizeLaws.{bytes-length}
 use Rattle.writer.proofs.RoundTrips.{written-reads, read-writes}
 pub use Rattle.writer.specs.Bytes.{bytes32, bytes64}
-pub use Rattle.writer.specs.Message.{within, bytesOf, writable, sizeOf}
-pub use Rattle.writer.specs.Add.{Written, writtenOf, decide, addAnswer, addSpec, beginSpec}
-pub use Rattle.writer.specs.Lists.{Item, itemOf, encode, AllFit, AreBytes, contentsOf, readAll, Rewritable, writeAll, datagramOf}
+pub use Rattle.writer.specs.Message.{within, bytesOf}
+unfoldable pub use Rattle.writer.specs.Message.{writable, writableOptions, sizeOf, optionSpan}
+pub use Rattle.writer.specs.Add.{Written, writtenOf, decide, addAnswer, addSpec}
+unfoldable pub use Rattle.writer.specs.Add.{beginSpec}
+pub use Rattle.writer.specs.Lists.{Item, itemOf, encode, AllFit, AreBytes, contentsOf, onStep, readAll, Rewritable, writeAll, datagramOf}
+unfoldable pub use Rattle.writer.specs.Lists.{readFrom}
+pub use Rattle.writer.proofs.PlaceLaws.{size32}
 pub use Rattle.writer.proofs.RoundTrips.{Reads}
 
 -- A message that can be written has the size that the table says.

@@ -1,5 +1,5 @@
-use native.Mathlib.Omega.{arith}
-use Rattle.channel.specs.Starting.{buildSpec}
+use lib.ListN.{length}
+use Rattle.channel.proofs.Promise.{buildSpec}
 use Rattle.channel_c.specs.Calls.{lentOf}
 use Rattle.channel_c.proofs.CallLaws.{long-enough, call-short, call-made}
 use borrow.Author.Needs.{needs}
@@ -15,13 +15,17 @@ returns c =
     call-short (lentOf (a .state .now) (a .chunks .now) (a .map .now) (a .hashes .now) (a .trusted .now) (a .has .now) (a .wants .now) (a .reply .now) (a .out .now)) (λ w. buildSpec w (a .length) (a .content .now)) (c .before .too-short .ensures) (c .if1 .taken)
 
 state-in-requires : tie.Need-state-in-requires
-state-in-requires c κs = ?
+state-in-requires c κs =
+    let a = c .before .before .before .before .before .before .before .before .before .before .before .before .before .args in
+    long-enough (length (a .state .now)) (length (a .out .now)) (c .before .before .too-short .ensures) (c .before .if1 .left) .0
 
 build-requires : tie.Need-build-requires
 build-requires c κs = search needs
 
 leave-requires : tie.Need-leave-requires
-leave-requires c κs = ?
+leave-requires c κs =
+    let a = c .before .before .before .before .before .before .before .before .before .before .before .before .before .before .before .before .before .before .before .before .before .before .before .before .before .before .before .before .before .before .before .before .before .before .before .args in
+    long-enough (length (a .state .now)) (length (a .out .now)) (c .before .before .before .before .before .before .before .before .before .before .before .before .before .before .before .before .before .before .before .before .before .before .before .before .too-short .ensures) (c .before .before .before .before .before .before .before .before .before .before .before .before .before .before .before .before .before .before .before .before .before .before .before .if1 .left)
 
 same-length : tie.Need-same-length
 same-length c = search needs

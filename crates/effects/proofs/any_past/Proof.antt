@@ -1,8 +1,7 @@
 use native.Mathlib.Omega.{arith}
 use borrow.Author.Needs.{needs}
 use mathlib.Core.Path.{_≡_, refl, sym, _∙_}
-use Rattle.writer.specs.Lists.{readFrom}
-use Rattle.writer.proofs.Promise.{readAll}
+use Rattle.writer.proofs.Promise.{readFrom, readAll}
 use Rattle.effects.specs.Effects.{anyPast}
 use Rattle.effects.proofs.ReadLaws.{any-here, any-next, any-end, any-refused, any-none}
 use Rattle.effects.proofs.any_past.Statement.{statement}

@@ -2,9 +2,8 @@ use native.Mathlib.Omega.{arith}
 use Prim.Native.Nat.{_-_}
 use mathlib.Core.Path.{_≡_, refl, sym, _∙_}
 use lib.ListN.{length}
-use Rattle.wire.specs.Read.{stepAt}
-use Rattle.writer.specs.Lists.{readFrom}
-use Rattle.writer.proofs.Promise.{readAll}
+use Rattle.wire.proofs.Promise.{stepAt}
+use Rattle.writer.proofs.Promise.{readFrom, readAll}
 use Rattle.effects.specs.Effects.{peerOf, effects}
 use Rattle.effects.proofs.EffectLaws.{turn-less, turn-effects, effects-none}
 use Rattle.effects.proofs.apply.Statement.{statement}
