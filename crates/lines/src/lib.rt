@@ -1,4 +1,6 @@
 // A line on its way to standard output, through a buffer: what is in it is written when it is full and at the line's end.
+ghost use mathlib.Core.Path.{_≡_};
+ghost use Rattle.lines.specs.Lines.{emptyLine, putByte, putAll, decimalOf, hexOf};
 use libc::STDOUT_FILENO;
 
 pub struct Line {
@@ -7,7 +9,9 @@ pub struct Line {
 }
 
 // A line without a byte so far.
-pub fn empty() -> Line {
+pub fn empty() -> Line
+    ensures { λ r. ⌜ r ≡ emptyLine ⌝ }
+{
     let bytes = [0u8; 256];
     Line {
         bytes: bytes,
@@ -23,7 +27,9 @@ fn write(bytes: &[u8], len: usize) {
 }
 
 // One byte more.
-pub fn put(l: Line, x: u8) -> Line {
+pub fn put(l: Line, x: u8) -> Line
+    ensures { λ r. ⌜ r ≡ putByte l x ⌝ }
+{
     let at = l.len;
     let mut bytes = l.bytes;
     if at < 256 {
@@ -42,7 +48,9 @@ pub fn put(l: Line, x: u8) -> Line {
 }
 
 // Some bytes more.
-pub fn text(l: Line, s: &[u8]) -> Line {
+pub fn text(l: Line, s: &[u8]) -> Line
+    ensures { λ r. ⌜ r ≡ putAll l (now (s .entry)) ⌝ }
+{
     let mut out = l;
     let mut i: usize = 0;
     while i < s.len() {
@@ -53,37 +61,50 @@ pub fn text(l: Line, s: &[u8]) -> Line {
 }
 
 // A line that begins with a word.
-pub fn begin(word: &[u8]) -> Line {
+pub fn begin(word: &[u8]) -> Line
+    ensures { λ r. ⌜ r ≡ putAll emptyLine (now (word .entry)) ⌝ }
+{
     text(empty(), word)
 }
 
 // The digits of a number.
-pub fn decimal(l: Line, x: u64) -> Line {
+pub fn decimal(l: Line, x: u64) -> Line
+    ensures { λ r. ⌜ r ≡ putAll l (decimalOf x) ⌝ }
+{
     let mut digits = [0u8; 20];
     let k = io::decimal(x, &mut digits);
     text(l, &digits[..k])
 }
 
 // The eight hexadecimal digits of a word of 32 bits.
-pub fn hex(l: Line, x: u32) -> Line {
+pub fn hex(l: Line, x: u32) -> Line
+    ensures { λ r. ⌜ r ≡ putAll l (hexOf x) ⌝ }
+{
     let mut digits = [0u8; 16];
     let k = io::hex(x as u64, 8, &mut digits);
     text(l, &digits[..k])
 }
 
 // A space and a word.
-pub fn word(l: Line, s: &[u8]) -> Line {
+pub fn word(l: Line, s: &[u8]) -> Line
+    ensures { λ r. ⌜ r ≡ putAll (putByte l 32) (now (s .entry)) ⌝ }
+{
     text(put(l, b' '), s)
 }
 
 // A space and a number.
-pub fn number(l: Line, x: u64) -> Line {
+pub fn number(l: Line, x: u64) -> Line
+    ensures { λ r. ⌜ r ≡ putAll (putByte l 32) (decimalOf x) ⌝ }
+{
     decimal(put(l, b' '), x)
 }
 
-// Ends the line and writes what is left of it.
-pub fn end(l: Line) {
+// Ends the line and writes the bytes that are left; how many they are.
+pub fn end(l: Line) -> usize
+    ensures { λ r. ⌜ r ≡ putByte l 10 .len ⌝ }
+{
     let ended = put(l, b'\n');
     let bytes = ended.bytes;
     write(&bytes, ended.len);
+    ended.len
 }

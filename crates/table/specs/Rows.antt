@@ -10,6 +10,9 @@ use Rattle.table.specs.declared.rows.Phase.{Phase}
 use Rattle.table.specs.declared.rows.Phase.the-variants.{Free, Calling, Open}
 use Rattle.table.specs.declared.rows.Row.{Row}
 use Rattle.table.specs.declared.rows.Table.{Table}
+use Rattle.table.specs.declared.rows.Search.{Search}
+use Rattle.table.specs.declared.rows.Search.the-variants.{InUse}
+use Rattle.table.specs.declared.rows.Search.the-variants as Search
 
 -- How many channels there are.
 abbrev pub rowCount : ℕ
@@ -39,25 +42,21 @@ unfoldable pub firstRow : (Row → Bool) → List Row → ℕ
 firstRow f [] = 0
 firstRow f (r ∷ rs) = pick (f r) 0 (suc (firstRow f rs))
 
--- The lowest free row.
+-- What a row is looked for by: that it is free; that it is in use under an ID of ours; that it is open under one.
+abbrev pub passes : Search → Row → Bool
+passes Search.Free r = isFree (r .phase)
+passes (InUse id) r = pick (isFree (r .phase)) false (eqb (r .id) id)
+passes (Search.Open id) r = pick (isOpen (r .phase)) (eqb (r .id) id) false
+
+-- The lowest free row, the lowest in use under an ID, and the lowest open under an ID.
 unfoldable pub lowestFree : List Row → ℕ
-lowestFree rs = firstRow (λ r. isFree (r .phase)) rs
+lowestFree rs = firstRow (passes Search.Free) rs
 
--- Whether a row is in use under an ID of ours.
-abbrev pub hasId : ℕ → Row → Bool
-hasId id r = pick (isFree (r .phase)) false (eqb (r .id) id)
-
--- The lowest row in use under an ID.
 unfoldable pub rowOf : List Row → ℕ → ℕ
-rowOf rs id = firstRow (hasId id) rs
+rowOf rs id = firstRow (passes (InUse id)) rs
 
--- Whether a row is open under an ID of ours.
-abbrev pub isOpenUnder : ℕ → Row → Bool
-isOpenUnder id r = pick (isOpen (r .phase)) (eqb (r .id) id) false
-
--- The lowest row open under an ID.
 unfoldable pub openRowOf : List Row → ℕ → ℕ
-openRowOf rs id = firstRow (isOpenUnder id) rs
+openRowOf rs id = firstRow (passes (Search.Open id)) rs
 
 -- The row at a place; past the table a free one.
 unfoldable pub rowAt : List Row → ℕ → Row

@@ -1,7 +1,7 @@
 // The rows of the channel table, by value.
 ghost use mathlib.Core.Path.{_≡_};
 ghost use Prim.Native.Nat.{_≤_};
-ghost use Rattle.table.specs.Rows.{rowCount, isFree, isOpen, freeRow, freeTable, hasId, lowestFree, rowOf, isOpenUnder, openRowOf, rowAt, withRow, rowAfter};
+ghost use Rattle.table.specs.Rows.{rowCount, isFree, isOpen, freeRow, freeTable, firstRow, passes, lowestFree, rowOf, openRowOf, rowAt, withRow, rowAfter};
 
 // How many channels there are.
 pub const ROWS: usize = 16;
@@ -66,72 +66,60 @@ pub fn free_table() -> Table
     }
 }
 
-// Whether a row is in use under an ID of ours.
-fn has_id(row: Row, id: u32) -> bool
-    ensures { λ r. ⌜ r ≡ hasId id row ⌝ }
+// What a row is looked for by.
+pub enum Search {
+    Free,
+    // In use, calling or open, under an ID of ours.
+    InUse { id: u32 },
+    Open { id: u32 },
+}
+
+// Whether a row is what is looked for.
+fn passes(row: Row, search: Search) -> bool
+    ensures { λ r. ⌜ r ≡ passes search row ⌝ }
 {
     let phase = row.phase;
-    if is_free(phase) {
-        return false;
+    match search {
+        Search::Free => is_free(phase),
+        Search::InUse { id } => { if is_free(phase) { false } else { row.id == id } }
+        Search::Open { id } => { if is_open(phase) { row.id == id } else { false } }
     }
-    row.id == id
+}
+
+// The lowest row that is what is looked for, or 16.
+fn first_row(table: Table, search: Search) -> usize
+    ensures { λ r. ⌜ (r ≡ firstRow (passes search) (table .rows)) × (r ≤ rowCount) ⌝ }
+{
+    let mut i: usize = 0;
+    while i < ROWS {
+        let row = table.rows[i];
+        if passes(row, search) {
+            return i;
+        }
+        i += 1;
+    }
+    i
 }
 
 // The lowest row that is free, or 16.
 pub fn lowest_free(table: Table) -> usize
     ensures { λ r. ⌜ (r ≡ lowestFree (table .rows)) × (r ≤ rowCount) ⌝ }
 {
-    let mut i: usize = 0;
-    while i < ROWS {
-        let row = table.rows[i];
-        let phase = row.phase;
-        if is_free(phase) {
-            return i;
-        }
-        i += 1;
-    }
-    i
+    first_row(table, Search::Free)
 }
 
 // The lowest row in use under an ID, or 16.
 pub fn row_of(table: Table, id: u32) -> usize
     ensures { λ r. ⌜ (r ≡ rowOf (table .rows) id) × (r ≤ rowCount) ⌝ }
 {
-    let mut i: usize = 0;
-    while i < ROWS {
-        let row = table.rows[i];
-        if has_id(row, id) {
-            return i;
-        }
-        i += 1;
-    }
-    i
-}
-
-// Whether a row is open under an ID of ours.
-fn is_open_under(row: Row, id: u32) -> bool
-    ensures { λ r. ⌜ r ≡ isOpenUnder id row ⌝ }
-{
-    let phase = row.phase;
-    if is_open(phase) {
-        return row.id == id;
-    }
-    false
+    first_row(table, Search::InUse { id })
 }
 
 // The lowest row open under an ID, or 16.
 pub fn open_row_of(table: Table, id: u32) -> usize
     ensures { λ r. ⌜ (r ≡ openRowOf (table .rows) id) × (r ≤ rowCount) ⌝ }
 {
-    let mut i: usize = 0;
-    while i < ROWS {
-        let row = table.rows[i];
-        if is_open_under(row, id) {
-            return i;
-        }
-        i += 1;
-    }
-    i
+    first_row(table, Search::Open { id })
 }
 
 // The row at a place; a free one past the table.

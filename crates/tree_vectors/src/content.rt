@@ -28,7 +28,7 @@ fn put(room: &mut [u8], at: usize, x: u8) {
 }
 
 // Writes the pack of this length.
-pub fn fill(room: &mut [u8], length: u32) {
+pub(crate) fn fill(room: &mut [u8], length: u32) {
     let add = shift(length);
     let mut at: u32 = 0;
     while at < length {

@@ -15,7 +15,7 @@ fn write_node(b: u32) {
     lines::end(l);
 }
 
-pub fn write_nodes() {
+pub(crate) fn write_nodes() {
     let mut b: u32 = 0;
     while b <= 40 {
         write_node(b);
@@ -34,6 +34,7 @@ fn write_range(start: u32, end: u32) {
         RangeNode::Node(b) => lines::end(lines::number(l, b)),
         RangeNode::NoNode => lines::end(lines::word(l, b"-")),
     }
+    ;
 }
 
 // The ranges at the ends of the numbers.
@@ -48,7 +49,7 @@ fn write_far_ranges() {
     write_range(2147483646, 2147483647);
 }
 
-pub fn write_ranges() {
+pub(crate) fn write_ranges() {
     let mut t: u32 = 0;
     while t < 9 * 17 {
         write_range(t / 17, t % 17);
@@ -68,7 +69,7 @@ fn write_length(length: u32) {
     lines::end(l);
 }
 
-pub fn write_lengths() {
+pub(crate) fn write_lengths() {
     write_length(1);
     write_length(2);
     write_length(1023);

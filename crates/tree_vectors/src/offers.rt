@@ -158,7 +158,7 @@ fn take_part(
 }
 
 // Offers chunk c of a content in one of the eight ways, with the hashes of a built store, in turn k; the store's answer.
-pub fn offer(
+pub(crate) fn offer(
     order: Order,
     chunks: &mut [u8],
     map: &mut [u32],

@@ -159,7 +159,7 @@ fn write_pack(n: u32, last: u32)
     write_in(&mut room, sizes::length_of(n, last), n);
 }
 
-pub fn write_packs() {
+pub(crate) fn write_packs() {
     let mut t: u32 = 0;
     while t < sizes::COUNTS * sizes::LASTS {
         write_pack(

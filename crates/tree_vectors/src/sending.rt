@@ -44,7 +44,7 @@ fn write_order(n: u32) {
     }
 }
 
-pub fn write_orders() {
+pub(crate) fn write_orders() {
     let mut t: u32 = 0;
     while t < sizes::COUNTS {
         write_order(sizes::count_at(t));

@@ -40,14 +40,14 @@ pub fn last_at(t: u32) -> u32
 }
 
 // The length of a pack of n chunks, the last one this long.
-pub fn length_of(n: u32, last: u32) -> u32
+pub(crate) fn length_of(n: u32, last: u32) -> u32
     requires { ⌜ (0 < n) × (n ≤ 512) × (last ≤ 1024) ⌝ }
 {
     1024 * (n - 1) + last
 }
 
 // The size of the last chunk of a pack.
-pub fn last_size(length: u32) -> u32 {
+pub(crate) fn last_size(length: u32) -> u32 {
     let n = tree::pack::chunk_count(length);
     if n == 0 {
         return 0;

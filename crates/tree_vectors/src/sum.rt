@@ -37,7 +37,7 @@ fn with_bits(s: u64, v: &[u32], upto: usize) -> u64 {
     sum
 }
 
-pub fn of(chunks: &[u8], map: &[u32], hashes: &[u32], trusted: &[u32], length: u32) -> u64 {
+pub(crate) fn of(chunks: &[u8], map: &[u32], hashes: &[u32], trusted: &[u32], length: u32) -> u64 {
     let n = tree::pack::chunk_count(length);
     let w = sizes::places(length);
     let mut s = with_bytes(2166136261, chunks, length as usize);

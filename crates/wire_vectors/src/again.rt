@@ -78,7 +78,7 @@ fn is_same(room: &[u8], len: usize, datagram: &[u8]) -> bool {
 }
 
 // A space, the last answer, the length, and `=` if the bytes are the datagram's first, else `~`.
-pub fn word(l: Line, datagram: &[u8]) -> Line
+pub(crate) fn word(l: Line, datagram: &[u8]) -> Line
     requires { ⌜ 4 ≤ length (now datagram) ⌝ }
 {
     let mut room = empty_room();

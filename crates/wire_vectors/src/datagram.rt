@@ -38,7 +38,7 @@ fn listed(l: Line, datagram: &[u8]) -> Line {
     lines::word(out, b".")
 }
 
-pub fn write(datagram: &[u8]) {
+pub(crate) fn write(datagram: &[u8]) {
     let begun = lines::decimal(lines::empty(), number(datagram) as u64);
     if datagram.len() < MIN_SIZE {
         lines::end(begun);

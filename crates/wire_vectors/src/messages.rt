@@ -4,7 +4,7 @@ use wire::message::Message;
 use wire::message::Options;
 
 // A colon and a number.
-pub fn field(l: Line, x: u64) -> Line {
+pub(crate) fn field(l: Line, x: u64) -> Line {
     lines::decimal(lines::put(l, b':'), x)
 }
 
@@ -28,7 +28,7 @@ fn chunk(l: Line, chunk: u32, timestamp: u64, start: usize, len: usize) -> Line 
 }
 
 // A space and a message.
-pub fn word(before: Line, message: Message) -> Line {
+pub(crate) fn word(before: Line, message: Message) -> Line {
     let l = lines::put(before, b' ');
     match message {
         Message::Handshake { source, options } => handshake(l, source, options),

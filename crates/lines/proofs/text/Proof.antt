@@ -1,17 +1,21 @@
 use Prim.Native.Nat.{_≤_, _-_}
-use lib.ListN.{length}
+use native.Mathlib.Omega.{arith}
+use mathlib.Core.Path.{_≡_, refl}
+use lib.ListN.{length, drop}
+use Rattle.lines.specs.Lines.{putAll}
+use Rattle.lines.proofs.LineLaws.{all-turn, all-end}
 use borrow.Author.Needs.{needs}
 use Rattle.lines.proofs.text.Statement.{statement}
 use Rattle.lines.proofs.text.Tie as tie
 
 abbrev Inv-loop : tie.InvT-loop
-Inv-loop s out₀ i₀ out i = i ≤ length s
+Inv-loop s out₀ i₀ out i = (i ≤ length s) × (putAll out (drop i s) ≡ putAll out₀ s)
 
 abbrev μ-loop : tie.MeasureT-loop
 μ-loop s out₀ i₀ out i = length s - i
 
 loop-holds : tie.Need-loop-holds Inv-loop μ-loop
-loop-holds c = search needs
+loop-holds c = (omega arith, refl)
 
 shared-slice-read-put : tie.Need-shared-slice-read-put Inv-loop μ-loop
 shared-slice-read-put c = search needs
@@ -26,10 +30,12 @@ loop-less : tie.Need-loop-less Inv-loop μ-loop
 loop-less c = search needs
 
 loop-again : tie.Need-loop-again Inv-loop μ-loop
-loop-again c = search needs
+loop-again c =
+    let l = c .before .before .before .loop in
+    (omega arith, all-turn _ (l .i) (l .out) _ (omega arith) (l .inv .1) (c .put .ensures))
 
 returns : tie.Need-returns Inv-loop μ-loop
-returns c = search needs
+returns c = all-end _ (c .before .loop .i) _ _ (omega arith) (c .before .loop .inv .1)
 
 pub text-spec : {M : Type 1} → statement M
 text-spec =

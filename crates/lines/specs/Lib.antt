@@ -1,0 +1,2 @@
+-- Lines on their way to standard output.
+pub mod Lines
