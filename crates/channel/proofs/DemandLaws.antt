@@ -1,16 +1,16 @@
 -- Demand 3, proved of every list of calls on a fresh or built store. Assumes nothing.
-use Prim.Native.Nat.{ℕ, _*_, _≤_, _<_}
+use Prim.Native.Nat.{ℕ, _≤_, _<_}
 use native.Mathlib.Omega.{arith}
 use mathlib.Core.Path.{_≡_, refl, sym, ap, _∙_}
-use mathlib.Core.Bool.{true}
+use mathlib.Core.Bool.{true, false}
 use mathlib.Core.List.{List}
 use borrow.Author.Tests.{eq-eqb, eqb-true, le-ltb}
-use lib.Dec.{eqb, ltb}
+use lib.Dec.{eqb}
 use lib.ListN.{length}
 use lib.Seq.{take-all}
 use Rattle.bits.proofs.Promise.{bitAt, countBits, rowWords, count-full, full-count}
 use Rattle.hash.proofs.Promise.{bytesOf, words, bytes-words}
-use Rattle.store.proofs.Promise.{Rooms, countOf, Digest, Roomy, Running, Whole, HangsIn, Alike, lengthAnswer, roomsAnswer, rootOf, both-zero, order-accepted, build-accepted, start-zero, started-running, build-zero, built-running, content-root, running-hangs, whole-alike}
+use Rattle.store.proofs.Promise.{Rooms, countOf, Digest, Running, Whole, Alike, lengthAnswer, roomsAnswer, rootOf, both-zero, order-accepted, build-accepted, start-zero, started-running, started-empty, build-zero, built-running, built-whole, content-root, running-hangs, whole-alike}
 use Rattle.store.specs.declared.calls.Order.{Order}
 use Rattle.channel.specs.declared.state.State.{State}
 use Rattle.channel.specs.World.{World, orderLength, chunkCount}
@@ -19,7 +19,7 @@ use Rattle.channel.specs.Starting.{freshChannels, startSpec, buildNumber
 use Rattle.channel.specs.Ask.{Asked, askedOf, askNumber, askSpec}
 use Rattle.channel.specs.Run.{Call, run, FreshOrBuilt, fresh, built}
 use Rattle.channel.specs.Demand.{rootIn, lengthIn, chunksIn, ask, BothWhole, Demand}
-use Rattle.channel.proofs.OutLaws.{unless-zero, unless-done}
+use Rattle.channel.proofs.OutLaws.{unless-zero}
 use Rattle.channel.proofs.RunLaws.{Under, run-order, run-under, run-map, run-bytes}
 
 -- A store under its own order, whose length is within the limit.
@@ -68,6 +68,22 @@ built-ready w L s e =
 fresh-or-built-ready : (w : World) → FreshOrBuilt w → Ready w
 fresh-or-built-ready _ (fresh w o d e) = fresh-ready w o d e
 fresh-or-built-ready _ (built w L s e) = built-ready w L s e
+
+-- A fresh store has no chunk in its map,
+pub fresh-empty : (w : World) (o : Order) → startSpec w o .answer ≡ 0 → (x : ℕ) → x < countOf (o .length) → bitAt (startSpec w o .after .rooms .map) x ≡ false
+unfolding startSpec
+fresh-empty w o e x l =
+    let z = unless-zero (allRoomsAnswer (o .length) w) w _ e .0 in
+    let p = both-zero (roomsAnswer (o .length) (w .rooms)) _ z in
+    rw z (started-empty (w .rooms) (bytesOf (o .root .words)) (o .length) (start-zero (w .rooms) (bytesOf (o .root .words)) (o .length) (p .0)) x l)
+
+-- a built one all N.
+pub built-full : (w : World) (L : ℕ) (s : List ℕ) → buildSpec w L s .answer ≡ 0 → Whole L (buildSpec w L s .after .rooms)
+unfolding buildSpec
+built-full w L s e =
+    let z = unless-zero (buildNumber w L s) w _ e .0 in
+    let p = both-zero _ _ z in
+    rw z (built-whole (w .rooms) L s (build-zero (w .rooms) L s (p .0)))
 
 -- ---- asking
 

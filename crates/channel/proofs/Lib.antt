@@ -6,6 +6,7 @@ pub mod AskLaws
 pub mod WriteLaws
 pub mod StartLaws
 pub mod OpenLaws
+pub mod HandshakeLaws
 pub mod TakeLaws
 pub mod StepLaws
 pub mod RunLaws

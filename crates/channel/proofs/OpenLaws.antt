@@ -8,12 +8,12 @@ use mathlib.Core.List.{List}
 use lib.ListN.{length}
 use Rattle.bits.proofs.Promise.{rowWords, clearWords, row-words}
 use Rattle.wire.proofs.Promise.{placed}
-use Rattle.table.proofs.Promise.{rowCount, lowestFree, withRow, openAnswer}
+use Rattle.table.proofs.Promise.{rowCount, lowestFree, withRow}
 use Rattle.table.specs.declared.rows.Row.{Row}
 use Rattle.table.specs.declared.rows.Table.{Table}
-use Rattle.store.proofs.Promise.{earlier, both-zero}
+use Rattle.store.proofs.Promise.{earlier}
 use Rattle.channel.specs.declared.state.State.{State}
-use Rattle.channel.specs.World.{Channels, channelsOf, World, Out, outOf, beside, chunkCount, tableRows, rowStart, clearedRow}
+use Rattle.channel.specs.World.{Channels, channelsOf, World, Out, outOf, beside, chunkCount, tableRows, clearedRow}
 use Rattle.channel.specs.Opening.{callingRow, ourHandshake, occupied, openNumber, openSpec}
 use Rattle.channel.proofs.OutLaws.{unless-not, unless-done}
 

@@ -1,7 +1,11 @@
 -- What the crates above know of this one: of its definitions the names passed on here, that a refused call alters nothing,
 -- and demand 3. Assumes nothing.
+use mathlib.Core.Path.{_≡_}
+use mathlib.Core.Bool.{false}
 use mathlib.Core.List.{List}
-use Prim.Native.Nat.{ℕ}
+use Prim.Native.Nat.{ℕ, _<_}
+use Rattle.bits.proofs.Promise.{bitAt}
+use Rattle.store.proofs.Promise.{countOf, Whole}
 use Rattle.store.specs.declared.calls.Order.{Order}
 use Rattle.channel.proofs.RefusedLaws as refused
 use Rattle.channel.proofs.DemandLaws as demand
@@ -31,6 +35,14 @@ take-refused-same = refused.take-unaltered
 
 pub write-refused-same : (w : World) (id c clock : ℕ) → Unaltered w (writeSpec w id c clock)
 write-refused-same = refused.write-unaltered
+
+-- ---- where a list begins: "A fresh store has no chunk in its map, a built one all N"
+
+pub fresh-empty : (w : World) (o : Order) → startSpec w o .answer ≡ 0 → (x : ℕ) → x < countOf (o .length) → bitAt (startSpec w o .after .rooms .map) x ≡ false
+fresh-empty = demand.fresh-empty
+
+pub built-full : (w : World) (L : ℕ) (s : List ℕ) → buildSpec w L s .answer ≡ 0 → Whole L (buildSpec w L s .after .rooms)
+built-full = demand.built-full
 
 -- ---- demand 3, of every list of calls on a fresh or built store
 

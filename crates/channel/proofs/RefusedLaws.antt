@@ -12,7 +12,6 @@ use Rattle.wire.proofs.Promise.{be32, layoutOf}
 use Rattle.wire.specs.declared.message.Options.{Options}
 use Rattle.wire.specs.declared.layout.Layout.{Layout}
 use Rattle.wire.specs.declared.layout.Layout.the-variants.{Fault, HandshakeAlone, Messages, MessagesAndData}
-use Rattle.store.proofs.Promise.{Rooms}
 use Rattle.store.specs.declared.calls.Order.{Order}
 use Rattle.channel.specs.World.{Channels, World, Out, outOf, unless, beside, orderRoot, tableRows}
 use Rattle.channel.specs.Answers.{allRoomsAnswer, ownRoomsAnswer}

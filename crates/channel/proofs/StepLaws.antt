@@ -1,10 +1,10 @@
 -- What one call of a list does to the order and to the chunk rooms. Assumes nothing.
 use Prim.Native.Nat.{ℕ, zero, suc}
-use mathlib.Core.Path.{_≡_, refl, sym, ap, _∙_}
+use mathlib.Core.Path.{_≡_, refl}
 use mathlib.Core.Bool.{Bool, true, false}
 use mathlib.Core.List.{List}
 use mathlib.Core.Option.{Option, none, some}
-use borrow.Author.Tests.{eq-eqb, ne-eqb}
+use borrow.Author.Tests.{ne-eqb}
 use native.Mathlib.Omega.{arith}
 use lib.Dec.{eqb}
 use Rattle.tree.specs.Pick.{pick}
@@ -13,7 +13,7 @@ use Rattle.wire.specs.declared.layout.Layout.{Layout}
 use Rattle.wire.specs.declared.layout.Layout.the-variants.{Fault, HandshakeAlone, Messages, MessagesAndData}
 use Rattle.wire.specs.declared.message.Options.{Options}
 use Rattle.writer.proofs.Promise.{within}
-use Rattle.store.proofs.Promise.{Rooms, Integrity, Out as StoreOut, takeSpec as storeTake}
+use Rattle.store.proofs.Promise.{Rooms, Integrity, takeSpec as storeTake}
 use Rattle.store.specs.declared.calls.Order.{Order}
 use Rattle.table.specs.declared.rows.Row.{Row}
 use Rattle.table.proofs.Promise.{handshakeAnswer}

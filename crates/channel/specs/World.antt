@@ -6,7 +6,6 @@ use Rattle.bits.proofs.Promise.{rowWords, clearWords}
 use Rattle.table.proofs.Promise.{withRow}
 use Rattle.table.specs.declared.rows.Row.{Row}
 use Rattle.store.proofs.Promise.{Rooms, roomsOf, countOf}
-use Rattle.store.specs.declared.calls.Order.{Order}
 use Rattle.channel.specs.declared.state.State.{State}
 
 -- The store's state (its order and its channel table), the rooms for what the peers have and want, and the reply room.

@@ -7,4 +7,5 @@ pub mod starting; // start a store, build a whole one
 pub mod state; // the order and the channel table; what a call gives back
 pub mod taking; // take in a datagram
 pub mod writing; // write the datagram of one chunk
+mod handshakes; // a HANDSHAKE taken in
 mod rooms; // the numbers 12 and 11

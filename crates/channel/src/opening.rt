@@ -1,11 +1,11 @@
 // Opening a channel: by a call of ours, or by a peer's HANDSHAKE.
 ghost use mathlib.Core.Path.{_≡_};
-ghost use Prim.Native.Nat.{_≤_, _*_, _+_, _<_, _^_};
+ghost use Prim.Native.Nat.{_≤_, _*_, _+_};
 ghost use lib.ListN.{length};
 ghost use Rattle.wire.proofs.Promise.{maxSize};
 ghost use Rattle.table.proofs.Promise.{rowCount};
-ghost use Rattle.channel.specs.World.{channelsOf, worldOf, outOf, rowStart, clearedRow};
-ghost use Rattle.channel.specs.Opening.{callingRow, occupied, openSpec};
+ghost use Rattle.channel.specs.World.{channelsOf, worldOf, outOf, clearedRow};
+ghost use Rattle.channel.specs.Opening.{occupied, openSpec};
 use crate::rooms;
 use crate::state::Outcome;
 use crate::state::State;

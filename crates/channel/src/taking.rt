@@ -3,21 +3,17 @@ ghost use mathlib.Core.Path.{_≡_};
 ghost use mathlib.Core.List.{[]};
 ghost use Prim.Native.Nat.{_+_, _≤_};
 ghost use lib.ListN.{length};
-ghost use Rattle.hash.proofs.Promise.{bytesOf};
 ghost use Rattle.wire.proofs.Promise.{placed, minSize, maxSize};
 ghost use Rattle.store.proofs.Promise.{lengthAnswer};
 ghost use Rattle.channel.specs.World.{channelsOf, worldOf, outOf};
-ghost use Rattle.channel.specs.Take.{ours, handshakeTaken, messagesNumber, affected, messagesTaken, acknowledgement, dataTaken, takeSpec};
-use crate::opening;
+ghost use Rattle.channel.specs.Take.{messagesNumber, affected, messagesTaken, acknowledgement, dataTaken, takeSpec};
+use crate::handshakes;
 use crate::rooms;
 use crate::state::Outcome;
 use crate::state::State;
-use hash::value;
-use hash::value::HashValue;
 use store::calls;
 use table::answers;
 use table::rows;
-use table::rows::Phase;
 use table::rows::Row;
 use tree::pack;
 use wire::bytes;
@@ -25,80 +21,6 @@ use wire::layout;
 use wire::layout::Layout;
 use wire::limits::ENTRIES;
 use wire::limits::MIN_SIZE;
-use wire::message::Options;
-
-// Whether 32 bytes from a place of a datagram are the root's.
-fn is_root(root: HashValue, datagram: &[u8], at: usize) -> bool
-    ensures { λ r. ⌜ r ≡ ours (bytesOf (root .words)) (now (datagram .entry)) (Options.Fixed at) ⌝ }
-{
-    if datagram.len() < 32 {
-        return false;
-    }
-    if datagram.len() - 32 < at {
-        return false;
-    }
-    value::same(value::load(datagram, at), root)
-}
-
-// Whether a HANDSHAKE's options are the fixed ones around the order's root.
-fn is_ours(root: HashValue, options: Options, datagram: &[u8]) -> bool
-    ensures { λ r. ⌜ r ≡ ours (bytesOf (root .words)) (now (datagram .entry)) options ⌝ }
-{
-    match options {
-        Options::Fixed { root: at } => is_root(root, datagram, at),
-        Options::EndOnly => false,
-        Options::Other => false,
-    }
-}
-
-// A HANDSHAKE alone: it opens a channel, or changes the row that it goes to.
-fn handshake(
-    state: State,
-    has: &mut [u32],
-    wants: &mut [u32],
-    reply: &mut [u8],
-    id: u32,
-    source: u32,
-    options: Options,
-    datagram: &[u8],
-) -> Outcome
-    requires { ⌜ maxSize ≤ length (now reply) ⌝ }
-    requires { ⌜ minSize ≤ length (now datagram) ⌝ }
-    ensures { λ r. ⌜ outOf (r .answer) (r .len) (channelsOf (r .state) (now (has .exit)) (now (wants .exit)) (now (reply .exit))) ≡ handshakeTaken (channelsOf state (now (has .entry)) (now (wants .entry)) (now (reply .entry))) id (now (datagram .entry)) source options ⌝ }
-{
-    let order = state.order;
-    let table = state.table;
-    let root = order.root;
-    let to = bytes::load32(datagram, 0);
-    let ours = is_ours(root, options, datagram);
-    let answer = answers::handshake_answer(table, to, source, ours, id);
-    if answer != 0 {
-        return Outcome {
-            answer,
-            len: 0,
-            state,
-        };
-    }
-    if to == 0 {
-        let row = Row {
-            phase: Phase::Open,
-            id,
-            peer: source,
-            choked: false,
-        };
-        return opening::occupy(state, has, wants, reply, row);
-    }
-    let i = rows::row_of(table, to);
-    let row = rows::row_after(rows::row_at(table, i), source);
-    Outcome {
-        answer: 0,
-        len: 0,
-        state: State {
-            order,
-            table: rows::with_row(table, i, row),
-        },
-    }
-}
 
 // 5, 3 and 7 for messages other than a HANDSHAKE.
 fn messages_number(state: State, datagram: &[u8]) -> u32
@@ -291,7 +213,7 @@ pub fn take(
             state,
         },
         Layout::HandshakeAlone { source, options } => {
-            handshake(state, has, wants, reply, id, source, options, datagram)
+            handshakes::handshake(state, has, wants, reply, id, source, options, datagram)
         }
         Layout::Messages { entries: _ } => messages(state, has, wants, reply, datagram),
         Layout::MessagesAndData {

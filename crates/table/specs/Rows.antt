@@ -1,6 +1,6 @@
 -- The channel table (01, "What a store works under": "There are 16 channels"; "Datagrams", the effects of a HANDSHAKE).
 -- Assumes nothing.
-use Prim.Native.Nat.{ℕ, zero, suc}
+use Prim.Native.Nat.{ℕ, suc}
 use mathlib.Core.List.{List, [], _∷_}
 use mathlib.Core.Bool.{Bool, true, false}
 use lib.ListN.{getD, set, replicate}

@@ -1,9 +1,9 @@
 use native.Mathlib.Omega.{arith}
 use Rattle.channel.specs.World.{channelsOf}
-use Rattle.channel.proofs.TakeLaws.{handshake-refused, handshake-opens, handshake-changes}
+use Rattle.channel.proofs.HandshakeLaws.{handshake-refused, handshake-opens, handshake-changes}
 use borrow.Author.Needs.{needs}
-use Rattle.channel.proofs.taking.handshake.Statement.{statement}
-use Rattle.channel.proofs.taking.handshake.Tie as tie
+use Rattle.channel.proofs.handshakes.handshake.Statement.{statement}
+use Rattle.channel.proofs.handshakes.handshake.Tie as tie
 
 load32-requires : tie.Need-load32-requires
 load32-requires c κs = search needs
