@@ -195,7 +195,7 @@ fn compare(case: &str, [got, wanted]: [u32; 2], rooms: &Rooms, wanted_rooms: &Ro
 }
 
 /// The first place where a room differs.
-fn difference<T: PartialEq + Debug>(name: &str, got: &[T], wanted: &[T]) -> Option<String> {
+pub fn difference<T: PartialEq + Debug>(name: &str, got: &[T], wanted: &[T]) -> Option<String> {
     if got == wanted {
         return None;
     }

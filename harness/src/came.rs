@@ -1,6 +1,7 @@
 //! The hashes that come with a chunk: of which nodes, and in which form each
 //! store takes them.
 
+use crate::packets::{is_integrity, node_of};
 use second::sha256::Digest;
 use second::store::{NodeHash, Store};
 use second::tree;
@@ -61,20 +62,37 @@ pub fn all(built: &Store, chunk: u32) -> Vec<NodeHash> {
 /// Those that `store` needs for a chunk: the peaks, unless it trusts them, and
 /// the siblings below the first node that it trusts, or below the peak.
 pub fn least(built: &Store, store: &Store, chunk: u32) -> Vec<NodeHash> {
-    let peaks = tree::peaks(built.count());
+    let nodes = least_nodes(built.count(), chunk, |node| store.trusts(node));
+    with_hashes(built, nodes)
+}
+
+/// Their nodes, for one of `count` chunks and a store that trusts such nodes.
+pub fn least_nodes(count: u32, chunk: u32, trusts: impl Fn(u64) -> bool) -> Vec<u64> {
+    let peaks = tree::peaks(count);
     let peak = peaks[tree::peak_over(&peaks, chunk)];
     let mut siblings = Vec::new();
     let mut node = tree::leaf(chunk);
-    while node != peak && !store.trusts(node) {
+    while node != peak && !trusts(node) {
         siblings.push(tree::sibling(node));
         node = tree::parent(node);
     }
     let mut nodes = peaks;
-    if nodes.iter().all(|&peak| store.trusts(peak)) {
+    if nodes.iter().all(|&peak| trusts(peak)) {
         nodes.clear();
     }
     nodes.extend(siblings);
-    with_hashes(built, nodes)
+    nodes
+}
+
+/// Of a chunk's messages leaves out the hashes that are not among these.
+pub fn leave_least(
+    messages: &mut Vec<Vec<u8>>,
+    count: u32,
+    chunk: u32,
+    trusts: impl Fn(u64) -> bool,
+) {
+    let least = least_nodes(count, chunk, trusts);
+    messages.retain(|message| !is_integrity(message) || least.contains(&node_of(message)));
 }
 
 fn with_hashes(built: &Store, nodes: Vec<u64>) -> Vec<NodeHash> {

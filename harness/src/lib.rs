@@ -4,10 +4,15 @@
 
 #![deny(unsafe_code)]
 
+pub mod arriving;
 pub mod bench;
 pub mod beside;
+pub mod calls;
 pub mod came;
+pub mod channels;
 pub mod datagrams;
+pub mod lists;
+pub mod packets;
 pub mod packs;
 pub mod proved;
 pub mod random;

@@ -1,5 +1,6 @@
 //! The proved SHA-256, through the C functions of `libhash_c.a`, in [`store`] the
-//! proved chunk store, and in [`wire`] the proved reader and writer of datagrams.
+//! proved chunk store, in [`wire`] the proved reader and writer of datagrams, and
+//! in [`channel`] the proved entry points of the channels.
 //!
 //! A proof holds only where the caller ensures what the function requires, and
 //! nothing at this boundary proves that a caller does. So each wrapper tests it
@@ -7,6 +8,7 @@
 
 #![allow(unsafe_code)]
 
+pub mod channel;
 pub mod store;
 pub mod wire;
 

@@ -1,0 +1,281 @@
+//! Random datagrams that come to a store, right and wrong. Chunks and hashes are
+//! those that a whole store of the pack writes.
+
+use crate::calls::Call;
+use crate::came::leave_least;
+use crate::channels::Both;
+use crate::packets::*;
+use crate::packs::Pack;
+use crate::random::Random;
+use second::channel::Phase;
+use second::wire_cases;
+
+/// Who sends.
+pub struct Peer<'a> {
+    pub pack: &'a Pack,
+    /// A whole store of the pack, with this channel open.
+    pub sender: Both,
+    pub channel: u32,
+}
+
+impl Peer<'_> {
+    /// What the whole store writes for a chunk: its messages, of which the last
+    /// is DATA.
+    pub fn written(&mut self, case: &str, chunk: u32, clock: u64) -> Vec<Vec<u8>> {
+        let call = Call::Write {
+            id: self.channel,
+            chunk,
+            clock,
+        };
+        let told = self.sender.call(case, &call);
+        assert_eq!(told.number, 0, "{case}: {call}");
+        messages(&self.sender.reply(&told))
+    }
+
+    /// A datagram for the store, whose state may be any.
+    pub fn arriving(&mut self, case: &str, random: &mut Random, store: &Both) -> Vec<u8> {
+        let sound = match random.below(32) {
+            0..12 => {
+                let chunk = self.chunk(case, random, store);
+                datagram(destination(random, store), &chunk)
+            }
+            12..17 => {
+                let most = random.one_of(&[1, 1, 2, 3, 12]);
+                let count = 1 + random.below(most);
+                let plain = (0..count).map(|_| self.plain(random)).collect::<Vec<_>>();
+                datagram(destination(random, store), &plain)
+            }
+            17..23 => opening(random, store),
+            23..28 => to_a_row(random, store),
+            28 | 29 => datagram(destination(random, store), &[]),
+            _ => any(random, store),
+        };
+        spoiled(random, sound)
+    }
+
+    /// A chunk with its hashes, perhaps with other messages between them.
+    fn chunk(&mut self, case: &str, random: &mut Random, store: &Both) -> Vec<Vec<u8>> {
+        let number = self.chunk_number(random, store);
+        let clock = clock(random);
+        let mut messages = self.written(case, number, clock);
+        messages.pop();
+        self.choose_hashes(random, store, number, &mut messages);
+        if random.one_in(3) {
+            for _ in 0..1 + random.below(4) {
+                let at = random.place(messages.len() + 1);
+                messages.insert(at, self.plain(random));
+            }
+        }
+        let data = self.data(random, number, clock);
+        messages.push(data);
+        messages
+    }
+
+    /// One that the store does not hold, in two of three cases.
+    fn chunk_number(&self, random: &mut Random, store: &Both) -> u32 {
+        let missing: Vec<u32> = (0..self.pack.count())
+            .filter(|&c| !store.holds(c))
+            .collect();
+        if missing.is_empty() || random.one_in(3) {
+            random.below(self.pack.count())
+        } else {
+            random.one_of(&missing)
+        }
+    }
+
+    /// Of the hashes of a chunk: all, those that the store needs, some of them,
+    /// or one wrong; perhaps others beside them.
+    fn choose_hashes(
+        &self,
+        random: &mut Random,
+        store: &Both,
+        chunk: u32,
+        hashes: &mut Vec<Vec<u8>>,
+    ) {
+        if random.below(5) < 3 {
+            leave_least(hashes, self.pack.count(), chunk, |node| store.trusts(node));
+        }
+        match random.below(12) {
+            0..3 => hashes.retain(|_| !random.one_in(3)),
+            3 | 4 if !hashes.is_empty() => {
+                let one = random.place(hashes.len());
+                hashes[one][9 + random.place(32)] ^= 1 << random.below(8);
+            }
+            5 => {
+                for _ in 0..1 + random.below(3) {
+                    let node = random.below(2 * self.pack.count() + 4).into();
+                    hashes.push(integrity(node, &random.digest()));
+                }
+            }
+            _ => {}
+        }
+        if random.one_in(4) {
+            random.shuffle(hashes);
+        }
+    }
+
+    /// The DATA of a chunk, right in three of four cases.
+    fn data(&self, random: &mut Random, number: u32, time: u64) -> Vec<u8> {
+        let count = self.pack.count();
+        let mut chunk = self.pack.chunk(number).to_vec();
+        let (mut first, mut last) = (number, number);
+        match random.below(20) {
+            0 | 1 => {
+                let at = random.place(chunk.len());
+                chunk[at] ^= 1 << random.below(8);
+            }
+            2 | 3 => {
+                let size = chunk.len();
+                let others = [0, size - 1, size + 1, 1, 1_023, 1_024, 1_025, 1_400];
+                chunk.resize(random.one_of(&others), 0);
+            }
+            4 => {
+                let another = random.below(count);
+                first = random.one_of(&[another, count, count + 1, 512, u32::MAX]);
+                last = first;
+            }
+            5 => last = random.below(count + 2),
+            _ => {}
+        }
+        data(first, last, time, &chunk)
+    }
+
+    /// A message without a hash or a chunk, its range in most cases within the
+    /// pack.
+    fn plain(&self, random: &mut Random) -> Vec<u8> {
+        let count = self.pack.count();
+        let first = random.below(count);
+        let last = match random.below(4) {
+            0 => first,
+            _ => first + random.below(count - first),
+        };
+        let (first, last) = match random.below(32) {
+            0 => (first, count),
+            1 => (random.one_of(&[count, 511, 512]), u32::MAX),
+            2 => (first, first.wrapping_sub(1)),
+            3 => (0, count - 1),
+            _ => (first, last),
+        };
+        match random.below(9) {
+            0 | 1 => ranged(HAVE, first, last),
+            2 => ack(first, last, clock(random)),
+            3 | 4 => ranged(REQUEST, first, last),
+            5 => ranged(CANCEL, first, last),
+            6 => vec![CHOKE],
+            7 => vec![UNCHOKE],
+            _ => {
+                let node = random.below(2 * count).into();
+                integrity(node, &random.digest())
+            }
+        }
+    }
+}
+
+/// A clock or a timestamp.
+pub fn clock(random: &mut Random) -> u64 {
+    match random.below(4) {
+        0 => random.one_of(&[0, 1, u64::MAX]),
+        _ => u64::from(random.number()) << random.below(33),
+    }
+}
+
+/// A channel number that a peer gives its own end.
+fn source(random: &mut Random) -> u32 {
+    match random.below(16) {
+        0 => random.number(),
+        _ => 1 + random.below(60),
+    }
+}
+
+/// The ID of an open row in most cases, else of another row, of none, or 0.
+fn destination(random: &mut Random, store: &Both) -> u32 {
+    let rows = &store.state().rows;
+    let open: Vec<u32> = rows
+        .iter()
+        .filter(|row| row.phase == Phase::Open)
+        .map(|row| row.id)
+        .collect();
+    match random.below(24) {
+        0 => 0,
+        1 => random.number(),
+        2 | 3 => random.one_of(rows).id,
+        _ if !open.is_empty() => random.one_of(&open),
+        _ => random.one_of(rows).id,
+    }
+}
+
+/// The fixed options around the store's root in most cases, else others.
+fn options(random: &mut Random, store: &Both) -> Vec<u8> {
+    let ours = fixed(&store.state().root);
+    match random.below(12) {
+        0 => fixed(&random.digest()),
+        1 => END_ONLY.to_vec(),
+        2 => vec![0, 1, 255],
+        3 => [&ours[..ours.len() - 3], &[8, 0, 255]].concat(),
+        4 => {
+            let mut other = ours;
+            let at = random.place(other.len());
+            other[at] = random.below(12) as u8;
+            other
+        }
+        _ => ours,
+    }
+}
+
+/// A HANDSHAKE to channel 0.
+fn opening(random: &mut Random, store: &Both) -> Vec<u8> {
+    let source = match random.below(24) {
+        0 => 0,
+        _ => source(random),
+    };
+    let options = options(random, store);
+    datagram(0, &[handshake(source, &options)])
+}
+
+/// A HANDSHAKE to a row: one that opens it, one that changes nothing, one that
+/// closes it, or one that the row refuses.
+fn to_a_row(random: &mut Random, store: &Both) -> Vec<u8> {
+    let row = random.one_of(&store.state().rows);
+    let (source, options) = match random.below(16) {
+        0..5 => (0, END_ONLY.to_vec()),
+        5 => (0, options(random, store)),
+        6 | 7 => (source(random), options(random, store)),
+        _ if row.phase == Phase::Open => (row.peer, options(random, store)),
+        _ => (source(random), options(random, store)),
+    };
+    let destination = match random.below(6) {
+        0 => destination(random, store),
+        _ => row.id,
+    };
+    let mut messages = vec![handshake(source, &options)];
+    if random.one_in(16) {
+        let at = random.place(2);
+        messages.insert(at, vec![CHOKE]);
+    }
+    datagram(destination, &messages)
+}
+
+/// One made for comparing readers.
+fn any(random: &mut Random, store: &Both) -> Vec<u8> {
+    let made = wire_cases::datagrams(random.number().into(), 1).next();
+    sent_to(destination(random, store), made.unwrap_or_default())
+}
+
+/// Cut, changed or longer, in one of ten cases.
+fn spoiled(random: &mut Random, mut datagram: Vec<u8>) -> Vec<u8> {
+    match random.below(60) {
+        0 | 1 => datagram.truncate(random.place(datagram.len() + 1)),
+        2 if !datagram.is_empty() => {
+            let at = random.place(datagram.len());
+            datagram[at] ^= 1 << random.below(8);
+        }
+        3 => {
+            let more = 1 + random.place(20);
+            datagram.extend(random.bytes(more));
+        }
+        4 => datagram.resize(2_040 + random.place(20), CHOKE),
+        5 => datagram.truncate(random.place(5)),
+        _ => {}
+    }
+    datagram
+}

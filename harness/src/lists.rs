@@ -1,0 +1,256 @@
+//! Random lists of calls on a store, from any state, with changes of the state
+//! and the rooms between them that no call makes.
+
+use crate::arriving::{clock, Peer};
+use crate::calls::Call;
+use crate::channels::Both;
+use crate::packets::{datagram, fixed, handshake};
+use crate::packs::Pack;
+use crate::proved::channel::{Rooms, STATE_WORDS};
+use crate::random::Random;
+use second::channel::{Phase, Sizes, CHANNELS};
+
+/// Lengths that no order has.
+const BAD_LENGTHS: [u32; 3] = [0, 524_289, u32::MAX];
+
+/// A store, and who sends to it.
+pub struct List<'a> {
+    pub random: Random,
+    pub peer: Peer<'a>,
+    pub store: Both,
+}
+
+impl<'a> List<'a> {
+    /// A store without an order, or in one case of four with any state, in rooms
+    /// with anything in them.
+    pub fn new(mut random: Random, pack: &'a Pack) -> Self {
+        let rooms = random_rooms(&mut random, pack.length());
+        let extra = random.place(3);
+        let mut store = Both::new(vec![0; STATE_WORDS + extra], rooms);
+        if random.one_in(4) {
+            let words = random.words(STATE_WORDS + extra);
+            store.change(|state, _| state.copy_from_slice(&words));
+            store.change(|state, _| state[8] = pack.length());
+            for i in 0..CHANNELS {
+                garble_row(&mut random, &mut store, i);
+            }
+        }
+        let peer = sender(&mut random, pack);
+        List {
+            random,
+            peer,
+            store,
+        }
+    }
+
+    /// How many chunks of the pack the store holds.
+    pub fn held(&self) -> usize {
+        let chunks = 0..self.peer.pack.count();
+        chunks.filter(|&chunk| self.store.holds(chunk)).count()
+    }
+
+    /// The next call, which may have anything wrong.
+    pub fn next(&mut self, case: &str) -> Call {
+        let pack = self.peer.pack;
+        let begun = self.store.state().length == pack.length();
+        if !begun && self.random.one_in(4) {
+            return self.begin();
+        }
+        match self.random.below(100) {
+            0 => self.begin(),
+            1 => self.wrong_begin(),
+            2..10 => Call::Open { id: self.new_id() },
+            10..22 => self.write(),
+            22..30 => Call::Ask,
+            _ => Call::Take {
+                clock: clock(&mut self.random),
+                id: self.new_id(),
+                datagram: self.peer.arriving(case, &mut self.random, &self.store),
+            },
+        }
+    }
+
+    /// A start, or a building in one of three cases.
+    pub fn begin(&mut self) -> Call {
+        let pack = self.peer.pack;
+        let length = pack.length();
+        match self.random.below(12) {
+            0..4 => Call::Build {
+                length,
+                content: pack.content.clone(),
+            },
+            4 => Call::Start {
+                root: self.random.digest(),
+                length,
+            },
+            _ => Call::Start {
+                root: *pack.built.root(),
+                length,
+            },
+        }
+    }
+
+    /// A start or a building under another length, or from other content.
+    fn wrong_begin(&mut self) -> Call {
+        let pack = self.peer.pack;
+        let mut content = pack.content.clone();
+        let mut length = pack.length();
+        match self.random.below(4) {
+            0 | 1 => length = self.random.one_of(&BAD_LENGTHS),
+            2 => length = 1 + self.random.below(2 * length),
+            _ => content.push(0),
+        }
+        let root = *pack.built.root();
+        match self.random.below(2) {
+            0 => Call::Start { root, length },
+            _ => Call::Build { length, content },
+        }
+    }
+
+    /// An ID for a new channel: in most cases one that is not in use.
+    fn new_id(&mut self) -> u32 {
+        match self.random.below(12) {
+            0 => 0,
+            1 => self.random.one_of(&self.store.state().rows).id,
+            2 => self.random.number(),
+            _ => 1 + self.random.below(200),
+        }
+    }
+
+    /// A chunk to be written: in most cases on an open channel, and one that is
+    /// held.
+    fn write(&mut self) -> Call {
+        let rows = self.store.state().rows;
+        let open: Vec<_> = rows.iter().filter(|row| row.phase == Phase::Open).collect();
+        let id = match self.random.below(10) {
+            0 => self.random.number(),
+            1 => self.random.one_of(&rows).id,
+            _ if open.is_empty() => self.random.one_of(&rows).id,
+            _ => self.random.one_of(&open).id,
+        };
+        let count = self.peer.pack.count();
+        let held: Vec<u32> = (0..count).filter(|&c| self.store.holds(c)).collect();
+        let chunk = match self.random.below(10) {
+            0 => self.random.one_of(&[count, count + 1, 512, u32::MAX]),
+            1..4 => self.random.below(count),
+            _ if held.is_empty() => self.random.below(count),
+            _ => self.random.one_of(&held),
+        };
+        Call::Write {
+            id,
+            chunk,
+            clock: clock(&mut self.random),
+        }
+    }
+
+    /// Changes something in the state or in a room.
+    pub fn garble(&mut self) {
+        let (random, store) = (&mut self.random, &mut self.store);
+        match random.below(12) {
+            0..4 => {
+                let row = random.place(CHANNELS);
+                garble_row(random, store, row);
+            }
+            4 => (0..CHANNELS).for_each(|row| garble_row(random, store, row)),
+            5 => {
+                let other = 1 + random.below(2 * self.peer.pack.length());
+                let length = random.one_of(&[0, 524_289, u32::MAX, other, other]);
+                store.change(|state, _| state[8] = length);
+            }
+            6 => {
+                let at = random.place(8);
+                store.change(|state, _| state[at] ^= 1);
+            }
+            room => {
+                let bit = 1 << random.below(32);
+                let rooms = store.rooms();
+                let lengths = [
+                    rooms.map.len(),
+                    rooms.hashes.len(),
+                    rooms.trusted.len(),
+                    rooms.has.len(),
+                    rooms.wants.len(),
+                ];
+                let room = room as usize - 7;
+                let at = random.place(lengths[room]);
+                store.change(|_, rooms| word_rooms(rooms)[room][at] ^= bit);
+            }
+        }
+    }
+}
+
+/// Anything in a row: IDs that are 0 or in use elsewhere, peers that are 0,
+/// phases and marks that no call writes.
+fn garble_row(random: &mut Random, store: &mut Both, row: usize) {
+    let another = random.one_of(&store.state().rows).id;
+    let words = [
+        random.one_of(&[0, 0, 1, 2, 2, 2, 3, 258, u32::MAX]),
+        random.one_of(&[0, another, 1, 2, 3]),
+        random.one_of(&[0, 5, 6]),
+        random.one_of(&[0, 1, 1, 2, 7]),
+    ];
+    store.change(|state, _| state[9 + 4 * row..][..4].copy_from_slice(&words));
+}
+
+/// The rooms that have bits or hashes.
+fn word_rooms(rooms: &mut Rooms) -> [&mut Vec<u32>; 5] {
+    [
+        &mut rooms.map,
+        &mut rooms.hashes,
+        &mut rooms.trusted,
+        &mut rooms.has,
+        &mut rooms.wants,
+    ]
+}
+
+/// Rooms with anything in them, each just large enough or a little larger.
+pub fn random_rooms(random: &mut Random, length: u32) -> Rooms {
+    let sizes = Sizes::of(length);
+    let mut more = |least: usize| match random.below(3) {
+        0 => least + 1 + random.place(20),
+        _ => least,
+    };
+    let [chunks, reply] = [sizes.chunks, sizes.reply].map(&mut more);
+    let words = [
+        sizes.map,
+        sizes.hashes,
+        sizes.trusted,
+        sizes.has,
+        sizes.wants,
+    ]
+    .map(&mut more);
+    let [map, hashes, trusted, has, wants] = words.map(|length| random.words(length));
+    Rooms {
+        chunks: random.bytes(chunks),
+        map,
+        hashes,
+        trusted,
+        has,
+        wants,
+        reply: random.bytes(reply),
+    }
+}
+
+/// A whole store of a pack, with a channel that a peer opened.
+pub fn sender<'a>(random: &mut Random, pack: &'a Pack) -> Peer<'a> {
+    let rooms = random_rooms(random, pack.length());
+    let mut sender = Both::unstarted(rooms);
+    let build = Call::Build {
+        length: pack.length(),
+        content: pack.content.clone(),
+    };
+    assert_eq!(sender.call("the sender", &build).number, 0);
+    let channel = 1 + random.below(1_000);
+    let opening = handshake(9, &fixed(pack.built.root()));
+    let take = Call::Take {
+        clock: 0,
+        id: channel,
+        datagram: datagram(0, &[opening]),
+    };
+    assert_eq!(sender.call("the sender", &take).number, 0);
+    Peer {
+        pack,
+        sender,
+        channel,
+    }
+}

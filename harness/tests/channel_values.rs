@@ -1,0 +1,260 @@
+//! Whole downloads from one store to another, and the values that 01 names,
+//! through the proved entry points of the channels. Each call goes to `second`
+//! too, and must give and leave the same.
+
+use harness::calls::{Call, Told};
+use harness::came::leave_least;
+use harness::channels::Both;
+use harness::lists::random_rooms;
+use harness::packets::*;
+use harness::packs::Pack;
+use harness::random::Random;
+use second::channel::Phase;
+use second::sha256::Digest;
+use second::{answer, hex};
+
+/// The length of 01's pack of seven chunks.
+const SEVEN: u32 = 7_162;
+
+/// A store that is called, in rooms of some length.
+struct Caller(Both);
+
+impl Caller {
+    /// Without an order, in rooms with anything in them.
+    fn new(random: &mut Random, length: u32) -> Self {
+        Caller(Both::unstarted(random_rooms(random, length)))
+    }
+
+    /// With an order, and nothing else.
+    fn started(random: &mut Random, root: &Digest, length: u32) -> Self {
+        let mut caller = Caller::new(random, length);
+        assert_eq!(caller.start(root, length), 0);
+        caller
+    }
+
+    /// The number of a call, and its reply.
+    fn call(&mut self, call: &Call) -> (u32, Vec<u8>) {
+        let told = self.0.call("a call by hand", call);
+        (told.number, self.0.reply(&told))
+    }
+
+    fn start(&mut self, root: &Digest, length: u32) -> u32 {
+        let root = *root;
+        self.call(&Call::Start { root, length }).0
+    }
+
+    fn build(&mut self, length: u32, content: &[u8]) -> u32 {
+        let content = content.to_vec();
+        self.call(&Call::Build { length, content }).0
+    }
+
+    fn open(&mut self, id: u32) -> (u32, Vec<u8>) {
+        self.call(&Call::Open { id })
+    }
+
+    fn take(&mut self, clock: u64, id: u32, datagram: &[u8]) -> (u32, Vec<u8>) {
+        let datagram = datagram.to_vec();
+        self.call(&Call::Take {
+            clock,
+            id,
+            datagram,
+        })
+    }
+
+    fn write(&mut self, id: u32, chunk: u32, clock: u64) -> (u32, Vec<u8>) {
+        self.call(&Call::Write { id, chunk, clock })
+    }
+
+    /// The number, the held count and whether all are held.
+    fn ask(&mut self) -> (u32, u64, u64) {
+        let Told { number, words } = self.0.call("asked by hand", &Call::Ask);
+        (number, words[0], words[1])
+    }
+
+    /// The place of the row that is in use under an ID.
+    fn row(&self, id: u32) -> Option<usize> {
+        let mut rows = self.0.state().rows.iter();
+        rows.position(|row| row.phase != Phase::Free && row.id == id)
+    }
+}
+
+/// Two stores, of which one has the pack, with a channel between them.
+struct Download<'a> {
+    pack: &'a Pack,
+    whole: Caller,
+    store: Caller,
+}
+
+/// The ends of the channel: the whole store's and the other's.
+const ITS: u32 = 7;
+const OURS: u32 = 5;
+
+impl<'a> Download<'a> {
+    /// Our store calls, the whole one answers, and so both ends are open.
+    fn new(random: &mut Random, pack: &'a Pack) -> Self {
+        let length = pack.length();
+        let mut whole = Caller::new(random, length);
+        assert_eq!(whole.build(length, &pack.content), 0);
+        let mut store = Caller::started(random, pack.built.root(), length);
+        let (number, calling) = store.open(OURS);
+        assert_eq!((number, calling.len()), (0, 60));
+        let (number, answering) = whole.take(0, ITS, &calling);
+        assert_eq!((number, answering.len()), (0, 60));
+        assert_eq!(store.take(0, 0, &answering), (0, vec![]));
+        Download { pack, whole, store }
+    }
+
+    /// Brings a chunk over, with all hashes or the least, and the ACK back; gives
+    /// the number of hashes.
+    fn chunk(&mut self, chunk: u32, least: bool) -> usize {
+        let (sent, got) = (1_000 + u64::from(chunk), 5_000);
+        let (number, written) = self.whole.write(ITS, chunk, sent);
+        assert_eq!(number, 0);
+        let mut parts = messages(&written);
+        if least {
+            let store = &self.store.0;
+            leave_least(&mut parts, self.pack.count(), chunk, |node| {
+                store.trusts(node)
+            });
+        }
+        let (number, acknowledgement) = self.store.take(got, 0, &datagram(OURS, &parts));
+        let wanted = datagram(ITS, &[ack(chunk, chunk, got - sent)]);
+        assert_eq!((number, &acknowledgement), (0, &wanted));
+        assert_eq!(self.whole.take(0, 0, &acknowledgement), (0, vec![]));
+        parts.iter().filter(|part| is_integrity(part)).count()
+    }
+
+    /// All of the pack is there, and nothing else.
+    fn check_whole(&mut self) {
+        let count = u64::from(self.pack.count());
+        assert_eq!(self.store.ask(), (0, count, 1));
+        let chunks = &self.store.0.rooms().chunks;
+        assert!(chunks.starts_with(&self.pack.content));
+    }
+}
+
+/// "N=7 taken in order, least hashes: chunk 0 the five above; 2 needs leaf 6; 4
+/// needs leaf 10; 1, 3, 5, 6 none. The chunk 0 datagram has 1,250 bytes."
+#[test]
+fn seven_chunks_in_order() {
+    let mut random = Random::new(7);
+    let pack = Pack::new(&mut random, SEVEN);
+    let mut download = Download::new(&mut random, &pack);
+    let (number, first) = download.whole.write(ITS, 0, 0);
+    assert_eq!((number, first.len()), (0, 1_250));
+    for (chunk, wanted) in (0..).zip([5, 0, 1, 0, 1, 0, 0]) {
+        assert_eq!(download.store.ask(), (0, u64::from(chunk), 0));
+        assert_eq!(download.chunk(chunk, true), wanted, "chunk {chunk}");
+    }
+    download.check_whole();
+}
+
+/// Packs of other sizes, in any order, with all hashes or the least.
+#[test]
+fn downloads_in_any_order() {
+    for (seed, count) in (0..).zip([1, 2, 3, 5, 8, 31, 32, 33, 40, 100, 257, 512]) {
+        let mut random = Random::new(seed);
+        let length = 1_024 * (count - 1) + 1 + random.below(1_024);
+        let pack = Pack::new(&mut random, length);
+        let mut download = Download::new(&mut random, &pack);
+        let mut order: Vec<u32> = (0..count).collect();
+        random.shuffle(&mut order);
+        for chunk in order {
+            download.chunk(chunk, random.one_in(2));
+        }
+        download.check_whole();
+    }
+}
+
+/// "L=0: 12; 524,288: taken; 524,289: 12."
+#[test]
+fn lengths() {
+    let mut random = Random::new(1);
+    let mut caller = Caller::new(&mut random, 524_289);
+    let content = random.bytes(524_289);
+    for (length, number) in [(0, 12), (524_288, 0), (524_289, 12)] {
+        assert_eq!(caller.start(&[3; 32], length), number, "{length}");
+        let content = &content[..length as usize];
+        assert_eq!(caller.build(length, content), number, "{length}");
+    }
+}
+
+/// "Datagram of 3 bytes: 1; 4: 5 or done; 2,049: 1."
+#[test]
+fn sizes() {
+    let mut random = Random::new(2);
+    let mut caller = Caller::started(&mut random, &[3; 32], SEVEN);
+    let opening = datagram(0, &[handshake(9, &fixed(&[3; 32]))]);
+    assert_eq!(caller.take(0, 5, &opening).0, 0);
+    assert_eq!(caller.take(0, 0, &[0, 0, 0]).0, 1);
+    assert_eq!(caller.take(0, 0, &datagram(6, &[])).0, 5);
+    assert_eq!(caller.take(0, 0, &datagram(5, &[])).0, 0);
+    let chokes = |size: usize| datagram(5, &[vec![CHOKE; size - 4]]);
+    assert_eq!(caller.take(0, 0, &chokes(2_048)).0, 0);
+    assert_eq!(caller.take(0, 0, &chokes(2_049)).0, 1);
+}
+
+/// "16 open: 6; one closed: its row is used." Opened by us and by peers in turn.
+#[test]
+fn sixteen_channels() {
+    let mut random = Random::new(3);
+    let root = [3; 32];
+    let mut caller = Caller::started(&mut random, &root, SEVEN);
+    let opening = |source| datagram(0, &[handshake(source, &fixed(&root))]);
+    for id in 1..=16 {
+        let number = match id % 2 {
+            0 => caller.open(id).0,
+            _ => caller.take(0, id, &opening(100 + id)).0,
+        };
+        assert_eq!((number, caller.row(id)), (0, Some(id as usize - 1)));
+    }
+    let full = u32::from(answer::TABLE_FULL);
+    assert_eq!(caller.open(17).0, full);
+    assert_eq!(caller.take(0, 17, &opening(117)).0, full);
+    let closing = datagram(7, &[handshake(0, &END_ONLY)]);
+    assert_eq!(caller.take(0, 0, &closing), (0, vec![]));
+    assert_eq!(caller.row(7), None);
+    let (number, reply) = caller.take(0, 17, &opening(117));
+    let ours = datagram(117, &[handshake(17, &fixed(&root))]);
+    assert_eq!((number, reply, caller.row(17)), (0, ours, Some(6)));
+    assert_eq!(caller.open(18).0, full);
+}
+
+/// "Range 6..6 with N=7 taken, 7..7: 7."
+#[test]
+fn ranges() {
+    let mut random = Random::new(4);
+    let mut caller = Caller::started(&mut random, &[3; 32], SEVEN);
+    let opening = datagram(0, &[handshake(9, &fixed(&[3; 32]))]);
+    assert_eq!(caller.take(0, 5, &opening).0, 0);
+    for kind in [HAVE, REQUEST, CANCEL] {
+        for (chunk, number) in [(6, 0), (7, 7)] {
+            let message = ranged(kind, chunk, chunk);
+            assert_eq!(caller.take(0, 0, &datagram(5, &[message])).0, number);
+        }
+    }
+}
+
+/// The replay program's example: an order of one byte under a root of zeros, a
+/// peer's HANDSHAKE from channel 0x11, and a keepalive to a channel that no row
+/// has.
+#[test]
+fn the_replayed_example() {
+    let mut random = Random::new(5);
+    let mut caller = Caller::started(&mut random, &[0; 32], 1);
+    let opening = datagram(0, &[handshake(0x11, &fixed(&[0; 32]))]);
+    let (number, reply) = caller.take(0, 1, &opening);
+    let root = "00".repeat(32);
+    let wanted = [
+        "00000011",
+        "00",
+        "00000001",
+        "00010101020020",
+        &root,
+        "0301040206020900000400ff",
+    ];
+    let wanted = wanted.concat();
+    assert_eq!((number, hex::encode(&reply)), (0, wanted));
+    assert_eq!(caller.take(0, 2, &[0, 0, 0, 0x22]), (5, vec![]));
+    assert_eq!(caller.ask(), (0, 0, 0));
+}
