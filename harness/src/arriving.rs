@@ -114,7 +114,7 @@ impl Peer<'_> {
         }
     }
 
-    /// The DATA of a chunk, right in three of four cases.
+    /// The DATA of a chunk, right in seven of ten cases.
     fn data(&self, random: &mut Random, number: u32, time: u64) -> Vec<u8> {
         let count = self.pack.count();
         let mut chunk = self.pack.chunk(number).to_vec();

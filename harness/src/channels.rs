@@ -11,6 +11,9 @@ use crate::words::{digest, words};
 use second::answer;
 use second::channel::{Phase, Row, State, CHANNELS};
 
+/// The words for a call's results, before it.
+const OUT: [u64; 3] = [u64::MAX; 3];
+
 /// A store of each, with the same state and the same in their rooms.
 #[derive(Clone)]
 pub struct Both {
@@ -40,41 +43,48 @@ impl Both {
     /// Has both make a call, and gives what they give back.
     pub fn call(&mut self, case: &str, call: &Call) -> Told {
         let before = self.clone();
-        let out_before = [u64::MAX; 3];
-        let mut out = out_before;
+        let mut out = OUT;
         let number = call.to_proved(&mut self.words, &mut self.rooms, &mut out);
         let told = call.to_second(&mut self.state, &mut self.second);
-
-        let mut wanted_words = before.words.clone();
-        if told.number == 0 && !matches!(call, Call::Ask) {
-            wanted_words[..STATE_WORDS].copy_from_slice(&words_of(&self.state));
-        }
-        let mut wanted_out = out_before;
-        wanted_out[..call.results()].copy_from_slice(&told.words);
-        let wanted_rooms = if told.number == 0 {
-            &self.second
-        } else {
-            &before.rooms
-        };
-        let mut differing = differences(&self.rooms, wanted_rooms);
-        differing.extend(difference("state", &self.words, &wanted_words));
-        differing.extend(difference("out", &out, &wanted_out));
-        if told.number != 0 {
-            differing.extend(difference(
-                "second's state",
-                &[&self.state],
-                &[&before.state],
-            ));
-            differing.extend(differences(&self.second, &before.second));
-        }
         let wanted = told.number;
+        let differing = if wanted == 0 {
+            self.after_done(&before, call)
+        } else {
+            self.after_refusal(&before)
+        };
+        let mut wanted_out = OUT;
+        wanted_out[..call.results()].copy_from_slice(&told.words);
+        let results = difference("out", &out, &wanted_out);
         assert!(
-            number == wanted && differing.is_empty(),
+            number == wanted && differing.is_empty() && results.is_none(),
             "{case}: {call}\nin the state {:?}:\nthe proved code answers {number}, wanted is \
-             {wanted}; what differs: {differing:?}",
+             {wanted}; what differs: {differing:?}, {results:?}",
             before.state
         );
         told
+    }
+
+    /// What differs after a call that was done: the words of a new state, and
+    /// the rooms. Asking writes no state.
+    fn after_done(&self, before: &Both, call: &Call) -> Vec<String> {
+        let mut wanted = before.words.clone();
+        if !matches!(call, Call::Ask) {
+            wanted[..STATE_WORDS].copy_from_slice(&words_of(&self.state));
+        }
+        let mut differing = differences(&self.rooms, &self.second);
+        differing.extend(difference("state", &self.words, &wanted));
+        differing
+    }
+
+    /// What differs after a refused call, which leaves all as it was, for
+    /// `second` too.
+    fn after_refusal(&self, before: &Both) -> Vec<String> {
+        let mut differing = differences(&self.rooms, &before.rooms);
+        differing.extend(difference("state", &self.words, &before.words));
+        differing.extend(differences(&self.second, &before.second));
+        let states = [&[&self.state], &[&before.state]];
+        differing.extend(difference("second's state", states[0], states[1]));
+        differing
     }
 
     /// The proved call alone with so many words of the state and for the

@@ -50,7 +50,7 @@ impl<'a> List<'a> {
     }
 
     /// The next call, which may have anything wrong.
-    pub fn next(&mut self, case: &str) -> Call {
+    pub fn next_call(&mut self, case: &str) -> Call {
         let pack = self.peer.pack;
         let begun = self.store.state().length == pack.length();
         if !begun && self.random.one_in(4) {
@@ -70,7 +70,8 @@ impl<'a> List<'a> {
         }
     }
 
-    /// A start, or a building in one of three cases.
+    /// A start, or a building in one of three cases; now and then under another
+    /// root.
     pub fn begin(&mut self) -> Call {
         let pack = self.peer.pack;
         let length = pack.length();

@@ -73,7 +73,7 @@ fn run(seed: u32, mut random: Random, length: u32, counts: &mut Counts) {
         if list.random.one_in(40) {
             list.garble();
         }
-        let call = list.next(&case);
+        let call = list.next_call(&case);
         if list.random.one_in(10) {
             small_room(&mut list, &case, &call, counts);
         }

@@ -14,9 +14,9 @@ use Rattle.wire.specs.declared.message.Options.{Options}
 use Rattle.wire.specs.declared.layout.Layout.{Layout}
 use Rattle.wire.specs.declared.layout.Layout.the-variants.{Fault, HandshakeAlone, Messages, MessagesAndData}
 use Rattle.writer.proofs.Promise.{within, readAll}
-use Rattle.effects.proofs.Promise.{anyPast, Peer, peerOf, effects}
+use Rattle.effects.proofs.Promise.{anyPast, Peer, peerOf, effects, allQuiet, quiet-effects}
 use Rattle.replies.proofs.Promise.{ackReply}
-use Rattle.table.proofs.Promise.{rowCount, rowOf, rowAt, withRow, messagesAnswer}
+use Rattle.table.proofs.Promise.{rowCount, rowOf, rowAt, withRow, messagesAnswer, row-put-back}
 use Rattle.table.specs.declared.rows.Row.{Row}
 use Rattle.table.specs.declared.rows.Table.{Table}
 use Rattle.store.proofs.Promise.{Out as StoreOut, outOf as storedOf, earlier-not, Rooms, countOf, lengthAnswer, length-accepted, integrityOf, takeSpec as storeTake, refused-same}
@@ -92,6 +92,12 @@ affected-is st has wants s {to} {n} {w} {i} {r} {h} {v} {choked} {t} te ne we ie
 pub affected-beside : (st st′ : State) (has wants h v reply s : List ℕ) → channelsOf st′ h v [] ≡ affected (channelsOf st has wants []) s → channelsOf st′ h v reply ≡ affected (channelsOf st has wants reply) s
 unfolding affected
 affected-beside st st′ has wants h v reply s e = ap (λ (ch : Channels). channelsOf (ch .state) (ch .has) (ch .wants) reply) e
+
+-- Quiet messages leave the channels as they are.
+pub quiet-affected : (st : State) (has wants s : List ℕ) → allQuiet (readAll s) ≡ true → channelsOf st has wants [] ≡ affected (channelsOf st has wants []) s
+unfolding affected
+quiet-affected st has wants s q =
+    rw (quiet-effects (rowBit (chunkCount st) (rowFor st s)) (readAll s) (peerOf has wants (rowAt (tableRows st) (rowFor st s) .choked)) q, row-put-back (st .table) (rowFor st s))
 
 -- ---- messages without DATA
 

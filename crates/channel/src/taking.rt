@@ -1,9 +1,12 @@
 // Taking in a datagram: its checks in 01's order, then its effects and its reply.
 ghost use mathlib.Core.Path.{_≡_};
+ghost use mathlib.Core.Bool.{true};
 ghost use mathlib.Core.List.{[]};
 ghost use Prim.Native.Nat.{_+_, _≤_};
 ghost use lib.ListN.{length};
 ghost use Rattle.wire.proofs.Promise.{placed, minSize, maxSize};
+ghost use Rattle.writer.proofs.Promise.{readAll};
+ghost use Rattle.effects.proofs.Promise.{allQuiet};
 ghost use Rattle.store.proofs.Promise.{lengthAnswer};
 ghost use Rattle.channel.specs.World.{channelsOf, worldOf, outOf};
 ghost use Rattle.channel.specs.Take.{messagesNumber, affected, messagesTaken, acknowledgement, dataTaken, takeSpec};
@@ -22,22 +25,39 @@ use wire::layout::Layout;
 use wire::limits::ENTRIES;
 use wire::limits::MIN_SIZE;
 
-// 5, 3 and 7 for messages other than a HANDSHAKE.
-fn messages_number(state: State, datagram: &[u8]) -> u32
+// What the channel says to messages other than a HANDSHAKE.
+struct Judged {
+    // 5, 3 or 7; or 0.
+    number: u32,
+    // If set, they have no effect on the channel.
+    quiet: bool,
+}
+
+fn judge(state: State, datagram: &[u8]) -> Judged
     requires { ⌜ minSize ≤ length (now datagram) ⌝ }
-    ensures { λ r. ⌜ r ≡ messagesNumber state (now (datagram .entry)) ⌝ }
+    ensures { λ r. ⌜ (r .number ≡ messagesNumber state (now (datagram .entry))) × (r .quiet ≡ true → allQuiet (readAll (now (datagram .entry))) ≡ true) ⌝ }
 {
     let order = state.order;
     let table = state.table;
     let keepalive = datagram.len() == MIN_SIZE;
     let refused = answers::messages_answer(table, bytes::load32(datagram, 0), keepalive);
     if refused != 0 {
-        return refused;
+        return Judged {
+            number: refused,
+            quiet: false,
+        };
     }
-    if effects::any_past(datagram, pack::chunk_count(order.length)) {
-        return 7;
+    let found = effects::survey(datagram, pack::chunk_count(order.length));
+    if found.past {
+        return Judged {
+            number: 7,
+            quiet: false,
+        };
     }
-    0
+    Judged {
+        number: 0,
+        quiet: found.quiet,
+    }
 }
 
 // The effects of messages on the channel that they go to.
@@ -77,7 +97,8 @@ fn messages(
     requires { ⌜ minSize ≤ length (now datagram) ⌝ }
     ensures { λ r. ⌜ outOf (r .answer) (r .len) (channelsOf (r .state) (now (has .exit)) (now (wants .exit)) (now (reply .entry))) ≡ messagesTaken (channelsOf state (now (has .entry)) (now (wants .entry)) (now (reply .entry))) (now (datagram .entry)) ⌝ }
 {
-    let answer = messages_number(state, datagram);
+    let judged = judge(state, datagram);
+    let answer = judged.number;
     if answer != 0 {
         return Outcome {
             answer,
@@ -135,7 +156,9 @@ fn take_chunk(
     requires { ⌜ start + len ≤ length (now datagram) ⌝ }
     ensures { λ r. ⌜ outOf (r .answer) (r .len) (worldOf (r .state) (now (chunks .exit)) (now (map .exit)) (now (hashes .exit)) (now (trusted .exit)) (now (has .exit)) (now (wants .exit)) (now (reply .exit))) ≡ dataTaken (worldOf state (now (chunks .entry)) (now (map .entry)) (now (hashes .entry)) (now (trusted .entry)) (now (has .entry)) (now (wants .entry)) (now (reply .entry))) clock (now (datagram .entry)) (now (entries .entry)) c timestamp start len ⌝ }
 {
-    let refused = messages_number(state, datagram);
+    let end = start + len;
+    let judged = judge(state, datagram);
+    let refused = judged.number;
     if refused != 0 {
         return Outcome {
             answer: refused,
@@ -144,7 +167,6 @@ fn take_chunk(
         };
     }
     let order = state.order;
-    let end = start + len;
     let answer = calls::take(
         order,
         chunks,
@@ -164,6 +186,13 @@ fn take_chunk(
         };
     }
     let sent = acknowledge(state, reply, clock, c, timestamp, datagram);
+    if judged.quiet {
+        return Outcome {
+            answer: 0,
+            len: sent,
+            state,
+        };
+    }
     Outcome {
         answer: 0,
         len: sent,

@@ -1,9 +1,9 @@
 -- The effects of messages on a channel, one after the other. Assumes nothing.
 use Prim.Native.Nat.{ℕ, _+_, _-_, _≤_, _<_}
 use native.Mathlib.Omega.{arith}
-use mathlib.Core.Path.{_≡_, refl, ap}
+use mathlib.Core.Path.{_≡_, refl, sym, ap, _∙_}
 use mathlib.Core.List.{List, [], _∷_}
-use mathlib.Core.Bool.{Bool}
+use mathlib.Core.Bool.{Bool, true, true≢false}
 use types.Run.{OneOf, miss}
 use denote.Enum.Declared.{tagOf}
 use Rattle.bits.proofs.Promise.{setRange, clearRange}
@@ -14,9 +14,10 @@ use Rattle.wire.specs.declared.message.Message.{Message}
 use Rattle.wire.specs.declared.message.Message.the-variants.{Handshake, Data, Ack, Have, Integrity, Request, Cancel, Choke, Unchoke}
 use Rattle.wire.specs.declared.message.Step.{Step}
 use Rattle.wire.specs.declared.message.Step.the-variants.{Read, End, Refused}
-use Rattle.writer.proofs.Promise.{onStep, readFrom}
+use Rattle.writer.proofs.Promise.{Item, onStep, readFrom}
 use Rattle.effects.specs.Effects.{Peer, peerOf, effect, effects}
-use Rattle.effects.specs.Steps.{Turned, turnOf, turned}
+use Rattle.tree.proofs.PickLaws.{both-true}
+use Rattle.effects.specs.Steps.{isQuiet, allQuiet, Turned, turnOf, turned}
 use Rattle.effects.proofs.ReadLaws.{read-more}
 
 -- ---- one message
@@ -100,3 +101,26 @@ turn-effects b s at left m h e = rw (e, read-more s at left h refl) (turn-on b s
 pub effects-none : (b : ℕ) (s : List ℕ) (at left : ℕ) (m : Peer) → left ≡ 0 → effects b (readFrom left s at) m ≡ m
 unfolding effects readFrom
 effects-none b s at left m e = rw e
+
+-- ---- messages without effect
+
+-- A quiet message changes nothing,
+quiet-effect : (b : ℕ) (i : Message) (m : Peer) → isQuiet i ≡ true → effect b i m ≡ m
+unfolding isQuiet effect
+quiet-effect b (Handshake a o) m h = refl
+quiet-effect b (Data c x p n) m h = refl
+quiet-effect b (Ack f l d) m h = absurd (true≢false (sym h))
+quiet-effect b (Have f l) m h = absurd (true≢false (sym h))
+quiet-effect b (Integrity f l d) m h = refl
+quiet-effect b (Request f l) m h = absurd (true≢false (sym h))
+quiet-effect b (Cancel f l) m h = absurd (true≢false (sym h))
+quiet-effect b Choke m h = absurd (true≢false (sym h))
+quiet-effect b Unchoke m h = absurd (true≢false (sym h))
+
+-- and so do quiet messages.
+pub quiet-effects : (b : ℕ) (is : List Item) (m : Peer) → allQuiet is ≡ true → effects b is m ≡ m
+unfolding effects allQuiet
+quiet-effects b [] m h = refl
+quiet-effects b (i ∷ is) m h =
+    let q = both-true (isQuiet (i .message)) (allQuiet is) h in
+    ap (effects b is) (quiet-effect b (i .message) m (q .0)) ∙ quiet-effects b is m (q .1)

@@ -1,2 +1,14 @@
--- What the crates above know of this one: of its definitions the names passed on here. Assumes nothing.
+-- What the crates above know of this one: of its definitions the names passed on here, and that quiet messages change
+-- nothing. Assumes nothing.
+use Prim.Native.Nat.{ℕ}
+use mathlib.Core.Path.{_≡_}
+use mathlib.Core.Bool.{true}
+use mathlib.Core.List.{List}
+use Rattle.writer.proofs.Promise.{Item}
+use Rattle.effects.proofs.EffectLaws as laws
 pub use Rattle.effects.specs.Effects.{anyPast, Peer, peerOf, effects}
+pub use Rattle.effects.specs.Steps.{allQuiet}
+
+-- Quiet messages change neither has, wants nor the mark.
+pub quiet-effects : (b : ℕ) (is : List Item) (m : Peer) → allQuiet is ≡ true → effects b is m ≡ m
+quiet-effects = laws.quiet-effects

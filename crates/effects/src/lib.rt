@@ -1,11 +1,13 @@
 // What the messages of a datagram do to a channel: whether their ranges lie in the pack, and what they change of what the
 // peer has, what it wants and the choke mark.
 ghost use mathlib.Core.Path.{_≡_};
+ghost use mathlib.Core.Bool.{true, false};
+ghost use Rattle.tree.specs.Pick.{pick};
 ghost use Prim.Native.Nat.{_<_, _^_};
 ghost use Rattle.wire.proofs.Promise.{stepAt};
 ghost use Rattle.writer.proofs.Promise.{readAll};
 ghost use Rattle.effects.specs.Effects.{past, anyPast, peerOf, effect, effects};
-ghost use Rattle.effects.specs.Steps.{turnOf, turned};
+ghost use Rattle.effects.specs.Steps.{isQuiet, allQuiet, turnOf, turned};
 use wire::limits::MIN_SIZE;
 use wire::message::Cursor;
 use wire::message::Message;
@@ -45,30 +47,86 @@ fn past(message: Message, n: u32) -> bool
     }
 }
 
-// Whether any range of a datagram reaches past the last of n chunks.
-pub fn any_past(datagram: &[u8], n: u32) -> bool
-    ensures { λ r. ⌜ r ≡ anyPast n (readAll (now (datagram .entry))) ⌝ }
+// Whether a message changes neither has, wants nor the mark.
+fn is_quiet(message: Message) -> bool
+    ensures { λ r. ⌜ r ≡ isQuiet message ⌝ }
+{
+    match message {
+        Message::Handshake {
+            source: _,
+            options: _,
+        } => true,
+        Message::Data {
+            chunk: _,
+            timestamp: _,
+            start: _,
+            len: _,
+        } => true,
+        Message::Ack {
+            first: _,
+            last: _,
+            delay: _,
+        } => false,
+        Message::Have { first: _, last: _ } => false,
+        Message::Integrity {
+            first: _,
+            last: _,
+            hash: _,
+        } => true,
+        Message::Request { first: _, last: _ } => false,
+        Message::Cancel { first: _, last: _ } => false,
+        Message::Choke => false,
+        Message::Unchoke => false,
+    }
+}
+
+// Whether messages that were quiet so far are so with one more.
+fn stays_quiet(quiet: bool, message: Message) -> bool
+    ensures { λ r. ⌜ r ≡ pick quiet (isQuiet message) false ⌝ }
+{
+    if quiet {
+        return is_quiet(message);
+    }
+    false
+}
+
+// What a pass over the messages of a datagram found.
+pub struct Found {
+    // A range reaches past the last chunk.
+    pub past: bool,
+    // If set, no message changes has, wants or the mark: most datagrams with a chunk are so.
+    pub quiet: bool,
+}
+
+// The ranges of a datagram's messages against n chunks, and whether the messages are quiet.
+pub fn survey(datagram: &[u8], n: u32) -> Found
+    ensures { λ r. ⌜ (r .past ≡ anyPast n (readAll (now (datagram .entry)))) × (r .quiet ≡ true → allQuiet (readAll (now (datagram .entry))) ≡ true) ⌝ }
 {
     let mut at: usize = MIN_SIZE;
     let mut left: usize = datagram.len();
+    let mut quiet = true;
     while 0 < left {
         left = left - 1;
         match read::read(datagram, Cursor { at }) {
             Step::Read { message, next } => {
                 if past(message, n) {
-                    return true;
+                    return Found {
+                        past: true,
+                        quiet: false,
+                    };
                 }
+                quiet = stays_quiet(quiet, message);
                 at = next.at;
             }
             Step::End => {
-                return false;
+                return Found { past: false, quiet };
             }
             Step::Refused => {
-                return false;
+                return Found { past: false, quiet };
             }
         }
     }
-    false
+    Found { past: false, quiet }
 }
 
 // HAVE and ACK: the peer has the chunks, and wants them no more.

@@ -17,20 +17,16 @@ use Rattle.replies.specs.Steps.{integritySize}
 use Rattle.replies.proofs.DatagramLaws.{Stand, stand-more}
 
 -- An INTEGRITY message can be written from the 32 bytes of its hash.
-pub integrity-writable : (n f l : ℕ) → n ≡ 32 → writable n (Integrity f l 0) ≡ true
+integrity-writable : (n f l : ℕ) → n ≡ 32 → writable n (Integrity f l 0) ≡ true
 unfolding writable
 integrity-writable n f l e = rw e refl
 
 -- It takes 41 bytes.
-pub integrity-size : (f l h : ℕ) → sizeOf (Integrity f l h) ≡ integritySize
+integrity-size : (f l h : ℕ) → sizeOf (Integrity f l h) ≡ integritySize
 unfolding sizeOf
 integrity-size f l h = refl
 
 module _ (hashes : List ℕ) where
-  -- An INTEGRITY message can be written from a node's hash.
-  pub hash-writable : (b : ℕ) {s w : List ℕ} → s ≡ w → w ≡ hashIn hashes b → (f l : ℕ) → writable (length s) (Integrity f l 0) ≡ true
-  hash-writable b {s} e g f l = integrity-writable (length s) f l (ap length (e ∙ g) ∙ hash-length hashes b)
-
   -- The item of a node can be written.
   item-writable : (b : ℕ) → writable (length (hashItem hashes b .source)) (hashItem hashes b .message) ≡ true
   unfolding hashItem
@@ -42,13 +38,10 @@ module _ (hashes : List ℕ) where
   item-size b = integrity-size (first b) (last b) 0
 
   -- A message put from a node's hash and the chunks that it covers is that node's item.
-  pub item-put : (b : ℕ) (room : List ℕ) (at : ℕ) {s w new : List ℕ} {f l r : ℕ} → s ≡ w → w ≡ hashIn hashes b → f ≡ first b → l ≡ last b
-      → (r ≡ at + sizeOf (Integrity f l 0)) × (new ≡ placed room at (bytesOf s (Integrity f l 0)))
-      → (r ≡ at + integritySize) × (new ≡ placed room at (bytesOf (hashItem hashes b .source) (hashItem hashes b .message)))
+  pub item-put : (b : ℕ) (room : List ℕ) (at : ℕ) {s w new : List ℕ} {f l : ℕ} → s ≡ w → w ≡ hashIn hashes b → f ≡ first b → l ≡ last b
+      → new ≡ placed room at (bytesOf s (Integrity f l 0)) → new ≡ placed room at (bytesOf (hashItem hashes b .source) (hashItem hashes b .message))
   unfolding hashItem
-  item-put b room at e g x y p =
-      let q = rw (e ∙ g, x, y) at p in
-      (q .0 ∙ ap (λ (n : ℕ). at + n) (integrity-size (first b) (last b) 0), q .1)
+  item-put b room at e g x y p = rw (e ∙ g, x, y) at p
 
   -- The items of nodes take 41 bytes each.
   pub items-long : (bs : List ℕ) → length (encode (map (hashItem hashes) bs)) ≡ integritySize * length bs

@@ -25,6 +25,9 @@ use writer::size;
 // Room for what goes out with a chunk: at most two nodes at each of ten heights.
 const NODES: usize = 20;
 
+// The size of an INTEGRITY message.
+const INTEGRITY_SIZE: usize = 41;
+
 // Puts a message at a place of the room; the place behind it.
 fn put_message(reply: &mut [u8], at: usize, message: Message, bytes: &[u8]) -> usize
     requires { ⌜ at + sizeOf message ≤ length (now reply) ⌝ }
@@ -64,12 +67,8 @@ fn put_hash(reply: &mut [u8], at: usize, hashes: &[u32], node: u32) -> usize
     ensures { λ r. ⌜ (r ≡ at + integritySize) × (now (reply .exit) ≡ placed (now (reply .entry)) at (messageBytes (hashItem (now (hashes .entry)) node .source) (hashItem (now (hashes .entry)) node .message))) ⌝ }
 {
     let hash = value::bytes(room::read(hashes, node as u64));
-    let message = Message::Integrity {
-        first: bin::first(node),
-        last: bin::last(node),
-        hash: 0,
-    };
-    put_message(reply, at, message, &hash)
+    put::put_integrity(reply, at, bin::first(node), bin::last(node), 0, &hash);
+    at + INTEGRITY_SIZE
 }
 
 // The INTEGRITY of each node, one after the other, behind the destination; the place behind them.

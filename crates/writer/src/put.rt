@@ -78,7 +78,8 @@ fn put_ack(room: &mut [u8], at: usize, first: u32, last: u32, delay: u64, bytes:
     place::place64(room, at + 9, delay);
 }
 
-fn put_integrity(room: &mut [u8], at: usize, first: u32, last: u32, hash: usize, bytes: &[u8])
+// An INTEGRITY message, as `put` puts it, for whoever has its parts.
+pub fn put_integrity(room: &mut [u8], at: usize, first: u32, last: u32, hash: usize, bytes: &[u8])
     requires { ⌜ at + 41 ≤ length (now room) ⌝ }
     requires { ⌜ hash + 32 ≤ length (now bytes) ⌝ }
     ensures { λ _. ⌜ now (room .exit) ≡ placed (now (room .entry)) at (bytesOf (now (bytes .entry)) (Message.Integrity first last hash)) ⌝ }

@@ -1,6 +1,6 @@
-use native.Mathlib.Omega.{arith}
+use mathlib.Core.Path.{refl}
+use Rattle.replies.proofs.HashLaws.{item-put}
 use borrow.Author.Needs.{needs}
-use Rattle.replies.proofs.HashLaws.{integrity-size, hash-writable, item-put}
 use Rattle.replies.proofs.put_hash.Statement.{statement}
 use Rattle.replies.proofs.put_hash.Tie as tie
 
@@ -16,25 +16,20 @@ first-requires c κs = search needs
 last-requires : tie.Need-last-requires
 last-requires c κs = search needs
 
-slice-aggregate-put-message : tie.Need-slice-aggregate-put-message
-slice-aggregate-put-message c = search needs
+slice-aggregate-put-integrity : tie.Need-slice-aggregate-put-integrity
+slice-aggregate-put-integrity c = search needs
 
-put-message-requires : tie.Need-put-message-requires
-put-message-requires c κs =
-    let b = c .before .before .before .before in (
-      omega (arith, b .before .before .before .before .pre, integrity-size (c .before .before .before .first .result) (c .before .before .last .result) 0),
-      hash-writable _ _ (b .bytes .ensures) (b .before .read .ensures) _ _,
-    )
+put-integrity-requires : tie.Need-put-integrity-requires
+put-integrity-requires c κs = search needs
+
+add-result : tie.Need-add-result
+add-result c = search needs
 
 same-length : tie.Need-same-length
 same-length c = search needs
 
 returns : tie.Need-returns
-returns c =
-    let p = c .before .before in
-    let l = p .before .before .before in
-    let b = l .before .before in
-    item-put _ _ _ _ (b .bytes .ensures) (b .before .read .ensures) (l .before .first .ensures) (l .last .ensures) (p .put-message .ensures)
+returns c = (refl, item-put _ _ _ _ (c .before .before .before .before .before .before .before .bytes .ensures) (c .before .before .before .before .before .before .before .before .read .ensures) (c .before .before .before .before .before .first .ensures) (c .before .before .before .before .last .ensures) (c .before .before .put-integrity .ensures))
 
 pub put-hash-spec : {M : Type 1} → statement M
 put-hash-spec =
@@ -44,7 +39,8 @@ put-hash-spec =
     bytes-requires
     first-requires
     last-requires
-    slice-aggregate-put-message
-    put-message-requires
+    slice-aggregate-put-integrity
+    put-integrity-requires
+    add-result
     same-length
     returns)

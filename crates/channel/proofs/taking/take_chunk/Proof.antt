@@ -1,15 +1,15 @@
 use native.Mathlib.Omega.{arith}
 use Rattle.channel.specs.World.{worldOf}
-use Rattle.channel.proofs.TakeLaws.{data-refused, part-is, data-unfit, data-done}
+use Rattle.channel.proofs.TakeLaws.{data-refused, part-is, data-unfit, data-done, quiet-affected}
 use borrow.Author.Needs.{needs}
 use Rattle.channel.proofs.taking.take_chunk.Statement.{statement}
 use Rattle.channel.proofs.taking.take_chunk.Tie as tie
 
-messages-number-requires : tie.Need-messages-number-requires
-messages-number-requires c κs = search needs
+judge-requires : tie.Need-judge-requires
+judge-requires c κs = search needs
 
 returns : tie.Need-returns
-returns c = let a = c .before .before .before .before .before .before .before .before .before .before .before .args in data-refused (worldOf (a .state) (a .chunks .now) (a .map .now) (a .hashes .now) (a .trusted .now) (a .has .now) (a .wants .now) (a .reply .now)) (a .clock) (a .datagram .now) (a .entries .now) (a .c) (a .timestamp) (a .start) (a .len) (c .before .messages-number .ensures) (c .if1 .taken)
+returns c = let a = c .before .before .before .before .before .before .before .before .before .before .before .args in data-refused (worldOf (a .state) (a .chunks .now) (a .map .now) (a .hashes .now) (a .trusted .now) (a .has .now) (a .wants .now) (a .reply .now)) (a .clock) (a .datagram .now) (a .entries .now) (a .c) (a .timestamp) (a .start) (a .len) (c .before .judge .ensures .0) (c .if1 .taken)
 
 add-end : tie.Need-add-end
 add-end c = search needs
@@ -39,13 +39,10 @@ same-length-4 : tie.Need-same-length-4
 same-length-4 c = search needs
 
 returns-2 : tie.Need-returns-2
-returns-2 c = let a = c .before .before .before .before .before .before .before .before .before .before .before .before .before .before .before .before .before .before .before .before .before .before .before .before .before .before .before .args in data-unfit (worldOf (a .state) (a .chunks .now) (a .map .now) (a .hashes .now) (a .trusted .now) (a .has .now) (a .wants .now) (a .reply .now)) (a .clock) (a .datagram .now) (a .entries .now) (a .c) (a .timestamp) (a .start) (a .len) (c .before .before .before .before .before .before .before .before .before .before .before .before .before .before .before .before .before .messages-number .ensures) (omega (arith, c .before .before .before .before .before .before .before .before .before .before .before .before .before .before .before .before .if1 .left)) (part-is (a .datagram .now) (a .start) (a .len)) (c .before .before .before .before .before .before .before .before .before .take .ensures) (c .if2 .taken)
+returns-2 c = let a = c .before .before .before .before .before .before .before .before .before .before .before .before .before .before .before .before .before .before .before .before .before .before .before .before .before .before .before .args in data-unfit (worldOf (a .state) (a .chunks .now) (a .map .now) (a .hashes .now) (a .trusted .now) (a .has .now) (a .wants .now) (a .reply .now)) (a .clock) (a .datagram .now) (a .entries .now) (a .c) (a .timestamp) (a .start) (a .len) (c .before .before .before .before .before .before .before .before .before .before .before .before .before .before .before .before .before .judge .ensures .0) (omega (arith, c .before .before .before .before .before .before .before .before .before .before .before .before .before .before .before .before .if1 .left)) (part-is (a .datagram .now) (a .start) (a .len)) (c .before .before .before .before .before .before .before .before .before .take .ensures) (c .if2 .taken)
 
 acknowledge-requires : tie.Need-acknowledge-requires
 acknowledge-requires c κs = (c .before .before .before .before .before .before .before .before .before .before .before .before .before .before .before .before .before .before .before .before .before .before .before .before .before .before .before .before .pre .1 .0, c .before .before .before .before .before .before .before .before .before .before .before .before .before .before .before .before .before .before .before .before .before .before .before .before .before .before .before .before .pre .1 .1 .0)
-
-apply-messages-requires : tie.Need-apply-messages-requires
-apply-messages-requires c κs = (c .before .before .before .before .before .before .before .before .before .before .before .before .before .before .before .before .before .before .before .before .before .before .before .before .before .before .before .before .before .before .before .before .before .pre .0, c .before .before .before .before .before .before .before .before .before .before .before .before .before .before .before .before .before .before .before .before .before .before .before .before .before .before .before .before .before .before .before .before .before .pre .1 .1 .0)
 
 same-length-5 : tie.Need-same-length-5
 same-length-5 c = search needs
@@ -62,22 +59,43 @@ same-length-8 c = search needs
 same-length-9 : tie.Need-same-length-9
 same-length-9 c = search needs
 
+returns-3 : tie.Need-returns-3
+returns-3 c = let a = c .before .before .before .before .before .before .before .before .before .before .before .before .before .before .before .before .before .before .before .before .before .before .before .before .before .before .before .before .before .before .before .before .args in data-done (worldOf (a .state) (a .chunks .now) (a .map .now) (a .hashes .now) (a .trusted .now) (a .has .now) (a .wants .now) (a .reply .now)) (a .clock) (a .datagram .now) (a .entries .now) (a .c) (a .timestamp) (a .start) (a .len) (c .before .before .before .before .before .before .before .before .before .before .before .before .before .before .before .before .before .before .before .before .before .before .judge .ensures .0) (omega (arith, c .before .before .before .before .before .before .before .before .before .before .before .before .before .before .before .before .before .before .before .before .before .if1 .left)) (part-is (a .datagram .now) (a .start) (a .len)) (c .before .before .before .before .before .before .before .before .before .before .before .before .before .before .take .ensures) (omega (arith, c .before .before .before .before .before .if2 .left)) (c .before .before .before .acknowledge .ensures) (quiet-affected (a .state) (a .has .now) (a .wants .now) (a .datagram .now) (c .before .before .before .before .before .before .before .before .before .before .before .before .before .before .before .before .before .before .before .before .before .before .judge .ensures .1 (c .if3 .taken)))
+
+apply-messages-requires : tie.Need-apply-messages-requires
+apply-messages-requires c κs = (c .before .before .before .before .before .before .before .before .before .before .before .before .before .before .before .before .before .before .before .before .before .before .before .before .before .before .before .before .before .before .before .before .before .before .pre .0, c .before .before .before .before .before .before .before .before .before .before .before .before .before .before .before .before .before .before .before .before .before .before .before .before .before .before .before .before .before .before .before .before .before .before .pre .1 .1 .0)
+
 same-length-10 : tie.Need-same-length-10
 same-length-10 c = search needs
 
 same-length-11 : tie.Need-same-length-11
 same-length-11 c = search needs
 
-returns-3 : tie.Need-returns-3
-returns-3 c = let a = c .before .before .before .before .before .before .before .before .before .before .before .before .before .before .before .before .before .before .before .before .before .before .before .before .before .before .before .before .before .before .before .before .before .before .before .before .before .before .args in data-done (worldOf (a .state) (a .chunks .now) (a .map .now) (a .hashes .now) (a .trusted .now) (a .has .now) (a .wants .now) (a .reply .now)) (a .clock) (a .datagram .now) (a .entries .now) (a .c) (a .timestamp) (a .start) (a .len) (c .before .before .before .before .before .before .before .before .before .before .before .before .before .before .before .before .before .before .before .before .before .before .before .before .before .before .before .before .messages-number .ensures) (omega (arith, c .before .before .before .before .before .before .before .before .before .before .before .before .before .before .before .before .before .before .before .before .before .before .before .before .before .before .before .if1 .left)) (part-is (a .datagram .now) (a .start) (a .len)) (c .before .before .before .before .before .before .before .before .before .before .before .before .before .before .before .before .before .before .before .before .take .ensures) (omega (arith, c .before .before .before .before .before .before .before .before .before .before .before .if2 .left)) (c .before .before .before .before .before .before .before .before .before .acknowledge .ensures) (c .before .before .before .before .apply-messages .ensures)
+same-length-12 : tie.Need-same-length-12
+same-length-12 c = search needs
+
+same-length-13 : tie.Need-same-length-13
+same-length-13 c = search needs
+
+same-length-14 : tie.Need-same-length-14
+same-length-14 c = search needs
+
+same-length-15 : tie.Need-same-length-15
+same-length-15 c = search needs
+
+same-length-16 : tie.Need-same-length-16
+same-length-16 c = search needs
+
+returns-4 : tie.Need-returns-4
+returns-4 c = let a = c .before .before .before .before .before .before .before .before .before .before .before .before .before .before .before .before .before .before .before .before .before .before .before .before .before .before .before .before .before .before .before .before .before .before .before .before .before .before .before .args in data-done (worldOf (a .state) (a .chunks .now) (a .map .now) (a .hashes .now) (a .trusted .now) (a .has .now) (a .wants .now) (a .reply .now)) (a .clock) (a .datagram .now) (a .entries .now) (a .c) (a .timestamp) (a .start) (a .len) (c .before .before .before .before .before .before .before .before .before .before .before .before .before .before .before .before .before .before .before .before .before .before .before .before .before .before .before .before .before .judge .ensures .0) (omega (arith, c .before .before .before .before .before .before .before .before .before .before .before .before .before .before .before .before .before .before .before .before .before .before .before .before .before .before .before .before .if1 .left)) (part-is (a .datagram .now) (a .start) (a .len)) (c .before .before .before .before .before .before .before .before .before .before .before .before .before .before .before .before .before .before .before .before .before .take .ensures) (omega (arith, c .before .before .before .before .before .before .before .before .before .before .before .before .if2 .left)) (c .before .before .before .before .before .before .before .before .before .before .acknowledge .ensures) (c .before .before .before .before .apply-messages .ensures)
 
 pub take-chunk-spec : {M : Type 1} → statement M
 take-chunk-spec =
     tie.close
     (tie.spec
-    messages-number-requires
-    returns
     add-end
+    judge-requires
+    returns
     sub-take
     part-take-start
     part-take-end
@@ -88,12 +106,18 @@ take-chunk-spec =
     same-length-4
     returns-2
     acknowledge-requires
-    apply-messages-requires
     same-length-5
     same-length-6
     same-length-7
     same-length-8
     same-length-9
+    returns-3
+    apply-messages-requires
     same-length-10
     same-length-11
-    returns-3)
+    same-length-12
+    same-length-13
+    same-length-14
+    same-length-15
+    same-length-16
+    returns-4)
