@@ -6,9 +6,14 @@ use mathlib.Core.Bool.{true}
 use mathlib.Core.List.{List}
 use Rattle.writer.proofs.Promise.{Item}
 use Rattle.effects.proofs.EffectLaws as laws
+use Rattle.effects.proofs.ReadLaws as reading
 pub use Rattle.effects.specs.Effects.{anyPast, Peer, peerOf, effects}
-pub use Rattle.effects.specs.Steps.{allQuiet}
+pub use Rattle.effects.specs.Steps.{allQuiet, quietWithin}
 
 -- Quiet messages change neither has, wants nor the mark.
 pub quiet-effects : (b : ℕ) (is : List Item) (m : Peer) → allQuiet is ≡ true → effects b is m ≡ m
 quiet-effects = laws.quiet-effects
+
+-- Messages that are quiet within the pack are quiet.
+pub quiet-means : (N : ℕ) (is : List Item) → quietWithin N is ≡ true → allQuiet is ≡ true
+quiet-means = reading.quiet-means

@@ -1,7 +1,7 @@
 -- What a pass over a datagram reads, and whether a range that it meets reaches past the pack. Assumes nothing.
 use Prim.Native.Nat.{ℕ, zero, suc, _-_, _<_}
 use native.Mathlib.Omega.{arith}
-use mathlib.Core.Path.{_≡_, refl, sym, _∙_}
+use mathlib.Core.Path.{_≡_, refl, sym}
 use mathlib.Core.List.{List}
 use mathlib.Core.Bool.{Bool, true, false, true≢false}
 use Rattle.wire.proofs.Promise.{stepAt}
@@ -9,10 +9,10 @@ use Rattle.wire.specs.declared.message.Cursor.{Cursor}
 use Rattle.wire.specs.declared.message.Message.{Message}
 use Rattle.wire.specs.declared.message.Step.{Step}
 use Rattle.wire.specs.declared.message.Step.the-variants.{Read, End, Refused}
-use Rattle.writer.proofs.Promise.{onStep, readFrom}
+use Rattle.writer.proofs.Promise.{Item, onStep, readFrom}
 use Rattle.tree.specs.Pick.{pick}
 use Rattle.effects.specs.Effects.{past, anyPast}
-use Rattle.effects.specs.Steps.{isQuiet, allQuiet}
+use Rattle.effects.specs.Steps.{isQuiet, allQuiet, quietWithin}
 
 -- What is read from a place on: what stands there, and what is read behind it.
 pub read-more : (s : List ℕ) (at left : ℕ) {st : Step} → 0 < left → stepAt s at ≡ st → readFrom left s at ≡ onStep s st (λ x. readFrom (left - 1) s x)
@@ -48,28 +48,49 @@ any-none N s at left e = rw e
 
 -- ---- messages without effect
 
+-- Whether some are quiet, and then none more.
+alone : (x : Bool) → pick x true false ≡ x
+alone true = refl
+alone false = refl
+
 module _ (s : List ℕ) (at left : ℕ) where
-  -- The message at this place and those behind it: what follows where all are quiet follows where it is and those behind are.
-  pub quiet-next : {i : Message} {next : Cursor} {q r : Bool} {Goal : Type 0} → 0 < left → stepAt s at ≡ Read i next → r ≡ pick q (isQuiet i) false
-      → (q ≡ true → allQuiet (readFrom left s at) ≡ true → Goal) → r ≡ true → allQuiet (readFrom (left - 1) s (next .at)) ≡ true → Goal
+  -- The message at this place counted in, what is left to look at are those behind it.
+  pub quiet-next : (q : Bool) {i : Message} {next : Cursor} {r : Bool} → 0 < left → stepAt s at ≡ Read i next → r ≡ pick q (isQuiet i) false
+      → pick r (allQuiet (readFrom (left - 1) s (next .at))) false ≡ pick q (allQuiet (readFrom left s at)) false
   unfolding allQuiet
-  quiet-next {i} {next} {q} {r} {Goal} h e p g z a = go q (isQuiet i) refl refl
+  quiet-next q {i} {next} h e p = rw (p, read-more s at left h e) (by q)
     where
-      go : (x y : Bool) → q ≡ x → isQuiet i ≡ y → Goal
-      go true true u v = g u (rw (read-more s at left h e, v) a)
-      go true false u v = absurd (true≢false (sym z ∙ p ∙ rw (u, v)))
-      go false y u v = absurd (true≢false (sym z ∙ p ∙ rw u))
+      by : (x : Bool) → pick (pick x (isQuiet i) false) (allQuiet (readFrom (left - 1) s (next .at))) false
+          ≡ pick x (pick (isQuiet i) (allQuiet (readFrom (left - 1) s (next .at))) false) false
+      by true = refl
+      by false = refl
 
-  -- From the end on, and from a refusal on, all are.
-  pub quiet-end : 0 < left → stepAt s at ≡ End → allQuiet (readFrom left s at) ≡ true
+  -- From the end on, from a refusal on, and among no messages, all are.
+  pub quiet-end : {q : Bool} → 0 < left → stepAt s at ≡ End → pick q (allQuiet (readFrom left s at)) false ≡ q
   unfolding allQuiet
-  quiet-end h e = rw (read-more s at left h e)
+  quiet-end {q} h e = rw (read-more s at left h e) (alone q)
 
-  pub quiet-refused : 0 < left → stepAt s at ≡ Refused → allQuiet (readFrom left s at) ≡ true
+  pub quiet-refused : {q : Bool} → 0 < left → stepAt s at ≡ Refused → pick q (allQuiet (readFrom left s at)) false ≡ q
   unfolding allQuiet
-  quiet-refused h e = rw (read-more s at left h e)
+  quiet-refused {q} h e = rw (read-more s at left h e) (alone q)
 
-  -- Among no messages all are.
-  pub quiet-none : left ≡ 0 → allQuiet (readFrom left s at) ≡ true
+  pub quiet-none : {q : Bool} → left ≡ 0 → pick q (allQuiet (readFrom left s at)) false ≡ q
   unfolding allQuiet readFrom
-  quiet-none e = rw e
+  quiet-none {q} e = rw e (alone q)
+
+module _ (N : ℕ) (is : List Item) where
+  -- A range past the pack was met.
+  pub quiet-past : anyPast N is ≡ true → false ≡ quietWithin N is
+  quiet-past e = rw e
+
+  -- None was, and the messages were quiet or not.
+  pub quiet-all : {q : Bool} → anyPast N is ≡ false → q ≡ allQuiet is → q ≡ quietWithin N is
+  quiet-all e p = rw e p
+
+  -- Quiet messages within the pack are quiet.
+  pub quiet-means : quietWithin N is ≡ true → allQuiet is ≡ true
+  quiet-means h = go (anyPast N is) h
+    where
+      go : (x : Bool) → pick x false (allQuiet is) ≡ true → allQuiet is ≡ true
+      go true e = absurd (true≢false (sym e))
+      go false e = e

@@ -8,7 +8,7 @@ use Rattle.wire.specs.declared.message.Message.the-variants.{Handshake, Data, A
 use Rattle.wire.specs.declared.message.Step.{Step}
 use Rattle.wire.specs.declared.message.Step.the-variants.{Read, End, Refused}
 use Rattle.writer.proofs.Promise.{Item}
-use Rattle.effects.specs.Effects.{Peer, effect}
+use Rattle.effects.specs.Effects.{anyPast, Peer, effect}
 
 -- Whether a message has no effect on has, wants and the mark.
 unfoldable pub isQuiet : Message → Bool
@@ -26,6 +26,10 @@ isQuiet Unchoke = false
 unfoldable pub allQuiet : List Item → Bool
 allQuiet [] = true
 allQuiet (i ∷ is) = pick (isQuiet (i .message)) (allQuiet is) false
+
+-- The same, but no where a range reaches past N-1: the pass ends there.
+abbrev pub quietWithin : ℕ → List Item → Bool
+quietWithin N is = pick (anyPast N is) false (allQuiet is)
 
 -- The peer after a turn, where the next message stands, and how many are left at most.
 pub record Turned : Type 0 where

@@ -1,13 +1,13 @@
 // What the messages of a datagram do to a channel: whether their ranges lie in the pack, and what they change of what the
 // peer has, what it wants and the choke mark.
 ghost use mathlib.Core.Path.{_≡_};
-ghost use mathlib.Core.Bool.{true, false};
+ghost use mathlib.Core.Bool.{false};
 ghost use Rattle.tree.specs.Pick.{pick};
 ghost use Prim.Native.Nat.{_<_, _^_};
 ghost use Rattle.wire.proofs.Promise.{stepAt};
 ghost use Rattle.writer.proofs.Promise.{readAll};
 ghost use Rattle.effects.specs.Effects.{past, anyPast, peerOf, effect, effects};
-ghost use Rattle.effects.specs.Steps.{isQuiet, allQuiet, turnOf, turned};
+ghost use Rattle.effects.specs.Steps.{isQuiet, quietWithin, turnOf, turned};
 use wire::limits::MIN_SIZE;
 use wire::message::Cursor;
 use wire::message::Message;
@@ -94,13 +94,13 @@ fn stays_quiet(quiet: bool, message: Message) -> bool
 pub struct Found {
     // A range reaches past the last chunk.
     pub past: bool,
-    // If set, no message changes has, wants or the mark: most datagrams with a chunk are so.
+    // None does, and no message changes has, wants or the mark: most datagrams with a chunk are so.
     pub quiet: bool,
 }
 
 // The ranges of a datagram's messages against n chunks, and whether the messages are quiet.
 pub fn survey(datagram: &[u8], n: u32) -> Found
-    ensures { λ r. ⌜ (r .past ≡ anyPast n (readAll (now (datagram .entry)))) × (r .quiet ≡ true → allQuiet (readAll (now (datagram .entry))) ≡ true) ⌝ }
+    ensures { λ r. ⌜ (r .past ≡ anyPast n (readAll (now (datagram .entry)))) × (r .quiet ≡ quietWithin n (readAll (now (datagram .entry)))) ⌝ }
 {
     let mut at: usize = MIN_SIZE;
     let mut left: usize = datagram.len();

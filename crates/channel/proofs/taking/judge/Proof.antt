@@ -1,5 +1,6 @@
 use native.Mathlib.Omega.{arith}
-use mathlib.Core.Path.{refl, sym}
+use mathlib.Core.Path.{refl, sym, _∙_}
+use Rattle.effects.proofs.Promise.{quiet-means}
 use mathlib.Core.Bool.{true≢false}
 use Rattle.channel.proofs.TakeLaws.{messages-table, messages-past, messages-none}
 use borrow.Author.Needs.{needs}
@@ -25,7 +26,7 @@ returns-2 : tie.Need-returns-2
 returns-2 c = (messages-past _ _ (c .before .before .before .before .before .load32 .ensures) refl (c .before .before .before .before .messages-answer .ensures) (omega (arith, c .before .before .before .if1 .left)) (c .before .before .chunk-count .ensures) (c .before .survey .ensures .0) (c .if2 .taken), λ q. absurd (true≢false (sym q)))
 
 returns-3 : tie.Need-returns-3
-returns-3 c = (messages-none _ _ (c .before .before .before .before .before .load32 .ensures) refl (c .before .before .before .before .messages-answer .ensures) (omega (arith, c .before .before .before .if1 .left)) (c .before .before .chunk-count .ensures) (c .before .survey .ensures .0) (c .if2 .left), c .before .survey .ensures .1)
+returns-3 c = (messages-none _ _ (c .before .before .before .before .before .load32 .ensures) refl (c .before .before .before .before .messages-answer .ensures) (omega (arith, c .before .before .before .if1 .left)) (c .before .before .chunk-count .ensures) (c .before .survey .ensures .0) (c .if2 .left), λ q. quiet-means _ _ (sym (c .before .survey .ensures .1) ∙ q))
 
 pub judge-spec : {M : Type 1} → statement M
 judge-spec =
