@@ -1,0 +1,210 @@
+-- Laws of lines: where one ends, what is kept of it, and lines added to a room. Assumes nothing.
+use Prim.Native.Nat.{ℕ, zero, suc, _+_, _-_, _*_, _/_, _%_, _<_, _≤_, min}
+use native.Mathlib.Omega.{arith}
+use mathlib.Core.Path.{_≡_, refl, sym, ap, _∙_}
+use mathlib.Core.List.{List, [], _∷_, _++_}
+use mathlib.Core.Bool.{Bool, true, false}
+use lib.ListN.{length, getD, set, take, drop, length-set, length-append, length-take}
+use lib.Seq.{sets, drop-cons, drop-nil, take-nil, length-sets, length-take-le}
+use lib.Dec.{leb, eqb}
+use borrow.Author.Tests.{lt-ltb, le-ltb, eq-eqb, ne-eqb, le-leb, lt-leb, leb-true, leb-false}
+use Rattle.tree.specs.Pick.{pick}
+use Rattle.tree.proofs.PickLaws.{both-true}
+use Rattle.script.specs.Hex.{allDigits, decoded, digitFor, encoded}
+use Rattle.script.specs.Lines.{beforeFeed, lineEnd, Placed, placed, taken, kept}
+use Rattle.script.specs.Frames.{hasLength, isFrame, framed, frameSpec}
+use Rattle.script.specs.declared.frames.Frame.the-variants.{Bytes, Bad}
+use Rattle.script.specs.Answers.{answerLine, closingLine, fits, appended}
+
+-- ---- where a line ends
+
+nothing : (s : List ℕ) (at : ℕ) → length s ≤ at → drop at s ≡ []
+nothing [] at h = drop-nil at
+nothing (c ∷ s) zero h = absurd (omega arith)
+nothing (c ∷ s) (suc at) h = nothing s at (omega arith)
+
+one : (n : ℕ) → n + 1 ≡ suc n
+one n = omega arith
+
+two : (n : ℕ) → n + 2 ≡ suc (suc n)
+two n = omega arith
+
+module _ (s : List ℕ) (at : ℕ) where
+  -- At the end, and past it.
+  pub end-here : length s ≤ at → at ≡ lineEnd s at
+  unfolding beforeFeed
+  end-here h = rw (nothing s at h) (omega arith)
+
+  -- At a line feed.
+  pub end-feed : at < length s → getD s at 0 ≡ 10 → at ≡ lineEnd s at
+  unfolding beforeFeed
+  end-feed h e = rw (drop-cons s at 0 h, eq-eqb (getD s at 0) 10 e) (omega arith)
+
+  -- Behind any other character.
+  pub end-on : at < length s → (getD s at 0 ≡ 10 → ⊥) → lineEnd s (at + 1) ≡ lineEnd s at
+  unfolding beforeFeed
+  end-on h e = rw (drop-cons s at 0 h, ne-eqb (getD s at 0) 10 e, one at) (omega arith)
+
+-- ---- what is kept of a line
+
+-- One byte more.
+pub keep-one : (r room : List ℕ) (at : ℕ) {s : List ℕ} → at < length room → 0 < length r → s ≡ drop 1 r → kept (set room at (getD r 0 0)) (at + 1) s ≡ kept room at r
+unfolding kept
+keep-one [] room at h k g = absurd (omega arith)
+keep-one (c ∷ s) room at h k g = rw (g, length-set room at c, one at, left, shift (length (take (length room - suc at) s)))
+  where
+    left : length room - at ≡ suc (length room - suc at)
+    left = omega arith
+
+    shift : (n : ℕ) → suc at + n ≡ at + suc n
+    shift n = omega arith
+
+-- Nothing is taken.
+module _ (r room : List ℕ) (at : ℕ) where
+  keep-none : taken room at r ≡ [] → placed room at ≡ kept room at r
+  unfolding kept
+  keep-none e = rw e (ap (λ (n : ℕ). placed room n) (omega arith))
+
+  -- No room is left, or nothing of the part.
+  pub keep-full : length room ≤ at → placed room at ≡ kept room at r
+  keep-full h = keep-none (rw none)
+    where
+      none : length room - at ≡ 0
+      none = omega arith
+
+  pub keep-end : length r ≤ 0 → placed room at ≡ kept room at r
+  keep-end h = keep-none (rw (empty r h) (take-nil (length room - at)))
+    where
+      empty : (r : List ℕ) → length r ≤ 0 → r ≡ []
+      empty [] h = refl
+      empty (c ∷ s) h = absurd (omega arith)
+
+-- ---- a line's length
+
+module _ (least most n : ℕ) where
+  pub too-short : n < least → false ≡ hasLength least most n
+  unfolding hasLength
+  too-short h = rw (lt-ltb n least h)
+
+  pub too-long : least ≤ n → most < n → false ≡ hasLength least most n
+  unfolding hasLength
+  too-long h k = rw (le-ltb n least h, lt-ltb most n k)
+
+  pub in-limits : least ≤ n → n ≤ most → eqb (n % 2) 0 ≡ hasLength least most n
+  unfolding hasLength
+  in-limits h k = rw (le-ltb n least h, le-ltb most n k)
+
+-- ---- lines added to a room
+
+-- A line as long as its digits and the line feed.
+pub length-encoded : (s : List ℕ) → length (encoded s) ≡ 2 * length s
+unfolding encoded
+length-encoded [] = refl
+length-encoded (b ∷ s) = rw (length-encoded s) (omega arith)
+
+pub length-line : (n : ℕ) (reply : List ℕ) → length (answerLine n reply) ≡ 3 + 2 * length reply
+unfolding answerLine
+length-line n reply = length-append (encoded (n ∷ reply)) (10 ∷ []) ∙ rw (length-encoded (n ∷ reply)) (omega arith)
+
+-- Whether a line fits, from what is left.
+module _ (room at n : ℕ) where
+  pub fits-not : room < at + 3 → false ≡ fits room at n
+  unfolding fits
+  fits-not h = rw (lt-leb (at + (3 + 2 * n)) room (omega arith))
+
+  pub fits-left : at + 3 ≤ room → leb n ((room - at - 3) / 2) ≡ fits room at n
+  unfolding fits
+  fits-left h = go (leb (at + (3 + 2 * n)) room) refl
+    where
+      go : (b : Bool) → leb (at + (3 + 2 * n)) room ≡ b → leb n ((room - at - 3) / 2) ≡ b
+      go true e = let k = leb-true (at + (3 + 2 * n)) room e in le-leb n ((room - at - 3) / 2) (omega arith)
+      go false e = let k = leb-false (at + (3 + 2 * n)) room e in lt-leb n ((room - at - 3) / 2) (omega arith)
+
+-- One element more behind a run of stores.
+pub sets-behind : (room : List ℕ) (at : ℕ) (s : List ℕ) (x : ℕ) → set (sets room at s) (at + length s) x ≡ sets room at (s ++ x ∷ [])
+sets-behind room at [] x = rw (zero-behind at)
+  where
+    zero-behind : (n : ℕ) → n + 0 ≡ n
+    zero-behind n = omega arith
+sets-behind room at (y ∷ s) x = rw (sym (moved (length s))) (sets-behind (set room at y) (suc at) s x)
+  where
+    moved : (n : ℕ) → suc at + n ≡ at + suc n
+    moved n = omega arith
+
+-- An answer's line: the digits of its number, those of its reply, and the line feed.
+pub put-answer : (room : List ℕ) (at n : ℕ) (s : List ℕ) {t u : List ℕ} → t ≡ sets room at (encoded (n ∷ [])) → u ≡ sets t (at + 2) (encoded s)
+    → set u (at + 2 + 2 * length s) 10 ≡ sets room at (answerLine n s)
+unfolding answerLine encoded
+put-answer room at n s e f = rw (f, e, two at, ← length-encoded s) (sets-behind _ (suc (suc at)) (encoded s) 10)
+
+-- The first elements of a list, counted.
+take-least : (len : ℕ) (l : List ℕ) → take (min len (length l)) l ≡ take len l
+take-least zero l = rw (zero-min (length l))
+  where
+    zero-min : (n : ℕ) → min 0 n ≡ 0
+    zero-min n = omega arith
+take-least (suc n) [] = take-nil (min (suc n) 0)
+take-least (suc n) (x ∷ l) = rw (suc-min n (length l)) (ap (λ (r : List ℕ). x ∷ r) (take-least n l))
+  where
+    suc-min : (m n : ℕ) → min (suc m) (suc n) ≡ suc (min m n)
+    suc-min m n = omega arith
+
+-- A count of elements is the length of as many.
+pub counted : (n len : ℕ) (l : List ℕ) → n ≡ min len (length l) → n ≡ length (take n l)
+counted n len l e = sym (length-take-le n l (omega arith))
+
+pub fits-bound : (room at n : ℕ) → fits room at n ≡ true → at + (3 + 2 * n) ≤ room
+unfolding fits
+fits-bound room at n e = leb-true (at + (3 + 2 * n)) room e
+
+module _ (room : List ℕ) (at number n len : ℕ) (reply : List ℕ) (e : n ≡ min len (length reply)) where
+  -- A line that fits, and one that does not.
+  pub line-fits : fits (length room) at n ≡ true
+      → placed (sets room at (answerLine number (take n reply))) (at + (3 + 2 * n)) ≡ appended room at (answerLine number (take len reply))
+  unfolding appended fits
+  line-fits f = rw (length-line number (take len reply), length-take len reply, ← e, f, ← take-least len reply, ← e)
+
+  pub line-not : fits (length room) at n ≡ false → placed room at ≡ appended room at (answerLine number (take len reply))
+  unfolding appended fits
+  line-not f = rw (length-line number (take len reply), length-take len reply, ← e, f)
+
+-- ---- frames
+
+module _ (least most : ℕ) (line : List ℕ) where
+  -- A line of another length is none; one of a good length is by its characters.
+  pub other-length : hasLength least most (length line) ≡ false → false ≡ isFrame least most line
+  unfolding isFrame
+  other-length e = rw e
+
+  pub by-characters : hasLength least most (length line) ≡ true → allDigits line ≡ isFrame least most line
+  unfolding isFrame
+  by-characters e = rw e
+
+  pub frame-digits : isFrame least most line ≡ true → allDigits line ≡ true
+  unfolding isFrame
+  frame-digits e = both-true (hasLength least most (length line)) (allDigits line) e .1
+
+  module _ (room : List ℕ) where
+    pub no-frame : isFrame least most line ≡ false → framed Bad room ≡ frameSpec least most line room
+    unfolding frameSpec
+    no-frame e = rw e
+
+    pub no-room : isFrame least most line ≡ true → length room < length line / 2 → framed Bad room ≡ frameSpec least most line room
+    unfolding frameSpec
+    no-room e h = rw (e, lt-leb (length line / 2) (length room) h)
+
+    pub a-frame : isFrame least most line ≡ true → length line / 2 ≤ length room
+        → framed (Bytes (length line / 2)) (sets room 0 (decoded line)) ≡ frameSpec least most line room
+    unfolding frameSpec
+    a-frame e h = rw (e, le-leb (length line / 2) (length room) h)
+
+-- ---- the closing line
+
+module _ (room : List ℕ) (at held : ℕ) {whole : Bool} where
+  pub closing-whole : whole ≡ true → appended room at (answerLine 255 (held / 256 % 256 ∷ held % 256 ∷ [])) ≡ appended room at (closingLine whole held)
+  unfolding closingLine
+  closing-whole e = rw e
+
+  pub closing-part : whole ≡ false → appended room at (answerLine 240 (held / 256 % 256 ∷ held % 256 ∷ [])) ≡ appended room at (closingLine whole held)
+  unfolding closingLine
+  closing-part e = rw e

@@ -1,0 +1,27 @@
+-- Lines that are written (01: "each output line with its line feed, the number (two hexadecimal digits) and the reply; at the
+-- end `ff` if whole or `f0`, then the held count (four hexadecimal digits)"). Assumes nothing.
+use Prim.Native.Nat.{ℕ, _+_, _*_, _/_, _%_}
+use mathlib.Core.Bool.{Bool}
+use mathlib.Core.List.{List, [], _∷_, _++_}
+use lib.Dec.{leb}
+use lib.ListN.{length}
+use lib.Seq.{sets}
+use Rattle.tree.specs.Pick.{pick}
+use Rattle.script.specs.Hex.{encoded}
+use Rattle.script.specs.Lines.{Placed, placed}
+
+-- An answer's line: the number and the reply.
+unfoldable pub answerLine : ℕ → List ℕ → List ℕ
+answerLine number reply = encoded (number ∷ reply) ++ 10 ∷ []
+
+-- The closing line: whole or not, and the held count.
+unfoldable pub closingLine : Bool → ℕ → List ℕ
+closingLine whole held = answerLine (pick whole 255 240) (held / 256 % 256 ∷ held % 256 ∷ [])
+
+-- Whether a line of a number and n bytes fits behind the first `at` bytes of a room.
+unfoldable pub fits : (room at n : ℕ) → Bool
+fits room at n = leb (at + (3 + 2 * n)) room
+
+-- Bytes added behind the first `at` of a room; a room that is too small for them stays.
+unfoldable pub appended : List ℕ → ℕ → List ℕ → Placed
+appended room at s = pick (leb (at + length s) (length room)) (placed (sets room at s) (at + length s)) (placed room at)

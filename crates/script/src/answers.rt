@@ -1,0 +1,62 @@
+// Lines that are written: to the end of what an output room holds, or not at all where the room is too small.
+ghost use mathlib.Core.Path.{_≡_};
+ghost use Prim.Native.Nat.{_+_, _*_, _≤_, min};
+ghost use lib.ListN.{length, take};
+ghost use lib.Seq.{sets};
+ghost use Rattle.script.specs.Lines.{placed};
+ghost use Rattle.script.specs.Answers.{fits, appended, answerLine, closingLine};
+use crate::hex;
+
+// Whether a line of a number and n bytes fits behind the first `at` bytes of a room.
+fn fits(room: usize, at: usize, n: usize) -> bool
+    ensures { λ r. ⌜ r ≡ fits room at n ⌝ }
+{
+    if room < at {
+        return false;
+    }
+    let left = room - at;
+    if left < 3 {
+        return false;
+    }
+    n <= (left - 3) / 2
+}
+
+fn least(a: usize, b: usize) -> usize
+    ensures { λ r. ⌜ r ≡ min a b ⌝ }
+{
+    if a < b { a } else { b }
+}
+
+// Puts an answer's line at a place of a room.
+fn put_line(room: &mut [u8], at: usize, number: u8, reply: &[u8])
+    requires { ⌜ at + (3 + 2 * length (now reply)) ≤ length (now room) ⌝ }
+    ensures { λ _. ⌜ now (room .exit) ≡ sets (now (room .entry)) at (answerLine number (now (reply .entry))) ⌝ }
+{
+    hex::encode_byte(number, room, at);
+    hex::encode(reply, room, at + 2);
+    room[at + 2 + 2 * reply.len()] = b'\n';
+}
+
+// Adds an answer's line behind the first `at` bytes of a room: the number, and the first `len` bytes of the reply room.
+// Where the lines end then.
+pub fn answer_line(room: &mut [u8], at: usize, number: u8, reply: &[u8], len: usize) -> usize
+    ensures { λ r. ⌜ placed (now (room .exit)) r ≡ appended (now (room .entry)) at (answerLine number (take len (now (reply .entry)))) ⌝ }
+{
+    let n = least(len, reply.len());
+    if fits(room.len(), at, n) {
+        put_line(room, at, number, &reply[..n]);
+        return at + (3 + 2 * n);
+    }
+    at
+}
+
+// Adds the closing line: whole or not, and the held count.
+pub fn closing_line(room: &mut [u8], at: usize, whole: bool, held: u32) -> usize
+    ensures { λ r. ⌜ placed (now (room .exit)) r ≡ appended (now (room .entry)) at (closingLine whole held) ⌝ }
+{
+    let count = [(held / 256 % 256) as u8, (held % 256) as u8];
+    if whole {
+        return answer_line(room, at, 0xff, &count, 2);
+    }
+    answer_line(room, at, 0xf0, &count, 2)
+}
