@@ -1,4 +1,4 @@
--- Laws of lines: where one ends, what is kept of it, and lines added to a room. Assumes nothing.
+-- Laws of lines: where the first ends, what is kept of it, and lines added to a room. Assumes nothing.
 use Prim.Native.Nat.{ℕ, zero, suc, _+_, _-_, _*_, _/_, _%_, _<_, _≤_, min}
 use native.Mathlib.Omega.{arith}
 use mathlib.Core.Path.{_≡_, refl, sym, ap, _∙_}
@@ -11,12 +11,12 @@ use borrow.Author.Tests.{lt-ltb, le-ltb, eq-eqb, ne-eqb, le-leb, lt-leb, leb-tru
 use Rattle.tree.specs.Pick.{pick}
 use Rattle.tree.proofs.PickLaws.{both-true}
 use Rattle.script.specs.Hex.{allDigits, decoded, digitFor, encoded}
-use Rattle.script.specs.Lines.{beforeFeed, lineEnd, Placed, placed, taken, kept}
+use Rattle.script.specs.Lines.{beforeFeed, Placed, placed, taken, kept}
 use Rattle.script.specs.Frames.{hasLength, isFrame, framed, frameSpec}
 use Rattle.script.specs.declared.frames.Frame.the-variants.{Bytes, Bad}
 use Rattle.script.specs.Answers.{answerLine, closingLine, fits, appended}
 
--- ---- where a line ends
+-- ---- the first line feed
 
 nothing : (s : List ℕ) (at : ℕ) → length s ≤ at → drop at s ≡ []
 nothing [] at h = drop-nil at
@@ -30,20 +30,20 @@ two : (n : ℕ) → n + 2 ≡ suc (suc n)
 two n = omega arith
 
 module _ (s : List ℕ) (at : ℕ) where
-  -- At the end, and past it.
-  pub end-here : length s ≤ at → at ≡ lineEnd s at
+  -- Nothing is left.
+  pub feed-none : length s ≤ at → at ≡ at + beforeFeed (drop at s)
   unfolding beforeFeed
-  end-here h = rw (nothing s at h) (omega arith)
+  feed-none h = rw (nothing s at h) (omega arith)
 
   -- At a line feed.
-  pub end-feed : at < length s → getD s at 0 ≡ 10 → at ≡ lineEnd s at
+  pub feed-here : at < length s → getD s at 0 ≡ 10 → at ≡ at + beforeFeed (drop at s)
   unfolding beforeFeed
-  end-feed h e = rw (drop-cons s at 0 h, eq-eqb (getD s at 0) 10 e) (omega arith)
+  feed-here h e = rw (drop-cons s at 0 h, eq-eqb (getD s at 0) 10 e) (omega arith)
 
-  -- Behind any other character.
-  pub end-on : at < length s → (getD s at 0 ≡ 10 → ⊥) → lineEnd s (at + 1) ≡ lineEnd s at
+  -- At any other character.
+  pub feed-on : at < length s → (getD s at 0 ≡ 10 → ⊥) → at + 1 + beforeFeed (drop (at + 1) s) ≡ at + beforeFeed (drop at s)
   unfolding beforeFeed
-  end-on h e = rw (drop-cons s at 0 h, ne-eqb (getD s at 0) 10 e, one at) (omega arith)
+  feed-on h e = rw (drop-cons s at 0 h, ne-eqb (getD s at 0) 10 e, one at) (omega arith)
 
 -- ---- what is kept of a line
 

@@ -1,8 +1,8 @@
 -- Lines in the blocks that input comes in (01: "A line ends at a line feed or at the end of input"). Assumes nothing.
-use Prim.Native.Nat.{ℕ, zero, suc, _+_, _-_}
+use Prim.Native.Nat.{ℕ, suc, _+_, _-_}
 use mathlib.Core.List.{List, [], _∷_}
 use lib.Dec.{eqb}
-use lib.ListN.{length, take, drop}
+use lib.ListN.{length, take}
 use lib.Seq.{sets}
 use Rattle.tree.specs.Pick.{pick}
 
@@ -18,10 +18,6 @@ placed room used = record { room = room; used = used }
 unfoldable pub beforeFeed : List ℕ → ℕ
 beforeFeed [] = 0
 beforeFeed (c ∷ s) = pick (eqb c 10) 0 (suc (beforeFeed s))
-
--- Where the line that runs at a place ends: at the next line feed, or at the end.
-abbrev pub lineEnd : List ℕ → ℕ → ℕ
-lineEnd block from = from + beforeFeed (drop from block)
 
 -- What a room takes of a part behind its first `len` bytes.
 abbrev pub taken : List ℕ → ℕ → List ℕ → List ℕ

@@ -1,11 +1,12 @@
 // Lines that are written: to the end of what an output room holds, or not at all where the room is too small.
 ghost use mathlib.Core.Path.{_≡_};
-ghost use Prim.Native.Nat.{_+_, _*_, _≤_, min};
+ghost use Prim.Native.Nat.{_+_, _*_, _≤_};
 ghost use lib.ListN.{length, take};
 ghost use lib.Seq.{sets};
 ghost use Rattle.script.specs.Lines.{placed};
 ghost use Rattle.script.specs.Answers.{fits, appended, answerLine, closingLine};
 use crate::hex;
+use crate::lines;
 
 // Whether a line of a number and n bytes fits behind the first `at` bytes of a room.
 fn fits(room: usize, at: usize, n: usize) -> bool
@@ -19,12 +20,6 @@ fn fits(room: usize, at: usize, n: usize) -> bool
         return false;
     }
     n <= (left - 3) / 2
-}
-
-fn least(a: usize, b: usize) -> usize
-    ensures { λ r. ⌜ r ≡ min a b ⌝ }
-{
-    if a < b { a } else { b }
 }
 
 // Puts an answer's line at a place of a room.
@@ -42,7 +37,7 @@ fn put_line(room: &mut [u8], at: usize, number: u8, reply: &[u8])
 pub fn answer_line(room: &mut [u8], at: usize, number: u8, reply: &[u8], len: usize) -> usize
     ensures { λ r. ⌜ placed (now (room .exit)) r ≡ appended (now (room .entry)) at (answerLine number (take len (now (reply .entry)))) ⌝ }
 {
-    let n = least(len, reply.len());
+    let n = lines::least(len, reply.len());
     if fits(room.len(), at, n) {
         put_line(room, at, number, &reply[..n]);
         return at + (3 + 2 * n);

@@ -1,12 +1,13 @@
 // Lines in the blocks that input comes in.
 ghost use mathlib.Core.Path.{_≡_};
-ghost use Rattle.script.specs.Lines.{placed, lineEnd, kept};
+ghost use Prim.Native.Nat.{min};
+ghost use Rattle.script.specs.Lines.{placed, beforeFeed, kept};
 
-// Where the line that runs at a place of a block ends: at the next line feed, or at the block's end.
-pub fn line_end(block: &[u8], from: usize) -> usize
-    ensures { λ r. ⌜ r ≡ lineEnd (now (block .entry)) from ⌝ }
+// How many characters stand before the first line feed, all where there is none.
+pub fn before_feed(block: &[u8]) -> usize
+    ensures { λ r. ⌜ r ≡ beforeFeed (now (block .entry)) ⌝ }
 {
-    let mut at = from;
+    let mut at: usize = 0;
     while at < block.len() {
         if block[at] == b'\n' {
             return at;
@@ -32,4 +33,11 @@ pub fn keep(room: &mut [u8], len: usize, part: &[u8]) -> usize
         at += 1;
     }
     at
+}
+
+// The lesser of two lengths.
+pub fn least(a: usize, b: usize) -> usize
+    ensures { λ r. ⌜ r ≡ min a b ⌝ }
+{
+    if a < b { a } else { b }
 }
