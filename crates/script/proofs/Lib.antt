@@ -1,4 +1,5 @@
 -- What the proofs of several functions cite.
 pub mod HexLaws
+pub mod FrameLaws
 pub mod LineLaws
 pub mod Promise

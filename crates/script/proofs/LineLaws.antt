@@ -6,14 +6,11 @@ use mathlib.Core.List.{List, [], _∷_, _++_}
 use mathlib.Core.Bool.{Bool, true, false}
 use lib.ListN.{length, getD, set, take, drop, length-set, length-append, length-take}
 use lib.Seq.{sets, drop-cons, drop-nil, take-nil, length-sets, length-take-le}
-use lib.Dec.{leb, eqb}
-use borrow.Author.Tests.{lt-ltb, le-ltb, eq-eqb, ne-eqb, le-leb, lt-leb, leb-true, leb-false}
+use lib.Dec.{leb}
+use borrow.Author.Tests.{eq-eqb, ne-eqb, le-leb, lt-leb, leb-true, leb-false}
 use Rattle.tree.specs.Pick.{pick}
-use Rattle.tree.proofs.PickLaws.{both-true}
-use Rattle.script.specs.Hex.{allDigits, decoded, digitFor, encoded}
+use Rattle.script.specs.Hex.{encoded}
 use Rattle.script.specs.Lines.{beforeFeed, Placed, placed, taken, kept}
-use Rattle.script.specs.Frames.{hasLength, isFrame, framed, frameSpec}
-use Rattle.script.specs.declared.frames.Frame.the-variants.{Bytes, Bad}
 use Rattle.script.specs.Answers.{answerLine, closingLine, fits, appended}
 
 -- ---- the first line feed
@@ -79,21 +76,6 @@ module _ (r room : List ℕ) (at : ℕ) where
       empty [] h = refl
       empty (c ∷ s) h = absurd (omega arith)
 
--- ---- a line's length
-
-module _ (least most n : ℕ) where
-  pub too-short : n < least → false ≡ hasLength least most n
-  unfolding hasLength
-  too-short h = rw (lt-ltb n least h)
-
-  pub too-long : least ≤ n → most < n → false ≡ hasLength least most n
-  unfolding hasLength
-  too-long h k = rw (le-ltb n least h, lt-ltb most n k)
-
-  pub in-limits : least ≤ n → n ≤ most → eqb (n % 2) 0 ≡ hasLength least most n
-  unfolding hasLength
-  in-limits h k = rw (le-ltb n least h, le-ltb most n k)
-
 -- ---- lines added to a room
 
 -- A line as long as its digits and the line feed.
@@ -138,7 +120,7 @@ unfolding answerLine encoded
 put-answer room at n s e f = rw (f, e, two at, ← length-encoded s) (sets-behind _ (suc (suc at)) (encoded s) 10)
 
 -- The first elements of a list, counted.
-take-least : (len : ℕ) (l : List ℕ) → take (min len (length l)) l ≡ take len l
+pub take-least : (len : ℕ) (l : List ℕ) → take (min len (length l)) l ≡ take len l
 take-least zero l = rw (zero-min (length l))
   where
     zero-min : (n : ℕ) → min 0 n ≡ 0
@@ -167,36 +149,6 @@ module _ (room : List ℕ) (at number n len : ℕ) (reply : List ℕ) (e : n ≡
   pub line-not : fits (length room) at n ≡ false → placed room at ≡ appended room at (answerLine number (take len reply))
   unfolding appended fits
   line-not f = rw (length-line number (take len reply), length-take len reply, ← e, f)
-
--- ---- frames
-
-module _ (least most : ℕ) (line : List ℕ) where
-  -- A line of another length is none; one of a good length is by its characters.
-  pub other-length : hasLength least most (length line) ≡ false → false ≡ isFrame least most line
-  unfolding isFrame
-  other-length e = rw e
-
-  pub by-characters : hasLength least most (length line) ≡ true → allDigits line ≡ isFrame least most line
-  unfolding isFrame
-  by-characters e = rw e
-
-  pub frame-digits : isFrame least most line ≡ true → allDigits line ≡ true
-  unfolding isFrame
-  frame-digits e = both-true (hasLength least most (length line)) (allDigits line) e .1
-
-  module _ (room : List ℕ) where
-    pub no-frame : isFrame least most line ≡ false → framed Bad room ≡ frameSpec least most line room
-    unfolding frameSpec
-    no-frame e = rw e
-
-    pub no-room : isFrame least most line ≡ true → length room < length line / 2 → framed Bad room ≡ frameSpec least most line room
-    unfolding frameSpec
-    no-room e h = rw (e, lt-leb (length line / 2) (length room) h)
-
-    pub a-frame : isFrame least most line ≡ true → length line / 2 ≤ length room
-        → framed (Bytes (length line / 2)) (sets room 0 (decoded line)) ≡ frameSpec least most line room
-    unfolding frameSpec
-    a-frame e h = rw (e, le-leb (length line / 2) (length room) h)
 
 -- ---- the closing line
 

@@ -1,5 +1,27 @@
--- What the programs above know of this crate: its definitions, passed on. Assumes nothing.
+-- What the programs above know of this crate: its definitions, passed on, and what a frame that was read means. Assumes
+-- nothing.
+use mathlib.Core.Path.{_≡_}
+use mathlib.Core.Bool.{true, false}
+use mathlib.Core.List.{List}
+use Prim.Native.Nat.{ℕ, _/_, _≤_, min}
+use lib.ListN.{length, take}
+use Rattle.script.specs.declared.frames.Frame.the-variants.{Bytes, Bad}
+use Rattle.script.proofs.FrameLaws as frames
+use Rattle.script.proofs.LineLaws as lines
 pub use Rattle.script.specs.Hex.{digitOf, digitFor, allDigits, decoded, encoded}
 pub use Rattle.script.specs.Lines.{Placed, placed, beforeFeed, taken, kept}
 pub use Rattle.script.specs.Frames.{hasLength, isFrame, Framed, framed, frameSpec}
 pub use Rattle.script.specs.Answers.{answerLine, closingLine, appended}
+
+-- In a room for the longest line, bytes are those of a frame, at the front of the room; else the room is as it was.
+module _ (least most : ℕ) (line room : List ℕ) (wide : most / 2 ≤ length room) {left : List ℕ} where
+  pub bytes-mean : {len : ℕ} → framed (Bytes len) left ≡ frameSpec least most line room
+      → (isFrame least most line ≡ true) × (least / 2 ≤ len) × (len ≤ length left) × (take len left ≡ decoded line)
+  bytes-mean = frames.bytes-mean least most line room wide
+
+  pub bad-means : framed Bad left ≡ frameSpec least most line room → (isFrame least most line ≡ false) × (left ≡ room)
+  bad-means = frames.bad-means least most line room wide
+
+-- The first elements of a list, counted.
+pub take-least : (len : ℕ) (l : List ℕ) → take (min len (length l)) l ≡ take len l
+take-least = lines.take-least

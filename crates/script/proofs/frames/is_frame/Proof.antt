@@ -1,5 +1,5 @@
 use mathlib.Core.Path.{_≡_, refl, sym, _∙_}
-use Rattle.script.proofs.LineLaws.{by-characters, other-length}
+use Rattle.script.proofs.FrameLaws.{by-characters, other-length}
 use borrow.Author.Needs.{needs}
 use Rattle.script.proofs.frames.is_frame.Statement.{statement}
 use Rattle.script.proofs.frames.is_frame.Tie as tie

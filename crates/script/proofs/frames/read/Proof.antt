@@ -1,6 +1,6 @@
 use native.Mathlib.Omega.{arith}
 use mathlib.Core.Path.{_≡_, refl, sym, _∙_}
-use Rattle.script.proofs.LineLaws.{frame-digits, no-frame, no-room, a-frame}
+use Rattle.script.proofs.FrameLaws.{frame-digits, no-frame, no-room, a-frame}
 use borrow.Author.Needs.{needs}
 use Rattle.script.proofs.frames.read.Statement.{statement}
 use Rattle.script.proofs.frames.read.Tie as tie
