@@ -9,6 +9,8 @@ pub mod answer;
 pub mod channel;
 mod climb;
 pub mod hex;
+pub mod packets;
+pub mod replay;
 pub mod sha256;
 pub mod store;
 pub mod tree;

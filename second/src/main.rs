@@ -2,7 +2,7 @@
 
 #![forbid(unsafe_code)]
 
-use second::{hex, sha256::Sha256, tree_vectors, vectors, wire_vectors};
+use second::{hex, replay, sha256::Sha256, tree_vectors, vectors, wire_vectors};
 use std::io::{self, BufWriter, ErrorKind, Read, Write};
 use std::process::ExitCode;
 
@@ -14,7 +14,8 @@ usage: second COMMAND
   wire-frames      read hand-made datagrams from standard input, and write each
                    behind its length in two bytes
   wire-vectors     read them, and print what each holds and how writing it again
-                   goes; fail if a number made by hand is not the program's";
+                   goes; fail if a number made by hand is not the program's
+  replay           answer the order and the datagrams in standard input";
 
 fn main() -> ExitCode {
     let arguments: Vec<_> = std::env::args_os().skip(1).collect();
@@ -28,6 +29,7 @@ fn main() -> ExitCode {
         Some("tree-vectors") => tree_vectors(),
         Some("wire-frames") => wire_frames(),
         Some("wire-vectors") => wire_vectors(),
+        Some("replay") => replay_input(),
         _ => {
             eprintln!("{USAGE}");
             return ExitCode::from(2);
@@ -84,6 +86,12 @@ fn wire_vectors() -> io::Result<()> {
     let all = hand_made_input()?;
     let mut output = BufWriter::new(io::stdout().lock());
     wire_vectors::write_vectors(&mut output, &all)
+}
+
+fn replay_input() -> io::Result<()> {
+    let mut output = BufWriter::new(io::stdout().lock());
+    replay::replay(io::stdin().lock(), &mut output)?;
+    output.flush()
 }
 
 fn hand_made_input() -> io::Result<Vec<wire_vectors::HandMade>> {

@@ -7,7 +7,6 @@ mod chunks;
 mod handshakes;
 mod layouts;
 mod opening;
-mod packets;
 mod plain;
 mod ranges;
 mod sessions;
@@ -15,9 +14,9 @@ mod starting;
 mod writing;
 
 use super::*;
+use crate::packets::*;
 use crate::store::plain::hash;
 use crate::tree;
-use packets::*;
 
 /// The length of the pack that RFC 7574 draws: seven chunks, the last of 1,018
 /// bytes.

@@ -6,9 +6,9 @@ mod taking;
 
 pub use taking::take;
 
-use super::packets::*;
 use super::{is_set, Caller};
 use crate::channel::{Phase, Row, State};
+use crate::packets::*;
 use crate::sha256::Digest;
 use crate::store::plain;
 
