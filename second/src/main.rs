@@ -2,7 +2,8 @@
 
 #![forbid(unsafe_code)]
 
-use second::{hex, replay, sha256::Sha256, tree_vectors, vectors, wire_vectors};
+use second::sha256::Sha256;
+use second::{hex, replay, traces, tree_vectors, vectors, wire_vectors};
 use std::io::{self, BufWriter, ErrorKind, Read, Write};
 use std::process::ExitCode;
 
@@ -15,21 +16,20 @@ usage: second COMMAND
                    behind its length in two bytes
   wire-vectors     read them, and print what each holds and how writing it again
                    goes; fail if a number made by hand is not the program's
-  replay           answer the order and the datagrams in standard input";
+  replay           answer the order and the datagrams in standard input
+  trace SEED       print a random input for replay, the same for a seed";
 
 fn main() -> ExitCode {
-    let arguments: Vec<_> = std::env::args_os().skip(1).collect();
-    let command = match arguments.as_slice() {
-        [command] => command.to_str(),
-        _ => None,
-    };
-    let outcome = match command {
-        Some("sha256-vectors") => sha256_vectors(),
-        Some("sha256") => sha256_of_input(),
-        Some("tree-vectors") => tree_vectors(),
-        Some("wire-frames") => wire_frames(),
-        Some("wire-vectors") => wire_vectors(),
-        Some("replay") => replay_input(),
+    let arguments: Vec<_> = std::env::args().skip(1).collect();
+    let arguments: Vec<_> = arguments.iter().map(String::as_str).collect();
+    let outcome = match arguments[..] {
+        ["sha256-vectors"] => sha256_vectors(),
+        ["sha256"] => sha256_of_input(),
+        ["tree-vectors"] => tree_vectors(),
+        ["wire-frames"] => wire_frames(),
+        ["wire-vectors"] => wire_vectors(),
+        ["replay"] => replay_input(),
+        ["trace", seed] => trace(seed),
         _ => {
             eprintln!("{USAGE}");
             return ExitCode::from(2);
@@ -92,6 +92,19 @@ fn replay_input() -> io::Result<()> {
     let mut output = BufWriter::new(io::stdout().lock());
     replay::replay(io::stdin().lock(), &mut output)?;
     output.flush()
+}
+
+fn trace(seed: &str) -> io::Result<()> {
+    let trace = traces::generate(number(seed)?);
+    let mut output = io::stdout().lock();
+    output.write_all(&trace)?;
+    output.flush()
+}
+
+/// The number that an argument stands for.
+fn number(argument: &str) -> io::Result<u64> {
+    let number = argument.parse();
+    number.map_err(|_| io::Error::other(format!("{argument}: not a number")))
 }
 
 fn hand_made_input() -> io::Result<Vec<wire_vectors::HandMade>> {

@@ -20,14 +20,14 @@
 //! room for, and in half of the cases DATA behind them.
 
 mod messages;
-pub(crate) mod parts;
+mod parts;
 #[cfg(test)]
 mod tests;
 
 pub use messages::messages;
 
+use crate::random::Random;
 use crate::wire::{MAX_SIZE, MIN_SIZE};
-use parts::Random;
 
 /// The most bytes of a datagram made here.
 pub const LONGEST: usize = MAX_SIZE + 12;

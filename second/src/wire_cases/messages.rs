@@ -1,6 +1,6 @@
 //! Messages to be added, with the source slices of their bytes.
 
-use super::parts::Random;
+use crate::random::Random;
 use crate::wire::{Message, Options, HASH_SIZE};
 
 /// The first `count` messages of a seed, each with the slice of its bytes.

@@ -1,27 +1,9 @@
-//! Random numbers, and the parts of datagrams made of them. The bytes are put
-//! together here and not by `wire`, which they are to try.
+//! The parts of datagrams, made of random numbers. The bytes are put together
+//! here and not by `wire`, which they are to try.
 
-/// SplitMix64.
-pub struct Random(u64);
+use crate::random::Random;
 
 impl Random {
-    pub fn new(seed: u64) -> Random {
-        Random(seed)
-    }
-
-    pub fn next(&mut self) -> u64 {
-        self.0 = self.0.wrapping_add(0x9e37_79b9_7f4a_7c15);
-        let mut z = self.0;
-        z = (z ^ z >> 30).wrapping_mul(0xbf58_476d_1ce4_e5b9);
-        z = (z ^ z >> 27).wrapping_mul(0x94d0_49bb_1331_11eb);
-        z ^ z >> 31
-    }
-
-    /// A number below `bound`, which is not 0.
-    pub fn below(&mut self, bound: usize) -> usize {
-        (self.next() % bound as u64) as usize
-    }
-
     /// A chunk or channel number: small, at a border, or any.
     pub fn number(&mut self) -> u32 {
         const BORDERS: [u32; 8] = [
@@ -39,15 +21,6 @@ impl Random {
             3 | 4 => self.below(512) as u32,
             5 => BORDERS[self.below(BORDERS.len())],
             _ => self.next() as u32,
-        }
-    }
-
-    /// A clock or delay.
-    pub fn time(&mut self) -> u64 {
-        match self.below(4) {
-            0 => self.below(1_000_000) as u64,
-            1 => [0, 1, u64::MAX - 1, u64::MAX][self.below(4)],
-            _ => self.next(),
         }
     }
 
@@ -69,12 +42,6 @@ impl Random {
         };
         let low = ((1u64 << height) - 1) as u32;
         (chunk & !low, chunk | low)
-    }
-
-    pub fn bytes(&mut self, len: usize) -> Vec<u8> {
-        std::iter::repeat_with(|| self.next() as u8)
-            .take(len)
-            .collect()
     }
 
     /// A chunk's length: none, few, full or any up to the limit.

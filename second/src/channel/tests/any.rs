@@ -4,8 +4,8 @@
 mod made;
 
 use super::*;
+use crate::random::Random;
 use crate::wire_cases::datagrams;
-use crate::wire_cases::parts::Random;
 
 /// Orders whose rows have one word or two, with whole and short last chunks.
 const LENGTHS: [u32; 10] = [
