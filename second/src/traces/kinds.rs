@@ -205,6 +205,15 @@ impl Kind {
         LeafForged,
     ];
 
+    /// Faults with a needed hash.
+    pub const NEEDING: [Kind; 5] = [
+        PeakMissing,
+        SiblingMissing,
+        HashDamaged,
+        Both(8, 9),
+        Both(9, 10),
+    ];
+
     /// Lines that are no frames.
     pub const LINES: [Kind; 6] = [
         BadCharacter,

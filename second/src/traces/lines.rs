@@ -87,17 +87,19 @@ impl Maker {
         }
     }
 
-    /// Another character in place of a digit, or before or behind all.
+    /// Another character in place of a digit, or anywhere among them.
     fn with_no_digit(&mut self, mut line: Vec<u8>) -> Vec<u8> {
-        let character = self.random.one_of(NO_DIGITS);
+        let character = match self.random.below(3) {
+            0 => self.random.one_of(b"\0\r "),
+            _ => self.random.one_of(NO_DIGITS),
+        };
+        let place = self.random.below(line.len() + 1);
         match self.random.below(6) {
             0 => line.push(character),
             1 => line.insert(0, character),
-            2 => line.splice(0..0, *b"0x").for_each(drop),
-            _ => {
-                let place = self.random.below(line.len());
-                line[place] = character;
-            }
+            2 => line.insert(place, character),
+            3 => line.splice(0..0, *b"0x").for_each(drop),
+            _ => line[place.saturating_sub(1)] = character,
         }
         line
     }

@@ -132,6 +132,11 @@ impl Maker {
         for _ in 0..open {
             self.add(Kind::Opening);
         }
+        // Before the first chunk is taken, every hash is needed.
+        while self.random.one_in(3) {
+            let kind = self.random.one_of(&Kind::NEEDING);
+            self.add(kind);
+        }
         let count = 8 + self.random.below(32 + self.pack.count() as usize);
         for _ in 0..count {
             self.add_any();
@@ -176,6 +181,8 @@ impl Maker {
                 .random
                 .one_of(&[Kind::Keepalive, Kind::Plain, Kind::Plain]),
             Group::Handshake => self.handshake_kind(),
+            // A hash is needed only while few chunks are held.
+            Group::Fault if self.random.one_in(4) => self.random.one_of(&Kind::NEEDING),
             Group::Fault => self.random.one_of(&Kind::FAULTS),
             Group::Pair => {
                 let (first, second) = self.random.one_of(&PAIRS);

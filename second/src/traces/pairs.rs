@@ -17,41 +17,32 @@ impl Maker {
                 let messages = self.any_fault_in_layout();
                 Some(to(self.random.one_of(&[0, unknown]), &[&messages]))
             }
-            (2, _) => {
-                let (id, _) = self.channel()?;
-                let fault = self.any_fault_in_layout();
-                let later = self.later(second)?;
-                Some(match second {
-                    7 => to(id, &[&self.range_past(), &CHOKE, &fault]),
-                    _ => to(id, &[&fault, &later]),
-                })
-            }
             (3, 5) => self.misplaced_to_no_row(),
-            (3, _) => {
-                let (id, peer) = self.channel()?;
-                let good = handshake(peer, &self.fixed());
-                let later = self.later(second)?;
-                Some(match self.random.below(2) {
-                    0 if second == 7 => to(id, &[&self.range_past(), &good]),
-                    _ => to(id, &[&good, &later]),
-                })
-            }
             (5, _) => self.to_no_row(second),
-            (7, _) => {
-                let (id, _) = self.channel()?;
-                let later = self.later(second)?;
-                let past = match self.random.below(2) {
-                    0 => self.range_past(),
-                    _ => self.node_past(),
-                };
-                Some(to(id, &[&past, &later]))
-            }
+            (2 | 3 | 7, _) => self.two_on_a_channel(first, second),
             _ => {
                 let sent = self.two_in_a_chunk(first, second)?;
                 let messages = self.assembled(sent);
                 Some(to(self.channel()?.0, &[&messages]))
             }
         }
+    }
+
+    /// A fault refused with 2, 3 or 7, and messages refused with a later number
+    /// behind it; 7 may stand before 2 or 3.
+    fn two_on_a_channel(&mut self, first: u8, second: u8) -> Option<Vec<u8>> {
+        let (id, peer) = self.channel()?;
+        let fault = match first {
+            2 => self.any_fault_in_layout(),
+            3 => handshake(peer, &self.fixed()),
+            _ if self.random.one_in(2) => self.node_past(),
+            _ => self.range_past(),
+        };
+        let later = self.later(second)?;
+        if second == 7 && self.random.one_in(2) {
+            return Some(to(id, &[&later, &CHOKE, &fault]));
+        }
+        Some(to(id, &[&fault, &later]))
     }
 
     /// Messages refused with 7, 8, 9 or 10 and no earlier number.
