@@ -9,6 +9,7 @@ pub mod answer;
 pub mod channel;
 mod climb;
 pub mod hex;
+pub mod named_traces;
 pub mod packets;
 mod random;
 pub mod replay;

@@ -3,7 +3,7 @@
 #![forbid(unsafe_code)]
 
 use second::sha256::Sha256;
-use second::{hex, replay, traces, tree_vectors, vectors, wire_vectors};
+use second::{hex, named_traces, replay, traces, tree_vectors, vectors, wire_vectors};
 use std::io::{self, BufWriter, ErrorKind, Read, Write};
 use std::process::ExitCode;
 
@@ -17,7 +17,10 @@ usage: second COMMAND
   wire-vectors     read them, and print what each holds and how writing it again
                    goes; fail if a number made by hand is not the program's
   replay           answer the order and the datagrams in standard input
-  trace SEED       print a random input for replay, the same for a seed";
+  trace SEED       print a random input for replay, the same for a seed
+  named-traces DIR
+                   write the inputs of the named traces there, each to NAME.hex,
+                   and print a line about each";
 
 fn main() -> ExitCode {
     let arguments: Vec<_> = std::env::args().skip(1).collect();
@@ -30,6 +33,7 @@ fn main() -> ExitCode {
         ["wire-vectors"] => wire_vectors(),
         ["replay"] => replay_input(),
         ["trace", seed] => trace(seed),
+        ["named-traces", directory] => named_traces(directory),
         _ => {
             eprintln!("{USAGE}");
             return ExitCode::from(2);
@@ -99,6 +103,13 @@ fn trace(seed: &str) -> io::Result<()> {
     let mut output = io::stdout().lock();
     output.write_all(&trace)?;
     output.flush()
+}
+
+fn named_traces(directory: &str) -> io::Result<()> {
+    named_traces::write_inputs(directory.as_ref())?;
+    io::stdout()
+        .lock()
+        .write_all(named_traces::table().as_bytes())
 }
 
 /// The number that an argument stands for.

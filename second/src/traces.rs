@@ -16,7 +16,7 @@ mod layouts;
 mod lines;
 mod maker;
 mod mutated;
-mod pack;
+pub(crate) mod pack;
 mod pairs;
 mod plain;
 #[cfg(test)]
