@@ -19,23 +19,39 @@ pub fn append(digits: &mut Vec<u8>, bytes: &[u8]) {
 }
 
 /// Puts the bytes of digits of either case behind what is there. None if their
-/// number is odd or one is another character; some may then be there.
+/// number is odd or one is another character; what is put there then is of no
+/// use.
 pub fn decode(digits: &[u8], bytes: &mut Vec<u8>) -> Option<()> {
     let (pairs, rest) = digits.as_chunks();
-    for &[high, low] in pairs {
-        bytes.push(value(high)? << 4 | value(low)?);
-    }
-    rest.is_empty().then_some(())
+    // Without a way out of the loop: nearly always all are digits.
+    let mut all = 0;
+    bytes.extend(pairs.iter().map(|&[high, low]| {
+        let (high, low) = (VALUES[usize::from(high)], VALUES[usize::from(low)]);
+        all |= high | low;
+        high << 4 | low
+    }));
+    (all < NO_DIGIT && rest.is_empty()).then_some(())
 }
 
-/// What a digit stands for.
-fn value(digit: u8) -> Option<u8> {
-    match digit {
-        b'0'..=b'9' => Some(digit - b'0'),
-        b'a'..=b'f' => Some(digit - b'a' + 10),
-        b'A'..=b'F' => Some(digit - b'A' + 10),
-        _ => None,
+/// Above the value of any digit, and of any digits put together by `or`.
+const NO_DIGIT: u8 = 0x10;
+
+/// What each character stands for.
+static VALUES: [u8; 256] = values();
+
+const fn values() -> [u8; 256] {
+    let mut values = [NO_DIGIT; 256];
+    let mut digit = 0;
+    while digit < 10 {
+        values[b'0' as usize + digit] = digit as u8;
+        digit += 1;
     }
+    while digit < 16 {
+        values[b'a' as usize + digit - 10] = digit as u8;
+        values[b'A' as usize + digit - 10] = digit as u8;
+        digit += 1;
+    }
+    values
 }
 
 #[cfg(test)]

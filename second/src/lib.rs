@@ -6,6 +6,7 @@
 #![forbid(unsafe_code)]
 
 pub mod answer;
+pub mod bulk;
 pub mod channel;
 mod climb;
 pub mod hex;

@@ -3,7 +3,7 @@
 #![forbid(unsafe_code)]
 
 use second::sha256::Sha256;
-use second::{hex, named_traces, replay, traces, tree_vectors, vectors, wire_vectors};
+use second::{bulk, hex, named_traces, replay, traces, tree_vectors, vectors, wire_vectors};
 use std::io::{self, BufWriter, ErrorKind, Read, Write};
 use std::process::ExitCode;
 
@@ -18,6 +18,10 @@ usage: second COMMAND
                    goes; fail if a number made by hand is not the program's
   replay           answer the order and the datagrams in standard input
   trace SEED       print a random input for replay, the same for a seed
+  trace-bulk KIND MEGABYTES
+                   print an input of at least so many million bytes; of KIND
+                   layout, every datagram has 2,048 bytes and is refused with 2
+                   at its end; of KIND taken, every one has a chunk and is taken
   named-traces DIR
                    write the inputs of the named traces there, each to NAME.hex,
                    and print a line about each";
@@ -33,6 +37,7 @@ fn main() -> ExitCode {
         ["wire-vectors"] => wire_vectors(),
         ["replay"] => replay_input(),
         ["trace", seed] => trace(seed),
+        ["trace-bulk", kind, megabytes] => trace_bulk(kind, megabytes),
         ["named-traces", directory] => named_traces(directory),
         _ => {
             eprintln!("{USAGE}");
@@ -103,6 +108,13 @@ fn trace(seed: &str) -> io::Result<()> {
     let mut output = io::stdout().lock();
     output.write_all(&trace)?;
     output.flush()
+}
+
+fn trace_bulk(kind: &str, megabytes: &str) -> io::Result<()> {
+    let kind = bulk::Kind::named(kind)
+        .ok_or_else(|| io::Error::other(format!("{kind}: neither layout nor taken")))?;
+    let bytes = number(megabytes)?.saturating_mul(1_000_000);
+    bulk::write(kind, bytes, BufWriter::new(io::stdout().lock()))
 }
 
 fn named_traces(directory: &str) -> io::Result<()> {
