@@ -155,8 +155,13 @@ fn alone() -> Named {
     script.stored(0, &[3, 5, 9, 2, 12]);
     script.take(0, 1, &[&wrong(2)]);
     script.stored(1, &[]);
+    // The leaves of chunks 5 and 4.
+    let leaf = script.hashes(&[10]);
+    script.take(0, 1, &[&leaf, &wrong(8)]);
+    script.refused(9, 5, &[]);
+    script.stored(4, &[10]);
     script.named(
-        "f00002",
+        "f00003",
         "hashes-alone",
         "hashes of an earlier datagram are not kept, right or wrong (105)",
         "INTEGRITY without DATA has no effect",

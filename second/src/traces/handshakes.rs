@@ -187,6 +187,8 @@ impl Maker {
         match kind {
             Kind::UnknownOption => {
                 let code = 10 + self.random.below(245) as u8;
+                // Also right before End.
+                let place = self.random.below(choices.len() + 1);
                 choices.insert(place, (code, vec![0]));
             }
             Kind::OptionOrder if self.random.one_in(2) => choices.swap(place, place + 1),

@@ -67,7 +67,7 @@ impl Maker {
     fn refused_type(&mut self) -> u8 {
         match self.random.below(3) {
             0 => self.random.one_of(&[5, 6, 7]),
-            1 => self.random.one_of(&[12, 13, 127, 128, 254, 255]),
+            1 => self.random.one_of(&[12, 12, 13, 128, 254, 255]),
             _ => 12 + self.random.below(244) as u8,
         }
     }

@@ -147,7 +147,7 @@ impl Maker {
             1 => order(&root, 0).into(),
             2 => order(&root, MOST_LENGTH + 1).into(),
             3 => {
-                let over = self.random.next() as u32 | MOST_LENGTH + 1;
+                let over = self.random.next() as u32 | (MOST_LENGTH + 1);
                 order(&root, over).into()
             }
             4 => self.digits(1, 71),

@@ -18,7 +18,7 @@ impl Maker {
                 Some(to(self.random.one_of(&[0, unknown]), &[&messages]))
             }
             (3, 5) => self.misplaced_to_no_row(),
-            (5, _) => self.to_no_row(second),
+            (5, _) => self.no_row_then(second),
             (2 | 3 | 7, _) => self.two_on_a_channel(first, second),
             _ => {
                 let sent = self.two_in_a_chunk(first, second)?;
@@ -145,7 +145,7 @@ impl Maker {
     }
 
     /// A datagram to no row that merits a later number besides.
-    fn to_no_row(&mut self, second: u8) -> Option<Vec<u8>> {
+    fn no_row_then(&mut self, second: u8) -> Option<Vec<u8>> {
         let unknown = self.unknown();
         let source = self.source();
         match second {
