@@ -4,18 +4,18 @@ use super::script::*;
 use super::Named;
 
 pub fn traces() -> Vec<Named> {
+    [behind_an_order(), behind_a_datagram()]
+        .into_iter()
+        .flatten()
+        .collect()
+}
+
+fn behind_an_order() -> Vec<Named> {
     let mut bare = Script::new(abc());
     bare.drop_line_feed();
     let mut only = Script::new(abc());
     only.line("", "0f");
     only.line("", "0f");
-    let mut without = Script::opened(abc());
-    without.drop_line_feed();
-    let mut bad = Script::opened(abc());
-    bad.line("0", "0f");
-    bad.drop_line_feed();
-    let mut two = Script::opened(abc());
-    two.line("", "0f");
     vec![
         named(
             bare,
@@ -28,8 +28,21 @@ pub fn traces() -> Vec<Named> {
             "an order alone, with line feed (9)",
         ),
         named(only, "line-feeds-alone", "an order and two empty lines"),
+    ]
+}
+
+fn behind_a_datagram() -> Vec<Named> {
+    let last = Script::opened(abc());
+    let mut without = Script::opened(abc());
+    without.drop_line_feed();
+    let mut bad = Script::opened(abc());
+    bad.line("0", "0f");
+    bad.drop_line_feed();
+    let mut two = Script::opened(abc());
+    two.line("", "0f");
+    vec![
         named(
-            Script::opened(abc()),
+            last,
             "line-feed-at-end",
             "no line behind the last line feed (9)",
         ),

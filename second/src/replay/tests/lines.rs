@@ -20,10 +20,9 @@ f00000
     assert_eq!(wanted.lines().next().unwrap().len(), 122);
 }
 
-#[test]
-fn a_first_line_that_is_missing_or_bad() {
+/// First lines that are no orders.
+fn bad_orders() -> Vec<Vec<u8>> {
     let good = format!("{ABC}00000003");
-    let rest = opening(7);
     let mut bad: Vec<Vec<u8>> = vec![
         // 1: no input. An empty first line is no better.
         vec![],
@@ -55,11 +54,16 @@ fn a_first_line_that_is_missing_or_bad() {
             bad.push(line);
         }
     }
-    for line in bad {
+    bad
+}
+
+#[test]
+fn a_first_line_that_is_missing_or_bad() {
+    for line in bad_orders() {
         assert_eq!(answer(&line), "0c\n");
         if !line.is_empty() {
             // 6
-            let all = [&line[..], b"\n", rest.as_bytes()].concat();
+            let all = [&line[..], b"\n", opening(7).as_bytes()].concat();
             assert_eq!(answer(&all), "0c\n");
         }
     }
