@@ -6,7 +6,7 @@ use mathlib.Core.List.{List, [], _∷_, _++_}
 use mathlib.Core.Bool.{Bool, true, false}
 use lib.ListN.{length, getD, set, take, drop, length-set, length-append, length-take}
 use lib.Seq.{sets, drop-cons, drop-nil, take-nil, length-sets, length-take-le}
-use lib.Dec.{leb}
+use lib.Dec.{leb, eqb}
 use borrow.Author.Tests.{eq-eqb, ne-eqb, le-leb, lt-leb, leb-true, leb-false}
 use Rattle.tree.specs.Pick.{pick}
 use Rattle.script.specs.Hex.{encoded}
@@ -42,6 +42,15 @@ module _ (s : List ℕ) (at : ℕ) where
   unfolding beforeFeed
   feed-on h e = rw (drop-cons s at 0 h, ne-eqb (getD s at 0) 10 e, one at) (omega arith)
 
+pub feed-bound : (s : List ℕ) → beforeFeed s ≤ length s
+unfolding beforeFeed
+feed-bound [] = omega arith
+feed-bound (c ∷ s) = go (eqb c 10) (feed-bound s)
+  where
+    go : (b : Bool) → beforeFeed s ≤ length s → pick b 0 (suc (beforeFeed s)) ≤ suc (length s)
+    go true h = omega arith
+    go false h = omega arith
+
 -- ---- what is kept of a line
 
 -- One byte more.
@@ -76,7 +85,19 @@ module _ (r room : List ℕ) (at : ℕ) where
       empty [] h = refl
       empty (c ∷ s) h = absurd (omega arith)
 
+pub length-kept : (room : List ℕ) (len : ℕ) (part : List ℕ) → length (kept room len part .room) ≡ length room
+unfolding kept
+length-kept room len part = length-sets room len (taken room len part)
+
 -- ---- lines added to a room
+
+pub append-nothing : (room : List ℕ) (at : ℕ) → placed room at ≡ appended room at []
+unfolding appended
+append-nothing room at = go (leb (at + 0) (length room))
+  where
+    go : (b : Bool) → placed room at ≡ pick b (placed room (at + 0)) (placed room at)
+    go true = ap (λ (n : ℕ). placed room n) (omega arith)
+    go false = refl
 
 -- A line as long as its digits and the line feed.
 pub length-encoded : (s : List ℕ) → length (encoded s) ≡ 2 * length s

@@ -2,7 +2,7 @@
 -- nothing.
 use mathlib.Core.Path.{_≡_}
 use mathlib.Core.Bool.{true, false}
-use mathlib.Core.List.{List}
+use mathlib.Core.List.{List, []}
 use Prim.Native.Nat.{ℕ, _/_, _≤_, min}
 use lib.ListN.{length, take}
 use Rattle.script.specs.declared.frames.Frame.the-variants.{Bytes, Bad}
@@ -25,3 +25,15 @@ module _ (least most : ℕ) (line room : List ℕ) (wide : most / 2 ≤ length r
 -- The first elements of a list, counted.
 pub take-least : (len : ℕ) (l : List ℕ) → take (min len (length l)) l ≡ take len l
 take-least = lines.take-least
+
+-- The characters before a line feed are some of all.
+pub feed-bound : (s : List ℕ) → beforeFeed s ≤ length s
+feed-bound = lines.feed-bound
+
+-- A room that keeps a part of a line is as long as before.
+pub length-kept : (room : List ℕ) (len : ℕ) (part : List ℕ) → length (kept room len part .room) ≡ length room
+length-kept = lines.length-kept
+
+-- Nothing added leaves a room as it is.
+pub append-nothing : (room : List ℕ) (at : ℕ) → placed room at ≡ appended room at []
+append-nothing = lines.append-nothing

@@ -1,0 +1,83 @@
+-- Laws of the lines of blocks, step by step as the code has them. Assumes nothing.
+use Prim.Native.Nat.{ℕ, _+_, _<_, _≤_}
+use native.Mathlib.Omega.{arith}
+use mathlib.Core.Path.{_≡_, refl, sym, ap, _∙_}
+use mathlib.Core.List.{List, []}
+use mathlib.Core.Bool.{Bool, true, false}
+use lib.ListN.{length, take}
+use lib.Seq.{length-take-le}
+use borrow.Author.Tests.{eq-eqb, ne-eqb}
+use Rattle.channel.specs.declared.state.State.{State}
+use Rattle.channel.proofs.Promise.{World, Asked, askedOf, askSpec}
+use Rattle.script.proofs.Promise.{Placed, placed, beforeFeed, kept, appended, answerLine, closingLine, feed-bound, length-kept, append-nothing}
+use Rattle.trace.specs.declared.session.Stage.{Stage}
+use Rattle.trace.specs.declared.session.Stage.the-variants.{First, Later, Over}
+use Rattle.trace.specs.Session.{Replay, Answer, answerOf, lineAnswer, spoken, endAt, endOut}
+use Rattle.trace.specs.Stream.{Stream, streamOf, lineDone, advanced, ended, closed}
+
+-- ---- what is written
+
+module _ (room : List ℕ) (used number : ℕ) (reply : List ℕ) {silent : Bool} where
+  pub say-nothing : silent ≡ true → placed room used ≡ appended room used (spoken silent number reply)
+  unfolding spoken
+  say-nothing e = rw e (append-nothing room used)
+
+  pub say : silent ≡ false → appended room used (answerLine number reply) ≡ appended room used (spoken silent number reply)
+  unfolding spoken
+  say e = rw e
+
+module _ (room : List ℕ) (used : ℕ) (st : State) (map : List ℕ) {stage : Stage} where
+  pub end-first : stage ≡ First → appended room used (answerLine 12 []) ≡ appended room used (endAt stage st map)
+  unfolding endAt
+  end-first e = rw e
+
+  pub end-later : stage ≡ Later → {n held : ℕ} {whole : Bool} → askedOf n held whole ≡ askSpec st map
+      → appended room used (closingLine whole held) ≡ appended room used (endAt stage st map)
+  unfolding endAt
+  end-later e a = rw (e, ← a)
+
+  pub end-over : stage ≡ Over → placed room used ≡ appended room used (endAt stage st map)
+  unfolding endAt
+  end-over e = rw e (append-nothing room used)
+
+-- ---- a line answered
+
+pub line-done : (r : Replay) (room : List ℕ) (len read : ℕ) (out : List ℕ) (used : ℕ) {after : Replay} {silent : Bool} {number n : ℕ} {o : Placed}
+    → answerOf after silent number n ≡ lineAnswer r (take len room)
+    → o ≡ appended out used (spoken silent number (take n (after .world .channels .reply)))
+    → streamOf after (placed room 0) read o ≡ lineDone r (placed room len) read (placed out used)
+unfolding lineDone
+line-done r room len read out used e f = rw (← e, f)
+
+-- ---- a block read on
+
+module _ (rest : List ℕ) {n : ℕ} (e : n ≡ beforeFeed rest) where
+  pub before-length : n ≡ length (take n rest)
+  before-length = sym (length-take-le n rest (omega (arith, feed-bound rest)))
+
+  pub before-less : (n ≡ length rest → ⊥) → n < length rest
+  before-less h = omega (arith, feed-bound rest)
+
+  pub kept-length : (room : List ℕ) (len : ℕ) {k : Placed} → k ≡ kept room len (take n rest) → length (k .room) ≡ length room
+  kept-length room len f = rw f (length-kept room len (take n rest))
+
+  module _ (r : Replay) (room : List ℕ) (len : ℕ) (out : Placed) {k : Placed} (f : k ≡ kept room len (take n rest)) where
+    pub advance-on : n ≡ length rest → streamOf r k n out ≡ advanced r (placed room len) rest out
+    unfolding advanced
+    advance-on h = rw (← e, eq-eqb n (length rest) h, ← f)
+
+    pub advance-line : (n ≡ length rest → ⊥) → {next : ℕ} → next ≡ n + 1 → lineDone r k next out ≡ advanced r (placed room len) rest out
+    unfolding advanced
+    advance-line h g = rw (g, ← e, ne-eqb n (length rest) h, ← f)
+
+-- ---- the end
+
+module _ (r : Replay) (room : List ℕ) (len : ℕ) (out : Placed) where
+  pub close-empty : len ≡ 0 → {o : Placed} → o ≡ appended (out .room) (out .used) (endOut r) → streamOf r (placed room 0) 0 o ≡ closed r (placed room len) out
+  unfolding closed
+  close-empty h f = rw (h, f)
+
+  pub close-line : (len ≡ 0 → ⊥) → {s : Stream} {o : Placed} → s ≡ lineDone r (placed room len) 0 out → o ≡ appended (s .out .room) (s .out .used) (endOut (s .replay))
+      → streamOf (s .replay) (s .line) (s .read) o ≡ closed r (placed room len) out
+  unfolding closed
+  close-line h e f = rw (ne-eqb len 0 h, ← e, f)

@@ -1,0 +1,67 @@
+use Rattle.trace.proofs.SessionLaws.{started, refused}
+use borrow.Author.Needs.{needs}
+use Rattle.trace.proofs.session.first_line.Statement.{statement}
+use Rattle.trace.proofs.session.first_line.Tie as tie
+use Rattle.channel.proofs.starting.start.Reads as start-reads
+use Rattle.trace.proofs.session.first_order.Reads as first-order-reads
+
+first-order-requires : tie.Need-first-order-requires
+first-order-requires c κs = search needs
+
+start-requires : tie.Need-start-requires
+start-requires c κs = search needs
+
+same-length : tie.Need-same-length
+same-length c = search needs
+
+same-length-2 : tie.Need-same-length-2
+same-length-2 c = search needs
+
+same-length-3 : tie.Need-same-length-3
+same-length-3 c = search needs
+
+same-length-4 : tie.Need-same-length-4
+same-length-4 c = search needs
+
+same-length-5 : tie.Need-same-length-5
+same-length-5 c = search needs
+
+returns : tie.Need-returns
+returns c = started _ _ (c .before .before .before .before .before .before .before .before .before .before .before .before .before .before .before .before .before .before .before .before .first-order .ensures) (c .before .before .before .before .before .before .before .before .before .before .before .before .before .start .ensures) (c .if1 .taken)
+
+same-length-6 : tie.Need-same-length-6
+same-length-6 c = search needs
+
+same-length-7 : tie.Need-same-length-7
+same-length-7 c = search needs
+
+same-length-8 : tie.Need-same-length-8
+same-length-8 c = search needs
+
+same-length-9 : tie.Need-same-length-9
+same-length-9 c = search needs
+
+same-length-10 : tie.Need-same-length-10
+same-length-10 c = search needs
+
+returns-2 : tie.Need-returns-2
+returns-2 c = refused _ _ (c .before .before .before .before .before .before .before .before .before .before .before .before .before .before .before .before .before .before .before .before .first-order .ensures) (c .before .before .before .before .before .before .before .before .before .before .before .before .before .start .ensures) (c .if1 .left)
+
+pub first-line-spec : {M : Type 1} → statement M
+first-line-spec =
+    tie.close
+    (tie.spec
+    first-order-requires
+    start-requires
+    same-length
+    same-length-2
+    same-length-3
+    same-length-4
+    same-length-5
+    returns
+    same-length-6
+    same-length-7
+    same-length-8
+    same-length-9
+    same-length-10
+    returns-2)

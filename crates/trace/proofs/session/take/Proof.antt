@@ -1,0 +1,72 @@
+use Rattle.trace.proofs.SessionLaws.{part, took}
+use borrow.Author.Needs.{needs}
+use Rattle.trace.proofs.session.take.Statement.{statement}
+use Rattle.trace.proofs.session.take.Tie as tie
+use Rattle.channel.proofs.taking.take.Reads as take-reads
+use Rattle.trace.proofs.session.next_id.Reads as next-id-reads
+use Rattle.wire.proofs.bytes.load64.Reads as load64-reads
+
+load64-requires : tie.Need-load64-requires
+load64-requires c κs = search needs
+
+sub-datagram : tie.Need-sub-datagram
+sub-datagram c = search needs
+
+part-datagram-start : tie.Need-part-datagram-start
+part-datagram-start c = search needs
+
+part-datagram-end : tie.Need-part-datagram-end
+part-datagram-end c = search needs
+
+take-requires : tie.Need-take-requires
+take-requires c κs = search needs
+
+next-id-requires : tie.Need-next-id-requires
+next-id-requires c κs = search needs
+
+cast-t37 : tie.Need-cast-t37
+cast-t37 c = search needs
+
+same-length : tie.Need-same-length
+same-length c = search needs
+
+same-length-2 : tie.Need-same-length-2
+same-length-2 c = search needs
+
+same-length-3 : tie.Need-same-length-3
+same-length-3 c = search needs
+
+same-length-4 : tie.Need-same-length-4
+same-length-4 c = search needs
+
+same-length-5 : tie.Need-same-length-5
+same-length-5 c = search needs
+
+same-length-6 : tie.Need-same-length-6
+same-length-6 c = search needs
+
+same-length-7 : tie.Need-same-length-7
+same-length-7 c = search needs
+
+returns : tie.Need-returns
+returns c = took _ _ _ (c .before .before .before .before .before .before .before .before .before .before .before .before .before .before .before .before .before .before .before .before .before .before .before .before .before .before .before .load64 .ensures) (part 8 (c .before .before .before .before .before .before .before .before .before .before .before .before .before .before .before .before .before .before .before .before .before .before .before .before .before .before .before .before .before .before .before .before .before .before .before .before .args .frame .now)) (c .before .before .before .before .before .before .before .before .before .before .before .before .before .before .before .before .before .take .ensures) (c .before .next-id .ensures)
+
+pub take-spec : {M : Type 1} → statement M
+take-spec =
+    tie.close
+    (tie.spec
+    load64-requires
+    sub-datagram
+    part-datagram-start
+    part-datagram-end
+    take-requires
+    next-id-requires
+    cast-t37
+    same-length
+    same-length-2
+    same-length-3
+    same-length-4
+    same-length-5
+    same-length-6
+    same-length-7
+    returns)

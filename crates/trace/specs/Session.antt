@@ -1,0 +1,108 @@
+-- A store under replay, line after line (01, "The replay program"). Assumes nothing.
+use Prim.Native.Nat.{ℕ, _+_, _%_, _^_}
+use mathlib.Core.Bool.{Bool, true, false}
+use mathlib.Core.List.{List, []}
+use lib.Dec.{leb, eqb}
+use lib.ListN.{length, take, drop, replicate}
+use Rattle.tree.specs.Pick.{pick}
+use Rattle.hash.proofs.Promise.{words}
+use Rattle.store.specs.declared.calls.Order.{Order}
+use Rattle.wire.proofs.Promise.{be32, be64}
+use Rattle.channel.specs.declared.state.State.{State}
+use Rattle.channel.proofs.Promise.{World, Out, startSpec, takeSpec, askSpec}
+use Rattle.script.proofs.Promise.{isFrame, decoded, answerLine, closingLine}
+use Rattle.trace.specs.Limits.{lengthMax, orderDigits, digitsMin, digitsMax}
+use Rattle.trace.specs.declared.session.Stage.{Stage}
+use Rattle.trace.specs.declared.session.Stage.the-variants.{First, Later, Over}
+
+-- A store, the ID for the next channel, and which line is to come.
+pub record Replay : Type 0 where
+  pub world : World
+  pub id : ℕ
+  pub stage : Stage
+
+abbrev pub replayOf : World → ℕ → Stage → Replay
+replayOf w id stage = record { world = w; id = id; stage = stage }
+
+-- What a line gives: the replay after it, whether nothing is written, and else the number and the length of the reply.
+pub record Answer : Type 0 where
+  pub after : Replay
+  pub silent : Bool
+  pub number : ℕ
+  pub len : ℕ
+
+abbrev pub answerOf : Replay → Bool → ℕ → ℕ → Answer
+answerOf r silent number len = record { after = r; silent = silent; number = number; len = len }
+
+-- ---- line one
+
+-- The bytes of line one; zeros where it is "not 72 hexadecimal digits".
+unfoldable pub orderBytes : List ℕ → List ℕ
+orderBytes line = pick (isFrame orderDigits orderDigits line) (decoded line) (replicate 36 0)
+
+-- "Line one is root then L (32 bits)".
+abbrev pub orderIn : List ℕ → Order
+orderIn f = record { root = record { words = words 8 f }; length = be32 f 32 }
+
+-- "the program takes L up to 32,768": a longer one counts as 0, which starting refuses.
+unfoldable pub limited : Order → Order
+limited o = record { root = o .root; length = pick (leb (o .length) lengthMax) (o .length) 0 }
+
+-- By what starting gives: the next line is a datagram, or else "`0c` and nothing more".
+abbrev pub startedBy : Replay → Out World → Answer
+startedBy r out =
+    pick (eqb (out .answer) 0)
+    (answerOf (replayOf (out .after) (r .id) Later) true 0 0)
+    (answerOf (replayOf (out .after) (r .id) Over) false 12 0)
+
+-- "A missing or bad first line (not 72 hexadecimal digits, L 0 or over 32,768): `0c` and nothing more".
+unfoldable pub firstLine : Replay → List ℕ → Answer
+firstLine r line = startedBy r (startSpec (r .world) (limited (orderIn (orderBytes line))))
+
+-- ---- later lines
+
+-- "The ID passed is 1 and rises by one with each channel opened": a datagram s to channel 0 that is taken opens one. An ID
+-- has 32 bits.
+unfoldable pub nextId : (id answer : ℕ) → List ℕ → ℕ
+nextId id answer s = pick (pick (eqb answer 0) (pick (leb 4 (length s)) (eqb (be32 s 0) 0) false) false) ((id + 1) % 2 ^ 32) id
+
+-- By what taking in the datagram s gives.
+abbrev pub takenBy : Replay → List ℕ → Out World → Answer
+takenBy r s out = answerOf (replayOf (out .after) (nextId (r .id) (out .answer) s) Later) false (out .answer % 256) (out .len)
+
+-- "Each later line is a 64-bit clock then a datagram".
+unfoldable pub frameTaken : Replay → List ℕ → Answer
+frameTaken r f = takenBy r (drop 8 f) (takeSpec (r .world) (be64 f 0) (r .id) (drop 8 f))
+
+-- "A line with another character, odd length, under 16 or over 4,112 digits: `0f`".
+unfoldable pub laterLine : Replay → List ℕ → Answer
+laterLine r line = pick (isFrame digitsMin digitsMax line) (frameTaken r (decoded line)) (answerOf r false 15 0)
+
+-- ---- any line
+
+-- By which line it is; after a bad line one nothing is answered.
+abbrev pub answerAt : Stage → Replay → List ℕ → Answer
+answerAt First r line = firstLine r line
+answerAt Later r line = laterLine r line
+answerAt Over r line = answerOf r true 0 0
+
+unfoldable pub lineAnswer : Replay → List ℕ → Answer
+lineAnswer r line = answerAt (r .stage) r line
+
+-- The line that is written for a number and a reply, if any is.
+unfoldable pub spoken : (silent : Bool) (number : ℕ) (reply : List ℕ) → List ℕ
+spoken silent number reply = pick silent [] (answerLine number reply)
+
+abbrev pub lineOut : Answer → List ℕ
+lineOut a = spoken (a .silent) (a .number) (take (a .len) (a .after .world .channels .reply))
+
+-- ---- the end
+
+-- "at the end `ff` if whole or `f0`, then the held count"; `0c` where line one is missing.
+unfoldable pub endAt : Stage → State → (map : List ℕ) → List ℕ
+endAt First st map = answerLine 12 []
+endAt Later st map = closingLine (askSpec st map .whole) (askSpec st map .held)
+endAt Over st map = []
+
+abbrev pub endOut : Replay → List ℕ
+endOut r = endAt (r .stage) (r .world .channels .state) (r .world .rooms .map)
