@@ -13,9 +13,9 @@ ghost use Rattle.replies.specs.Replies.{handshakeReply, ackReply, hashIt
 ghost use Rattle.replies.specs.Steps.{integritySize};
 use hash::value;
 use hash::value::HashValue;
-use store::room;
 use tree::bin;
 use tree::peaks;
+use verdict::room;
 use wire::message::Message;
 use wire::message::Options;
 use writer::add;

@@ -8,8 +8,8 @@ use borrow.Author.Tests.{ltb-false, eqb-false}
 use lib.Dec.{ltb, eqb}
 use lib.ListN.{length}
 use Rattle.tree.specs.Pack.{maxLength, levels}
-use Rattle.store.specs.Room.{Digest}
-use Rattle.store.specs.Rooms.{Rooms, countOf}
+use Rattle.verdict.specs.Room.{Digest}
+use Rattle.verdict.specs.Rooms.{Rooms, countOf}
 use Rattle.store.specs.Building.{rootOf}
 use Rattle.store.specs.Answers.{refuse, earlier, lengthAnswer, roomAnswer, orderAnswer}
 use Rattle.store.specs.Calls.{roomsAnswer, startSpec, buildAnswer, buildSpec}

@@ -21,14 +21,15 @@ use Rattle.tree.specs.State.{State, isPeak, onPath, adopted, hung, Sound}
 use Rattle.tree.specs.Verdicts.{every, peaksTrusted, counted, verdict, afterBy, after}
 use Rattle.tree.specs.declared.verdict.Verdict.{Verdict}
 use Rattle.tree.specs.declared.verdict.Verdict.the-variants.{Fits, Missing, WrongPeaks, WrongClimb}
-use Rattle.store.specs.Room.{filler, Digest, hashIn, putHash}
-use Rattle.store.specs.Integrity.{Integrity, cameFrom}
-use Rattle.store.specs.Rooms.{Rooms, stateOf, SoundRooms, trustedIn, gotBy}
-use Rattle.store.specs.Storing.{Put, mark, putPeaks, putAll, copied, stored, storeSpec, roomVerdict, roomsBy}
-use Rattle.store.proofs.ClimbLaws.{digest-climb}
-use Rattle.store.proofs.RoomLaws.{digest-hash, length-putHash, hash-same, hash-other}
-use Rattle.store.proofs.IntegrityLaws.{digest-got}
-use Rattle.store.proofs.VerdictLaws.{verdict-sees, fits-within}
+use Rattle.verdict.specs.Room.{filler, Digest, hashIn, putHash}
+use Rattle.verdict.specs.Integrity.{Integrity, cameFrom}
+use Rattle.verdict.specs.Rooms.{Rooms, stateOf, SoundRooms, trustedIn, gotBy}
+use Rattle.verdict.specs.Verdict.{roomVerdict}
+use Rattle.store.specs.Storing.{Put, mark, putPeaks, putAll, copied, stored, storeSpec, roomsBy}
+use Rattle.verdict.proofs.ClimbLaws.{digest-climb}
+use Rattle.verdict.proofs.RoomLaws.{digest-hash, length-putHash, hash-same, hash-other}
+use Rattle.verdict.proofs.IntegrityLaws.{digest-got}
+use Rattle.verdict.proofs.VerdictLaws.{verdict-sees, fits-within}
 use Rattle.store.proofs.CopyLaws.{copied-in, copied-out}
 use Rattle.store.proofs.StoringLaws.{own-inside, peak-within}
 use Rattle.store.proofs.WrittenLaws.{path-shows, room-peaks, peaks-show}

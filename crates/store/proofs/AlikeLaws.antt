@@ -11,10 +11,10 @@ use Rattle.tree.specs.Bin.{bin}
 use Rattle.tree.specs.Pack.{chunkSize}
 use Rattle.tree.specs.State.{Sound}
 use Rattle.tree.specs.Walk.{Hangs, Compared, equal, colliding}
-use Rattle.store.specs.Room.{filler}
-use Rattle.store.specs.Rooms.{Rooms, countOf, stateOf, SoundRooms}
+use Rattle.verdict.specs.Room.{filler}
+use Rattle.verdict.specs.Rooms.{Rooms, countOf, stateOf, SoundRooms}
 use Rattle.store.specs.Whole.{Running, HangsIn, Whole, Alike, same-bytes, collides}
-use Rattle.store.proofs.RoomLaws.{hash-length}
+use Rattle.verdict.proofs.RoomLaws.{hash-length}
 use Rattle.tree.proofs.ChunkLaws.{parts-alike}
 use Rattle.tree.proofs.SoundLaws.{sound-hangs}
 use Rattle.tree.proofs.WalkLaws.{compare}

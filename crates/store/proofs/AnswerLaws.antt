@@ -9,7 +9,7 @@ use lib.Dec.{leb, ltb, eqb}
 use lib.Pow.{pow-mono}
 use Rattle.bits.proofs.Promise.{rowWords}
 use Rattle.tree.specs.Pack.{chunkSize, maxLength, size, levels, leafPlaces}
-use Rattle.store.specs.Rooms.{countOf}
+use Rattle.verdict.specs.Rooms.{countOf}
 use Rattle.store.specs.Answers.{refuse, earlier, lengthAnswer, roomAnswer, orderAnswer, chunkAnswer}
 use Rattle.store.specs.Calls.{buildAnswer}
 use Rattle.tree.proofs.NodeLaws.{split}

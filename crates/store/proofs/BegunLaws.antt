@@ -10,14 +10,14 @@ use lib.ListN.{length, take}
 use lib.Seq.{take-length, length-paste}
 use Rattle.bits.proofs.Promise.{bitAt, length-setBit, length-setRange, row-room}
 use Rattle.tree.specs.Pack.{levels, leafPlaces, rootNode}
-use Rattle.store.specs.Room.{Digest, putHash}
-use Rattle.store.specs.Rooms.{Rooms, countOf}
+use Rattle.verdict.specs.Room.{Digest, putHash}
+use Rattle.verdict.specs.Rooms.{Rooms, countOf}
 use Rattle.store.specs.Storing.{mark, copied}
 use Rattle.store.specs.Building.{clearRow, startRooms, treeOf, rootOf, putLevels, buildRooms}
 use Rattle.store.specs.Whole.{Roomy, SameSizes, Running, Whole}
 use Rattle.store.specs.Answers.{refuse, earlier, lengthAnswer, roomAnswer, orderAnswer}
 use Rattle.store.specs.Calls.{decide, roomsAnswer, startSpec, buildAnswer, buildSpec}
-use Rattle.store.proofs.RoomLaws.{length-putHash}
+use Rattle.verdict.proofs.RoomLaws.{length-putHash}
 use Rattle.store.proofs.CopyLaws.{copied-whole}
 use Rattle.store.proofs.StoringLaws.{length-mark}
 use Rattle.store.proofs.BuildingLaws.{length-levels}

@@ -20,12 +20,12 @@ use Rattle.tree.specs.Node.{above}
 use Rattle.tree.specs.Pack.{chunkSize, chunks, size, levels}
 use Rattle.tree.specs.Tree.{tree, root, given, combined}
 use Rattle.tree.specs.Verdicts.{got}
-use Rattle.store.specs.Room.{filler, Digest, hashIn, putHash}
-use Rattle.store.specs.Rooms.{roomsOf, countOf, chunkIn, heldBy}
+use Rattle.verdict.specs.Room.{filler, Digest, hashIn, putHash}
+use Rattle.verdict.specs.Rooms.{roomsOf, countOf, chunkIn, heldBy}
 use Rattle.store.specs.Steps.{Filled}
 use Rattle.store.specs.Storing.{Put, mark, copied}
 use Rattle.store.specs.Building.{clearRow, treeOf, rootOf, putLevel, putLevels, buildRooms}
-use Rattle.store.proofs.RoomLaws.{digest-filler, digest-hash, length-putHash, hash-same, hash-other}
+use Rattle.verdict.proofs.RoomLaws.{digest-filler, digest-hash, length-putHash, hash-same, hash-other}
 use Rattle.store.proofs.WrittenLaws.{bin-eq}
 use Rattle.tree.proofs.NodeLaws.{split, above-in, above-unique, aligned-left, aligned-right}
 use Rattle.tree.proofs.PackLaws.{high-bound}

@@ -18,11 +18,11 @@ use Rattle.tree.specs.Node.{above}
 use Rattle.tree.specs.Pack.{chunkSize, size, levels}
 use Rattle.tree.specs.Tree.{tree, root}
 use Rattle.tree.specs.State.{built}
-use Rattle.store.specs.Room.{filler, hashIn, putHash}
-use Rattle.store.specs.Rooms.{Rooms, countOf, chunkIn, stateOf, SoundRooms}
+use Rattle.verdict.specs.Room.{filler, hashIn, putHash}
+use Rattle.verdict.specs.Rooms.{Rooms, countOf, chunkIn, stateOf, SoundRooms}
 use Rattle.store.specs.Storing.{mark}
 use Rattle.store.specs.Building.{clearRow, treeOf, rootOf, putLevels, buildRooms}
-use Rattle.store.proofs.RoomLaws.{length-putHash, hash-same, hash-other}
+use Rattle.verdict.proofs.RoomLaws.{length-putHash, hash-same, hash-other}
 use Rattle.store.proofs.CopyLaws.{copied-whole}
 use Rattle.store.proofs.WrittenLaws.{bin-eq}
 use Rattle.store.proofs.AgreeLaws.{Agrees}

@@ -13,10 +13,11 @@ use Rattle.tree.specs.Pack.{chunkSize, leafPlaces, rootNode}
 use Rattle.tree.specs.Verdicts.{number}
 use Rattle.tree.specs.declared.verdict.Verdict.{Verdict}
 use Rattle.tree.specs.declared.verdict.Verdict.the-variants.{Fits}
-use Rattle.store.specs.Room.{filler, putHash}
-use Rattle.store.specs.Integrity.{Integrity}
-use Rattle.store.specs.Rooms.{Rooms, roomsOf, countOf}
-use Rattle.store.specs.Storing.{storeSpec, roomVerdict, roomsBy}
+use Rattle.verdict.specs.Room.{filler, putHash}
+use Rattle.verdict.specs.Integrity.{Integrity}
+use Rattle.verdict.specs.Rooms.{Rooms, roomsOf, countOf}
+use Rattle.verdict.specs.Verdict.{roomVerdict}
+use Rattle.store.specs.Storing.{storeSpec, roomsBy}
 use Rattle.store.specs.Building.{clearRow, startRooms, buildRooms}
 use Rattle.store.specs.Answers.{refuse, earlier, lengthAnswer, roomAnswer, orderAnswer, chunkAnswer}
 use Rattle.store.specs.Calls.{Out, outOf, decide, unless, roomsAnswer, startSpec, buildAnswer, buildSpec, foundRoot, settleSpec, takeSpec}

@@ -1,10 +1,5 @@
 -- What the proofs of several functions cite.
-pub mod RoomLaws
-pub mod IntegrityLaws
-pub mod LoopLaws
-pub mod VerdictLaws
 pub mod CopyLaws
-pub mod ClimbLaws
 pub mod StoringLaws
 pub mod WrittenLaws
 pub mod AgreeLaws

@@ -11,18 +11,18 @@ use Rattle.hash.proofs.Promise.{bytesOf}
 use Rattle.bits.proofs.Promise.{bitAt, rowWords}
 use Rattle.tree.specs.Pick.{pick}
 use Rattle.tree.specs.Pack.{chunkSize, maxLength, size, leafPlaces}
-use Rattle.store.proofs.RoomLaws.{digest-words}
+use Rattle.verdict.proofs.RoomLaws.{digest-words}
 use Rattle.store.proofs.BegunLaws.{start-running, start-not-same, start-same-sizes, start-empty, build-running, build-not-same, build-same-sizes, build-bytes, build-whole}
 use Rattle.store.proofs.TakenLaws.{take-refused-same, take-means, take-sizes, take-running, take-map, take-bytes}
 use Rattle.store.proofs.AlikeLaws.{hangs, alike}
 use Rattle.store.proofs.AnswerLaws as answers
 use Rattle.store.proofs.AcceptLaws as accept
-pub use Rattle.store.specs.Room.{filler, hashIn}
-unfoldable pub use Rattle.store.specs.Room.{Digest}
-pub use Rattle.store.proofs.RoomLaws.{hash-length}
+pub use Rattle.verdict.specs.Room.{filler, hashIn}
+unfoldable pub use Rattle.verdict.specs.Room.{Digest}
+pub use Rattle.verdict.proofs.RoomLaws.{hash-length}
 pub use Rattle.store.proofs.AnswerLaws.{levels-small}
-pub use Rattle.store.specs.Integrity.{Integrity, integrityOf}
-pub use Rattle.store.specs.Rooms.{Rooms, roomsOf, countOf, chunkIn, stateOf, SoundRooms}
+pub use Rattle.verdict.specs.Integrity.{Integrity, integrityOf}
+pub use Rattle.verdict.specs.Rooms.{Rooms, roomsOf, countOf, chunkIn, stateOf, SoundRooms}
 pub use Rattle.store.specs.Building.{rootOf}
 pub use Rattle.store.specs.Answers.{refuse, earlier, lengthAnswer, roomAnswer, orderAnswer, chunkAnswer}
 pub use Rattle.store.specs.Calls.{Out, outOf, roomsAnswer, startSpec, buildAnswer, buildSpec, foundRoot, takeSpec}

@@ -17,11 +17,11 @@ use Rattle.tree.specs.Bin.{bin}
 use Rattle.tree.specs.Node.{above}
 use Rattle.tree.specs.Pack.{chunkSize, chunks, size, levels, leafPlaces, rootNode}
 use Rattle.tree.specs.State.{State, started}
-use Rattle.store.specs.Room.{filler, Digest, hashIn, putHash}
-use Rattle.store.specs.Rooms.{Rooms, roomsOf, stateOf, SoundRooms}
+use Rattle.verdict.specs.Room.{filler, Digest, hashIn, putHash}
+use Rattle.verdict.specs.Rooms.{Rooms, roomsOf, stateOf, SoundRooms}
 use Rattle.store.specs.Storing.{mark}
 use Rattle.store.specs.Building.{clearRow, startRooms}
-use Rattle.store.proofs.RoomLaws.{hash-same, hash-other}
+use Rattle.verdict.proofs.RoomLaws.{hash-same, hash-other}
 use Rattle.store.proofs.WrittenLaws.{bin-eq}
 use Rattle.store.proofs.AgreeLaws.{Agrees}
 use Rattle.tree.proofs.BeginLaws.{started-sound}

@@ -17,14 +17,14 @@ use Rattle.tree.specs.Bin.{bin}
 use Rattle.tree.specs.Node.{other, above}
 use Rattle.tree.specs.Pack.{chunkSize, chunks, levels}
 use Rattle.tree.specs.Peaks.{peaks}
+use Rattle.tree.specs.Tree.{climb}
 use Rattle.tree.specs.Verdicts.{got, every}
-use Rattle.store.specs.Room.{hashIn, putHash}
-use Rattle.store.specs.Integrity.{Integrity}
-use Rattle.store.specs.Rooms.{Rooms, roomsOf, trustedIn, gotBy}
-use Rattle.store.specs.Steps.{Climbed}
+use Rattle.verdict.specs.Room.{hashIn, putHash}
+use Rattle.verdict.specs.Integrity.{Integrity}
+use Rattle.verdict.specs.Rooms.{Rooms, roomsOf, trustedIn, gotBy}
+use Rattle.verdict.specs.Steps.{Climbed}
 use Rattle.store.specs.Storing.{Put, mark, putIf, putPeaks, putPath, putAll, copied, stored, storeSpec}
 use Rattle.tree.proofs.NodeLaws.{above-in, above-right, above-inside}
-use Rattle.store.proofs.ClimbLaws.{path-climbed}
 
 -- one peak
 pub put-one : (put : Put) (l : List ℕ) {l′ : List ℕ} {b b′ : ℕ} {v v′ : List ℕ} (x : ℕ) → l′ ≡ put l b v → b ≡ b′ → v ≡ v′ → x ≡ 1 → l′ ≡ putIf put (eqb x 1) l b′ v′
@@ -99,6 +99,15 @@ open-no l e f g = rw (← e, f) g
 
 pub open-yes : (l x : List ℕ) {q b : Bool} → q ≡ b → q ≡ true → l ≡ pick b l x
 open-yes l x e f = rw (← e, f)
+
+-- a path with the hashes that the scratch keeps is the climb's
+path-climbed : (put : Put) (got : ℕ → ℕ → List ℕ) (v : List ℕ) (c t : ℕ) (s : List ℕ) {l l′ : List ℕ} → l ≡ l′ → Climbed s got v c t
+    → putPath put (hashIn s) got c t l ≡ putPath put (λ h. climb sha256 got v c h (above h c)) got c t l′
+unfolding putPath Climbed
+path-climbed put got v c zero s e K = e
+path-climbed put got v c (suc h) s e K =
+    ap₂ (λ (x y : List ℕ). put (put x (bin h (above h c)) y) (bin h (other c h (above (suc h) c))) (got h (other c h (above (suc h) c))))
+    (path-climbed put got v c h s e (λ k l. K k (omega arith))) (K h (omega arith))
 
 -- four rooms equal, the rooms equal
 rooms-eq : {c c′ m m′ h h′ t t′ : List ℕ} → c ≡ c′ → m ≡ m′ → h ≡ h′ → t ≡ t′ → roomsOf c m h t ≡ roomsOf c′ m′ h′ t′

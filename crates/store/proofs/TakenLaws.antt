@@ -18,15 +18,16 @@ use Rattle.tree.specs.State.{State, adopted}
 use Rattle.tree.specs.Verdicts.{every, number}
 use Rattle.tree.specs.declared.verdict.Verdict.{Verdict}
 use Rattle.tree.specs.declared.verdict.Verdict.the-variants.{Fits, Missing, WrongPeaks, WrongClimb}
-use Rattle.store.specs.Room.{putHash}
-use Rattle.store.specs.Integrity.{Integrity}
-use Rattle.store.specs.Rooms.{Rooms, countOf, chunkIn, stateOf, SoundRooms, trustedIn, gotBy}
-use Rattle.store.specs.Storing.{mark, putAll, copied, stored, storeSpec, roomVerdict, roomsBy}
+use Rattle.verdict.specs.Room.{putHash}
+use Rattle.verdict.specs.Integrity.{Integrity}
+use Rattle.verdict.specs.Rooms.{Rooms, countOf, chunkIn, stateOf, SoundRooms, trustedIn, gotBy}
+use Rattle.verdict.specs.Verdict.{roomVerdict}
+use Rattle.store.specs.Storing.{mark, putAll, copied, stored, storeSpec, roomsBy}
 use Rattle.store.specs.Whole.{Roomy, SameSizes, Running}
 use Rattle.store.specs.Answers.{earlier, chunkAnswer}
 use Rattle.store.specs.Calls.{outOf, unless, roomsAnswer, settleSpec, takeSpec}
-use Rattle.store.proofs.RoomLaws.{length-putHash}
-use Rattle.store.proofs.VerdictLaws.{fits-within}
+use Rattle.verdict.proofs.RoomLaws.{length-putHash}
+use Rattle.verdict.proofs.VerdictLaws.{fits-within}
 use Rattle.store.proofs.StoringLaws.{length-path, length-open, length-mark}
 use Rattle.store.proofs.AgreeLaws.{Fitting, stored-agrees, taken-sound}
 use Rattle.store.proofs.AnswerLaws.{both-zero, chunk-facts}

@@ -15,7 +15,7 @@ use Rattle.tree.specs.Node.{other, above}
 use Rattle.tree.specs.Pack.{levels}
 use Rattle.tree.specs.State.{isPeak, onPath}
 use Rattle.tree.specs.Verdicts.{got}
-use Rattle.store.specs.Room.{Digest}
+use Rattle.verdict.specs.Room.{Digest}
 use Rattle.store.specs.Storing.{Put, putIf, putPeaks, putPath}
 use Rattle.tree.proofs.BinLaws.{bin-inj}
 use Rattle.tree.proofs.NodeLaws.{split, above-left, above-right, other-left, other-right, above-aligned, parent-right, parent-above, aligned-left, aligned-right, child-cases}

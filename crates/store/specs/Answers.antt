@@ -5,7 +5,7 @@ use mathlib.Core.Bool.{Bool, true, false, not}
 use lib.Dec.{leb, ltb, eqb}
 use Rattle.bits.proofs.Promise.{rowWords}
 use Rattle.tree.specs.Pack.{chunkSize, maxLength, size, leafPlaces}
-use Rattle.store.specs.Rooms.{countOf}
+use Rattle.verdict.specs.Rooms.{countOf}
 pub use Rattle.tree.specs.Pick.{earlier}
 
 -- The number n where a test holds, and otherwise what the rest gives.

@@ -7,8 +7,8 @@ use Rattle.hash.proofs.Promise.{sha256}
 use Rattle.tree.specs.Bin.{bin}
 use Rattle.tree.specs.Pack.{levels, leafPlaces, rootNode}
 use Rattle.tree.specs.Tree.{tree, root}
-use Rattle.store.specs.Room.{filler, putHash}
-use Rattle.store.specs.Rooms.{Rooms, countOf, chunkIn}
+use Rattle.verdict.specs.Room.{filler, putHash}
+use Rattle.verdict.specs.Rooms.{Rooms, countOf, chunkIn}
 use Rattle.store.specs.Storing.{Put, mark, copied}
 
 -- A row of n bits cleared, in whole words.

@@ -5,10 +5,11 @@ use mathlib.Core.List.{List}
 use lib.Dec.{eqb}
 use lib.ListN.{length}
 use Rattle.tree.specs.Verdicts.{number}
-use Rattle.store.specs.Room.{filler}
-use Rattle.store.specs.Integrity.{Integrity}
-use Rattle.store.specs.Rooms.{Rooms, countOf}
-use Rattle.store.specs.Storing.{storeSpec, roomVerdict, roomsBy}
+use Rattle.verdict.specs.Room.{filler}
+use Rattle.verdict.specs.Integrity.{Integrity}
+use Rattle.verdict.specs.Rooms.{Rooms, countOf}
+use Rattle.verdict.specs.Verdict.{roomVerdict}
+use Rattle.store.specs.Storing.{storeSpec, roomsBy}
 use Rattle.store.specs.Building.{startRooms, buildRooms}
 use Rattle.store.specs.Answers.{refuse, earlier, lengthAnswer, roomAnswer, orderAnswer, chunkAnswer}
 

@@ -1,6 +1,3 @@
-pub mod Room
-pub mod Integrity
-pub mod Rooms
 pub mod Steps
 pub mod Storing
 pub mod Building

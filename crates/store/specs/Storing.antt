@@ -1,7 +1,7 @@
 -- What storing a chunk that fits writes to the rooms (01, "Taking a chunk"). Assumes nothing.
 use Prim.Native.Nat.{ℕ, zero, suc, _*_}
 use mathlib.Core.Bool.{Bool, true, false}
-use mathlib.Core.List.{List, []}
+use mathlib.Core.List.{List}
 use lib.Seq.{paste}
 use lib.ListN.{length}
 use Rattle.bits.proofs.Promise.{bitAt, setBit}
@@ -13,12 +13,12 @@ use Rattle.tree.specs.Pack.{chunkSize, levels}
 use Rattle.tree.specs.Peaks.{peaks}
 use Rattle.tree.specs.Steps.{peakBit}
 use Rattle.tree.specs.Tree.{climb}
-use Rattle.tree.specs.Verdicts.{every, verdict}
+use Rattle.tree.specs.Verdicts.{every}
 use Rattle.tree.specs.declared.verdict.Verdict.{Verdict}
 use Rattle.tree.specs.declared.verdict.Verdict.the-variants.{Fits, Missing, WrongPeaks, WrongClimb}
-use Rattle.store.specs.Room.{filler, putHash}
-use Rattle.store.specs.Integrity.{Integrity, cameFrom}
-use Rattle.store.specs.Rooms.{Rooms, roomsOf, stateOf, trustedIn, gotBy}
+use Rattle.verdict.specs.Room.{putHash}
+use Rattle.verdict.specs.Integrity.{Integrity}
+use Rattle.verdict.specs.Rooms.{Rooms, trustedIn, gotBy}
 
 -- How a node's hash is put into a room: written in the hash room, marked in the row of trusted nodes.
 abbrev pub Put : Type 0
@@ -65,10 +65,6 @@ stored w N c t d o = record {
 -- A chunk already held changes nothing.
 unfoldable pub storeSpec : Rooms → ℕ → ℕ → ℕ → List ℕ → Integrity → Rooms
 storeSpec w N c t d o = pick (bitAt (w .map) c) w (stored w N c t d o)
-
--- The verdict on a chunk: the hashes and the trusted nodes alone are looked at.
-unfoldable pub roomVerdict : ℕ → List ℕ → List ℕ → List ℕ → ℕ → List ℕ → Integrity → Verdict
-roomVerdict N r hashes trusted c d o = verdict sha256 filler N r (stateOf 0 (roomsOf [] [] hashes trusted)) c d (cameFrom o)
 
 -- The rooms by the verdict: a chunk that fits is stored, any other changes nothing.
 abbrev pub roomsBy : Verdict → Rooms → (ℕ → Rooms) → Rooms

@@ -9,8 +9,8 @@ use Rattle.bits.proofs.Promise.{bitAt, rowWords}
 use Rattle.hash.proofs.Promise.{sha256}
 use Rattle.tree.specs.Pack.{leafPlaces}
 use Rattle.tree.specs.Walk.{Hangs, Lowest, Collision}
-use Rattle.store.specs.Room.{filler}
-use Rattle.store.specs.Rooms.{Rooms, countOf, stateOf, SoundRooms}
+use Rattle.verdict.specs.Room.{filler}
+use Rattle.verdict.specs.Rooms.{Rooms, countOf, stateOf, SoundRooms}
 
 -- The rooms are large enough for a pack of L bytes.
 pub record Roomy (L : ℕ) (w : Rooms) : Type 0 where

@@ -7,18 +7,18 @@ ghost use Rattle.bits.proofs.Promise.{setRange};
 ghost use Rattle.hash.proofs.Promise.{bytesOf, sha256};
 ghost use Rattle.tree.specs.Bin.{bin};
 ghost use Rattle.tree.specs.Pack.{chunkSize, levels, leafPlaces};
-ghost use Rattle.store.specs.Room.{putHash};
-ghost use Rattle.store.specs.Rooms.{roomsOf, countOf, chunkIn};
+ghost use Rattle.verdict.specs.Room.{putHash};
+ghost use Rattle.verdict.specs.Rooms.{roomsOf, countOf, chunkIn};
 ghost use Rattle.store.specs.Steps.{Filled};
 ghost use Rattle.store.specs.Storing.{mark};
 ghost use Rattle.store.specs.Building.{clearRow, startRooms, treeOf, rootOf, putLevel, putLevels, buildRooms};
-use crate::peaks;
-use crate::room;
 use crate::storing;
 use hash::message;
 use hash::node;
 use hash::value::HashValue;
 use tree::pack::CHUNK_SIZE;
+use verdict::peaks;
+use verdict::room;
 
 // Clears the row of n bits.
 fn clear_row(ws: &mut [u32], n: u64)
@@ -35,7 +35,7 @@ pub fn start(map: &mut [u32], hashes: &mut [u32], trusted: &mut [u32], root: Has
     let w = tree::pack::leaf_places(n);
     clear_row(map, n as u64);
     clear_row(trusted, 2 * w);
-    room::trust(hashes, trusted, w - 1, root);
+    storing::trust(hashes, trusted, w - 1, root);
 }
 
 // The hash of chunk i of a content.
@@ -84,7 +84,7 @@ fn put_node(hashes: &mut [u32], trusted: &mut [u32], content: &[u8], n: u32, h: 
 {
     let b = nth(h, k);
     let v = hash_of(hashes, content, n, h, k);
-    room::trust(hashes, trusted, b, v);
+    storing::trust(hashes, trusted, b, v);
 }
 
 // Every node of height h inside the pack.
@@ -142,6 +142,6 @@ pub fn build(
     mark_all(map, trusted, n, w);
     put_levels(hashes, trusted, content, n, top);
     let root = peaks::root_of_peaks(false, hashes, &none, b"", n, top);
-    room::trust(hashes, trusted, w - 1, root);
+    storing::trust(hashes, trusted, w - 1, root);
     root
 }

@@ -5,18 +5,18 @@ ghost use Prim.Native.Nat.{_+_, _*_, _<_, _≤_};
 ghost use lib.ListN.{length};
 ghost use Rattle.hash.proofs.Promise.{bytesOf};
 ghost use Rattle.tree.specs.Pack.{chunkSize};
-ghost use Rattle.store.specs.Integrity.{integrityOf};
-ghost use Rattle.store.specs.Rooms.{roomsOf, countOf};
-ghost use Rattle.store.specs.Storing.{roomVerdict};
+ghost use Rattle.verdict.specs.Integrity.{integrityOf};
+ghost use Rattle.verdict.specs.Rooms.{roomsOf, countOf};
+ghost use Rattle.verdict.specs.Verdict.{roomVerdict};
 ghost use Rattle.store.specs.Building.{rootOf};
 ghost use Rattle.store.specs.Calls.{outOf, startSpec, buildSpec, foundRoot, settleSpec, takeSpec};
 use crate::answers;
 use crate::building;
 use crate::storing;
-use crate::verdicts;
 use hash::value;
 use hash::value::HashValue;
 use tree::verdict::Verdict;
+use verdict::verdicts;
 
 // What a store works under: the root's hash and the pack's length.
 pub struct Order {

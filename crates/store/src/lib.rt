@@ -1,9 +1,5 @@
-// The chunk store in lent rooms, at SHA-256: which chunk may be stored, and what is then written.
+// The chunk store in lent rooms, at SHA-256: started, built, and a chunk taken that may be stored.
 pub mod answers;
 mod building;
 pub mod calls;
-mod integrity;
-mod peaks;
-pub mod room;
 mod storing;
-mod verdicts;

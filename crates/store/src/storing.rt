@@ -11,16 +11,16 @@ ghost use Rattle.tree.specs.Pack.{chunkSize, levels};
 ghost use Rattle.tree.specs.Peaks.{peaks};
 ghost use Rattle.tree.specs.Steps.{peakBit};
 ghost use Rattle.tree.specs.Verdicts.{every};
-ghost use Rattle.store.specs.Room.{hashIn, putHash};
-ghost use Rattle.store.specs.Integrity.{integrityOf};
-ghost use Rattle.store.specs.Rooms.{roomsOf, trustedIn, gotBy};
-ghost use Rattle.store.specs.Steps.{Climbed};
+ghost use Rattle.verdict.specs.Room.{hashIn, putHash};
+ghost use Rattle.verdict.specs.Integrity.{integrityOf};
+ghost use Rattle.verdict.specs.Rooms.{roomsOf, trustedIn, gotBy};
+ghost use Rattle.verdict.specs.Steps.{Climbed};
 ghost use Rattle.store.specs.Storing.{mark, putIf, putPeaks, putPath, copied, stored, storeSpec};
-use crate::integrity;
-use crate::peaks;
-use crate::room;
 use hash::value::HashValue;
 use tree::pack::CHUNK_SIZE;
+use verdict::integrity;
+use verdict::peaks;
+use verdict::room;
 
 // The bytes of src into dst from a place on.
 pub fn copy_in(dst: &mut [u8], at: usize, src: &[u8])
@@ -34,6 +34,14 @@ pub fn copy_in(dst: &mut [u8], at: usize, src: &[u8])
     }
 }
 
+// Writes node b's hash and trusts it.
+pub fn trust(hashes: &mut [u32], trusted: &mut [u32], b: u64, v: HashValue)
+    ensures { λ _. ⌜ (now (hashes .exit) ≡ putHash (now (hashes .entry)) b (bytesOf (v .words))) × (now (trusted .exit) ≡ mark (now (trusted .entry)) b (bytesOf (v .words))) ⌝ }
+{
+    room::write(hashes, b, v);
+    bits::set(trusted, b as usize);
+}
+
 // The peak of height h that came, where n has one.
 fn put_peak(hashes: &mut [u32], trusted: &mut [u32], entries: &[u64], bytes: &[u8], n: u32, h: u32)
     requires { ⌜ h < 59 ⌝ }
@@ -42,7 +50,7 @@ fn put_peak(hashes: &mut [u32], trusted: &mut [u32], entries: &[u64], bytes: &[u
     if tree::peaks::side(n, h) == 1 {
         let b = tree::peaks::peak(n, h);
         let v = integrity::get(entries, bytes, b);
-        room::trust(hashes, trusted, b, v);
+        trust(hashes, trusted, b, v);
     }
 }
 
@@ -97,10 +105,10 @@ fn put_pair(
     ensures { λ _. ⌜ (now (hashes .exit) ≡ putHash (putHash (now (hashes .entry)) (bin h (above h c)) (bytesOf (own .words))) (bin h (other c h (above (suc h) c))) (gotBy (integrityOf (now (entries .entry)) (now (bytes .entry))) h (other c h (above (suc h) c)))) × (now (trusted .exit) ≡ setBit (setBit (now (trusted .entry)) (bin h (above h c))) (bin h (other c h (above (suc h) c)))) ⌝ }
 {
     let b = tree::peaks::node(c, h);
-    room::trust(hashes, trusted, b, own);
+    trust(hashes, trusted, b, own);
     let s = tree::peaks::sibling(c, h);
     let v = integrity::get(entries, bytes, s);
-    room::trust(hashes, trusted, s, v);
+    trust(hashes, trusted, s, v);
 }
 
 // The path from chunk c up to below height t, with the hashes of its own nodes copied from the scratch.

@@ -6,7 +6,7 @@ use Prim.Native.Nat.{ℕ, zero, suc}
 use native.Mathlib.Omega.{arith}
 use borrow.Author.Tests.{eq-eqb, ne-eqb}
 use lib.ListN.{length}
-use Rattle.store.specs.Room.{putHash}
+use Rattle.verdict.specs.Room.{putHash}
 use Rattle.store.proofs.Promise.{Rooms, Out, outOf, foundRoot}
 use Rattle.store_c.specs.Root.{rooted, rootIn, rootPut}
 

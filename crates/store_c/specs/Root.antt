@@ -4,7 +4,7 @@ use mathlib.Core.List.{List}
 use lib.Dec.{eqb}
 use lib.ListN.{length}
 use Rattle.tree.specs.Pick.{pick}
-use Rattle.store.specs.Room.{putHash}
+use Rattle.verdict.specs.Room.{putHash}
 use Rattle.store.proofs.Promise.{Rooms, Out, outOf, hashIn}
 
 -- Before all else 11 where the slice has another length.

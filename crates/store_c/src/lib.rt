@@ -5,7 +5,7 @@ ghost use Rattle.store.proofs.Promise.{roomsOf, integrityOf, rootOf, outOf, sta
 ghost use Rattle.store_c.specs.Root.{rooted, rootIn, rootPut};
 use store::calls;
 use store::calls::Order;
-use store::room;
+use verdict::room;
 
 // Starts a store under an order.
 #[no_mangle]

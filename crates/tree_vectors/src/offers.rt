@@ -7,7 +7,7 @@ use hash::value;
 use hash::value::HashValue;
 use store::calls;
 use store::calls::Order;
-use store::room;
+use verdict::room;
 
 // Another byte, if so asked.
 fn spoilt(x: u8, asked: bool) -> u8 {

@@ -6,7 +6,7 @@ use lib.Pow.{pow-pos}
 use Rattle.hash.proofs.Promise.{sha256}
 use Rattle.tree.specs.Node.{parent}
 use Rattle.tree.specs.Peaks.{before}
-use Rattle.store.specs.Room.{hashIn}
+use Rattle.verdict.specs.Room.{hashIn}
 use Rattle.store.proofs.BuildingLaws.{kth-inside, kids-in, kids-hash, leaf-in, chunk-starts, leaf-hash, twice-below}
 use borrow.Author.Needs.{needs}
 use Rattle.store.proofs.building.hash_of.Statement.{statement}

@@ -3,10 +3,10 @@ use Prim.Native.Nat.{ℕ, _-_, _/_, _^_, _≤_}
 use native.Mathlib.Omega.{arith}
 use lib.ListN.{length}
 use Rattle.tree.specs.Peaks.{before}
-use Rattle.store.specs.Room.{putHash}
+use Rattle.verdict.specs.Room.{putHash}
 use Rattle.store.specs.Storing.{mark}
 use Rattle.store.specs.Building.{treeOf, putLevel}
-use Rattle.store.proofs.RoomLaws.{length-putHash}
+use Rattle.verdict.proofs.RoomLaws.{length-putHash}
 use Rattle.store.proofs.StoringLaws.{length-mark}
 use Rattle.store.proofs.BuildingLaws.{level-none, level-more, length-level, filled-level, less}
 use Rattle.store.proofs.building.put_level.Statement.{statement}

@@ -3,10 +3,10 @@ use Prim.Native.Nat.{ℕ, suc, _-_, _≤_}
 use native.Mathlib.Omega.{arith}
 use lib.ListN.{length}
 use Rattle.tree.specs.Peaks.{before}
-use Rattle.store.specs.Room.{putHash}
+use Rattle.verdict.specs.Room.{putHash}
 use Rattle.store.specs.Storing.{mark}
 use Rattle.store.specs.Building.{treeOf, putLevels}
-use Rattle.store.proofs.RoomLaws.{length-putHash}
+use Rattle.verdict.proofs.RoomLaws.{length-putHash}
 use Rattle.store.proofs.StoringLaws.{length-mark}
 use Rattle.store.proofs.BuildingLaws.{levels-none, levels-more, length-levels, filled-levels}
 use Rattle.store.proofs.building.put_levels.Statement.{statement}

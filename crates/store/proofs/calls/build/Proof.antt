@@ -4,8 +4,8 @@ use native.Mathlib.Omega.{arith}
 use lib.ListN.{length}
 use Rattle.tree.specs.Pack.{chunks}
 use Rattle.tree.specs.Peaks.{before}
-use Rattle.store.specs.Room.{filler}
-use Rattle.store.specs.Rooms.{roomsOf}
+use Rattle.verdict.specs.Room.{filler}
+use Rattle.verdict.specs.Rooms.{roomsOf}
 use Rattle.store.specs.Building.{rootOf}
 use Rattle.store.proofs.CallLaws.{build-not, build-done, build-facts, root-not}
 use borrow.Author.Needs.{needs}

@@ -4,9 +4,9 @@ use mir.Val.{Fits}
 use mir.Syntax.{w32}
 use Rattle.hash.proofs.Promise.{bytesOf}
 use Rattle.tree.specs.declared.verdict.Verdict.the-variants.{Missing, WrongPeaks, WrongClimb}
-use Rattle.store.specs.Integrity.{integrityOf}
-use Rattle.store.specs.Rooms.{roomsOf}
-use Rattle.store.proofs.VerdictLaws.{fits-within}
+use Rattle.verdict.specs.Integrity.{integrityOf}
+use Rattle.verdict.specs.Rooms.{roomsOf}
+use Rattle.verdict.proofs.VerdictLaws.{fits-within}
 use Rattle.store.proofs.AnswerLaws.{levels-small}
 use Rattle.store.proofs.CallLaws.{settle-fits, settle-refused}
 use borrow.Author.Needs.{needs}

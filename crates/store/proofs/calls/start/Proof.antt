@@ -5,7 +5,7 @@ use Rattle.hash.proofs.Promise.{bytesOf, words}
 use Rattle.tree.specs.Pack.{chunks}
 use Rattle.tree.specs.Peaks.{before}
 use Rattle.tree.specs.Tree.{root}
-use Rattle.store.specs.Rooms.{roomsOf}
+use Rattle.verdict.specs.Rooms.{roomsOf}
 use Rattle.store.proofs.CallLaws.{start-refused, start-done}
 use borrow.Author.Needs.{needs}
 use Rattle.store.proofs.calls.start.Statement.{statement}

@@ -5,8 +5,8 @@ use Rattle.hash.proofs.Promise.{bytesOf, words}
 use Rattle.tree.specs.Pack.{chunks}
 use Rattle.tree.specs.Peaks.{before}
 use Rattle.tree.specs.Tree.{root}
-use Rattle.store.specs.Integrity.{integrityOf}
-use Rattle.store.specs.Rooms.{roomsOf}
+use Rattle.verdict.specs.Integrity.{integrityOf}
+use Rattle.verdict.specs.Rooms.{roomsOf}
 use Rattle.store.proofs.CallLaws.{take-refused, take-settled, take-facts}
 use borrow.Author.Needs.{needs}
 use Rattle.store.proofs.calls.take.Statement.{statement}

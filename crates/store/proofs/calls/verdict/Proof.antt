@@ -1,8 +1,8 @@
 use mathlib.Core.Path.{ap, _∙_}
 use Prim.Native.Nat.{ℕ}
 use Rattle.hash.proofs.Promise.{bytesOf}
-use Rattle.store.specs.Integrity.{integrityOf}
-use Rattle.store.specs.Storing.{roomVerdict}
+use Rattle.verdict.specs.Integrity.{integrityOf}
+use Rattle.verdict.specs.Verdict.{roomVerdict}
 use borrow.Author.Needs.{needs}
 use Rattle.store.proofs.calls.verdict.Statement.{statement}
 use Rattle.store.proofs.calls.verdict.Tie as tie

@@ -1,4 +1,4 @@
-use Rattle.store.specs.Integrity.{integrityOf}
+use Rattle.verdict.specs.Integrity.{integrityOf}
 use Rattle.store.proofs.StoringLaws.{stored-is}
 use borrow.Author.Needs.{needs}
 use Rattle.store.proofs.storing.put.Statement.{statement}

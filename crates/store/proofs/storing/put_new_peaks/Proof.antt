@@ -1,9 +1,9 @@
 use Prim.Native.Nat.{suc}
 use borrow.Author.Tests.{not-true, not-false}
 use Rattle.tree.specs.Peaks.{before}
-use Rattle.store.specs.Room.{putHash}
-use Rattle.store.specs.Integrity.{integrityOf}
-use Rattle.store.specs.Rooms.{gotBy}
+use Rattle.verdict.specs.Room.{putHash}
+use Rattle.verdict.specs.Integrity.{integrityOf}
+use Rattle.verdict.specs.Rooms.{gotBy}
 use Rattle.store.specs.Storing.{mark, putPeaks}
 use Rattle.store.proofs.StoringLaws.{open-no, open-yes}
 use borrow.Author.Needs.{needs}

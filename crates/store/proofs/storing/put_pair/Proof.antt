@@ -1,7 +1,7 @@
 use mathlib.Core.Path.{ap, _∙_}
 use Rattle.hash.proofs.Promise.{bytesOf}
-use Rattle.store.specs.Room.{putHash}
-use Rattle.store.specs.Integrity.{integrityOf, gotAt}
+use Rattle.verdict.specs.Room.{putHash}
+use Rattle.verdict.specs.Integrity.{integrityOf, gotAt}
 use Rattle.store.specs.Storing.{mark}
 use Rattle.store.proofs.StoringLaws.{writes}
 use borrow.Author.Needs.{needs}

@@ -2,11 +2,11 @@ use mathlib.Core.Path.{_≡_, ap, _∙_}
 use Prim.Native.Nat.{_-_, _≤_}
 use native.Mathlib.Omega.{arith}
 use lib.ListN.{length}
-use Rattle.store.specs.Room.{hashIn, putHash}
-use Rattle.store.specs.Integrity.{integrityOf}
-use Rattle.store.specs.Rooms.{gotBy}
+use Rattle.verdict.specs.Room.{hashIn, putHash}
+use Rattle.verdict.specs.Integrity.{integrityOf}
+use Rattle.verdict.specs.Rooms.{gotBy}
 use Rattle.store.specs.Storing.{mark, putPath}
-use Rattle.store.proofs.RoomLaws.{length-putHash}
+use Rattle.verdict.proofs.RoomLaws.{length-putHash}
 use Rattle.store.proofs.StoringLaws.{path-none, path-more, length-path, length-mark}
 use borrow.Author.Needs.{needs}
 use Rattle.store.proofs.storing.put_path.Statement.{statement}

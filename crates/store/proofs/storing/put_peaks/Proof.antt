@@ -3,11 +3,11 @@ use Prim.Native.Nat.{ℕ, suc, _-_, _≤_}
 use native.Mathlib.Omega.{arith}
 use lib.ListN.{length}
 use Rattle.tree.specs.Peaks.{before}
-use Rattle.store.specs.Room.{putHash}
-use Rattle.store.specs.Integrity.{integrityOf}
-use Rattle.store.specs.Rooms.{gotBy}
+use Rattle.verdict.specs.Room.{putHash}
+use Rattle.verdict.specs.Integrity.{integrityOf}
+use Rattle.verdict.specs.Rooms.{gotBy}
 use Rattle.store.specs.Storing.{mark, putPeaks}
-use Rattle.store.proofs.RoomLaws.{length-putHash}
+use Rattle.verdict.proofs.RoomLaws.{length-putHash}
 use Rattle.store.proofs.StoringLaws.{peaks-none, peaks-more, length-peaks, length-mark}
 use Rattle.store.proofs.storing.put_peaks.Statement.{statement}
 use Rattle.store.proofs.storing.put_peaks.Tie as tie

@@ -1,6 +1,6 @@
 use borrow.Author.Tests.{not-true, not-false}
-use Rattle.store.specs.Integrity.{integrityOf}
-use Rattle.store.specs.Rooms.{roomsOf}
+use Rattle.verdict.specs.Integrity.{integrityOf}
+use Rattle.verdict.specs.Rooms.{roomsOf}
 use Rattle.store.proofs.StoringLaws.{store-new, store-held}
 use borrow.Author.Needs.{needs}
 use Rattle.store.proofs.storing.store.Statement.{statement}

@@ -1,0 +1,173 @@
+-- Writing one node's hash in the hash room, and reading any node's. Assumes nothing.
+use mathlib.Core.Path.{_≡_, refl, sym, ap, ap₂, _∙_}
+use mathlib.Core.Logic.{_⊎_, inl, inr, _≢_}
+use mathlib.Core.Bool.{Bool, true, false}
+use mathlib.Core.List.{List, [], _∷_, _++_}
+use Prim.Native.Nat.{ℕ, zero, suc, _+_, _*_, _/_, _≤_, _<_}
+use native.Mathlib.Numerals.{add-one, towards-suc}
+use native.Mathlib.Omega.{arith}
+use borrow.Author.Tests.{lt-ltb, le-ltb}
+use lib.Dec.{ltb}
+use lib.ListN.{length, take, getD, set, length-set, replicate, length-append}
+use lib.Seq.{sets, length-sets, getD-set-same, getD-set-other, take-length, append-snoc, getD-append-seam}
+use Rattle.hash.proofs.Promise.{sha256, bytesOf, words, Words, sha256-length, sha256-bytes, bytes-length, bytes-below, words-length, words-bytes, bytes-words}
+use Rattle.tree.specs.Pick.{pick}
+use Rattle.verdict.specs.Room.{filler, Digest, wordsAt, holds, hashIn, putHash}
+use Rattle.tree.proofs.NodeLaws.{split}
+
+-- ---- words of a room
+
+pub length-wordsAt : (n : ℕ) (l : List ℕ) (i : ℕ) → length (wordsAt n l i) ≡ n
+unfolding wordsAt
+length-wordsAt zero l i = refl
+length-wordsAt (suc n) l i = ap suc (length-wordsAt n l (suc i))
+
+-- outside of what is written
+getD-sets-out : (vs l : List ℕ) (i j : ℕ) → (j < i) ⊎ (i + length vs ≤ j) → getD (sets l i vs) j 0 ≡ getD l j 0
+getD-sets-out [] l i j o = refl
+getD-sets-out (v ∷ vs) l i j o = getD-sets-out vs (set l i v) (suc i) j (go o) ∙ getD-set-other l i j v 0 (ne o)
+  where
+    go : (j < i) ⊎ (i + length (v ∷ vs) ≤ j) → (j < suc i) ⊎ (suc i + length vs ≤ j)
+    go (inl h) = inl (omega arith)
+    go (inr h) = inr (omega arith)
+
+    ne : (j < i) ⊎ (i + length (v ∷ vs) ≤ j) → j ≢ i
+    ne (inl h) e = omega arith
+    ne (inr h) e = omega arith
+
+words-out : (n : ℕ) (vs l : List ℕ) (i j : ℕ) → (j + n ≤ i) ⊎ (i + length vs ≤ j) → wordsAt n (sets l i vs) j ≡ wordsAt n l j
+unfolding wordsAt
+words-out zero vs l i j o = refl
+words-out (suc n) vs l i j o = ap₂ {C = List ℕ} _∷_ (getD-sets-out vs l i j (here o)) (words-out n vs l i (suc j) (there o))
+  where
+    here : (j + suc n ≤ i) ⊎ (i + length vs ≤ j) → (j < i) ⊎ (i + length vs ≤ j)
+    here (inl h) = inl (omega arith)
+    here (inr h) = inr h
+
+    there : (j + suc n ≤ i) ⊎ (i + length vs ≤ j) → (suc j + n ≤ i) ⊎ (i + length vs ≤ suc j)
+    there (inl h) = inl (omega arith)
+    there (inr h) = inr (omega arith)
+
+words-in : (vs l : List ℕ) (i : ℕ) → i + length vs ≤ length l → wordsAt (length vs) (sets l i vs) i ≡ vs
+unfolding wordsAt
+words-in [] l i h = refl
+words-in (v ∷ vs) l i h =
+    ap₂ {C = List ℕ} _∷_
+    (getD-sets-out vs (set l i v) (suc i) i (inl (omega arith)) ∙ getD-set-same l i v 0 (omega arith))
+    (words-in vs (set l i v) (suc i) (rw length-set (omega arith)))
+
+words-in-n : (n : ℕ) (vs l : List ℕ) (i : ℕ) → length vs ≡ n → i + n ≤ length l → wordsAt n (sets l i vs) i ≡ vs
+words-in-n n vs l i e h = rw (← e) (words-in vs l i (rw e h))
+
+-- ---- hashes
+
+pub digest-words : (w : List ℕ) → length w ≡ 8 → Digest (bytesOf w)
+unfolding Digest
+digest-words w e = (bytes-below w, bytes-length w ∙ ap (λ (n : ℕ). 4 * n) e)
+
+pub digest-filler : Digest filler
+unfolding Digest filler
+digest-filler = digest-words (replicate 8 0) refl
+
+pub digest-hash : (m : List ℕ) → Digest (sha256 m)
+unfolding Digest
+digest-hash m = (sha256-bytes m, sha256-length m)
+
+pub digest-in : (l : List ℕ) (b : ℕ) → Digest (hashIn l b)
+unfolding hashIn
+digest-in l b = go (holds l b)
+  where
+    go : (t : Bool) → Digest (pick t (bytesOf (wordsAt 8 l (8 * b))) filler)
+    go true = digest-words (wordsAt 8 l (8 * b)) (length-wordsAt 8 l (8 * b))
+    go false = digest-filler
+
+digest-length : (v : List ℕ) → Digest v → length v ≡ 32
+unfolding Digest
+digest-length v d = d .1
+
+pub hash-length : (l : List ℕ) (b : ℕ) → length (hashIn l b) ≡ 32
+hash-length l b = digest-length (hashIn l b) (digest-in l b)
+
+-- the words of a hash stand for it
+digest-back : (v : List ℕ) → Digest v → bytesOf (words 8 v) ≡ v
+unfolding Digest
+digest-back v d =
+    bytes-words 8 v (d .0) (omega (arith, d .1)) ∙ ap (λ (n : ℕ). take n v) (sym (d .1)) ∙ take-length v
+
+-- ---- by nodes
+
+pub length-putHash : (l : List ℕ) (b : ℕ) (v : List ℕ) → length (putHash l b v) ≡ length l
+unfolding putHash
+length-putHash l b v = go (holds l b)
+  where
+    go : (t : Bool) → length (pick t (sets l (8 * b) (words 8 v)) l) ≡ length l
+    go true = length-sets l (8 * b) (words 8 v)
+    go false = refl
+
+pub hash-same : (l : List ℕ) (b : ℕ) (v : List ℕ) → b < length l / 8 → Digest v → hashIn (putHash l b v) b ≡ v
+unfolding hashIn putHash
+hash-same l b v h d =
+    rw (lt-ltb b (length l / 8) h, length-sets l (8 * b) (words 8 v), lt-ltb b (length l / 8) h)
+    (ap bytesOf (words-in-n 8 (words 8 v) l (8 * b) (words-length 8 v) (omega arith)) ∙ digest-back v d)
+
+pub hash-other : (l : List ℕ) (b b′ : ℕ) (v : List ℕ) → b′ ≢ b → hashIn (putHash l b v) b′ ≡ hashIn l b′
+unfolding hashIn putHash
+hash-other l b b′ v d = go (holds l b)
+  where
+    apart : (b′ ≤ b) ⊎ (b < b′) → (8 * b′ + 8 ≤ 8 * b) ⊎ (8 * b + length (words 8 v) ≤ 8 * b′)
+    apart (inl h) = let e : suc b′ ≤ b = omega arith in inl (omega arith)
+    apart (inr h) = inr (omega (arith, words-length 8 v))
+
+    go : (t : Bool)
+        → pick (ltb b′ (length (pick t (sets l (8 * b) (words 8 v)) l) / 8)) (bytesOf (wordsAt 8 (pick t (sets l (8 * b) (words 8 v)) l) (8 * b′))) filler
+        ≡ pick (holds l b′) (bytesOf (wordsAt 8 l (8 * b′))) filler
+    go true =
+        ap₂ (λ (n : ℕ) (x : List ℕ). pick (ltb b′ (n / 8)) (bytesOf x) filler) (length-sets l (8 * b) (words 8 v))
+        (words-out 8 (words 8 v) l (8 * b) (8 * b′) (apart (split b′ b)))
+    go false = refl
+
+-- ---- as the code has them
+
+eight : (l : List ℕ) (i : ℕ)
+    → wordsAt 8 l i
+    ≡ getD l i 0 ∷ getD l (i + 1) 0 ∷ getD l (i + 2) 0 ∷ getD l (i + 3) 0 ∷ getD l (i + 4) 0 ∷ getD l (i + 5) 0 ∷ getD l (i + 6) 0 ∷ getD l (i + 7) 0 ∷ []
+unfolding wordsAt
+eight l i = simp towards-suc
+
+pub read-eight : (l : List ℕ) (b : ℕ) → b < length l / 8
+    → bytesOf (getD l (8 * b) 0 ∷ getD l (8 * b + 1) 0 ∷ getD l (8 * b + 2) 0 ∷ getD l (8 * b + 3) 0 ∷ getD l (8 * b + 4) 0 ∷ getD l (8 * b + 5) 0 ∷ getD l (8 * b + 6) 0 ∷ getD l (8 * b + 7) 0 ∷ [])
+    ≡ hashIn l b
+unfolding hashIn
+read-eight l b h = rw (lt-ltb b (length l / 8) h) (ap bytesOf (sym (eight l (8 * b))))
+
+pub read-past : (l : List ℕ) (b : ℕ) → length l / 8 ≤ b → hashIn l b ≡ filler
+unfolding hashIn
+read-past l b h = rw (le-ltb b (length l / 8) h)
+
+words-self : (n : ℕ) (p l : List ℕ) → length l ≡ n → wordsAt n (p ++ l) (length p) ≡ l
+unfolding wordsAt
+words-self zero p [] e = refl
+words-self zero p (x ∷ l) e = absurd (omega arith)
+words-self (suc n) p [] e = absurd (omega arith)
+words-self (suc n) p (x ∷ l) e =
+    ap₂ {C = List ℕ} _∷_ (getD-append-seam p x l 0)
+    (ap₂ (λ (q : List ℕ) (i : ℕ). wordsAt n q i) (sym (append-snoc p x l)) (sym (length-append p (x ∷ []) ∙ add-one (length p)))
+    ∙ words-self n (p ++ (x ∷ [])) l (omega arith))
+
+eight-stores : (l : List ℕ) (i : ℕ) (v : List ℕ) → length v ≡ 8
+    → set (set (set (set (set (set (set (set l i (getD v 0 0)) (i + 1) (getD v 1 0)) (i + 2) (getD v 2 0)) (i + 3) (getD v 3 0)) (i + 4) (getD v 4 0)) (i + 5) (getD v 5 0)) (i + 6) (getD v 6 0)) (i + 7) (getD v 7 0)
+    ≡ sets l i v
+unfolding wordsAt
+eight-stores l i v e = rw (← (words-self 8 [] v e)) (simp towards-suc)
+
+pub write-eight : (l : List ℕ) (b : ℕ) (v : List ℕ) → b < length l / 8 → length v ≡ 8 → Words v
+    → set (set (set (set (set (set (set (set l (8 * b) (getD v 0 0)) (8 * b + 1) (getD v 1 0)) (8 * b + 2) (getD v 2 0)) (8 * b + 3) (getD v 3 0)) (8 * b + 4) (getD v 4 0)) (8 * b + 5) (getD v 5 0)) (8 * b + 6) (getD v 6 0)) (8 * b + 7) (getD v 7 0)
+    ≡ putHash l b (bytesOf v)
+unfolding putHash
+write-eight l b v i e h =
+    rw (lt-ltb b (length l / 8) i)
+    (eight-stores l (8 * b) v e ∙ ap (sets l (8 * b)) (sym (ap (λ (n : ℕ). words n (bytesOf v)) (sym e) ∙ words-bytes v h)))
+
+pub write-past : (l : List ℕ) (b : ℕ) (v : List ℕ) → length l / 8 ≤ b → l ≡ putHash l b v
+unfolding putHash
+write-past l b v h = rw (le-ltb b (length l / 8) h)

@@ -1,0 +1,172 @@
+-- The verdict in the rooms' words: what the code computes is the theory's verdict on the rooms. Assumes nothing.
+use mathlib.Core.Path.{_≡_, refl, sym, ap, _∙_}
+use mathlib.Core.Bool.{Bool, true, false}
+use mathlib.Core.List.{List, [], map}
+use Prim.Native.Nat.{ℕ, suc, _+_, _^_, _≤_, _<_}
+use native.Mathlib.Omega.{arith}
+use Rattle.hash.proofs.Promise.{same, sha256}
+use Rattle.tree.specs.Pick.{pick}
+use Rattle.tree.specs.Node.{above}
+use Rattle.tree.specs.Pack.{levels}
+use Rattle.tree.specs.Peaks.{peaks, peakOf, siblings}
+use Rattle.tree.specs.Tree.{given, combined, climb}
+use Rattle.tree.specs.State.{adopted}
+use Rattle.tree.specs.Verdicts.{got, every, reachFrom, peaksTrusted, counted, reached, complete, rooted, met, verdict}
+use Rattle.tree.specs.declared.verdict.Verdict.the-variants.{Fits, Missing, WrongPeaks, WrongClimb}
+use Rattle.verdict.specs.Room.{filler}
+use Rattle.verdict.specs.Integrity.{Integrity, cameFrom}
+use Rattle.verdict.specs.Rooms.{roomsOf, stateOf, trustedIn, cameIn, gotBy}
+use Rattle.verdict.specs.Steps.{countedBit, countedHash}
+use Rattle.verdict.specs.Verdict.{roomVerdict}
+use Rattle.tree.proofs.NodeLaws.{whole-below, above-aligned}
+use Rattle.tree.proofs.PackLaws.{high-bound}
+use Rattle.tree.proofs.PeakLaws.{peak-of}
+use Rattle.tree.proofs.PeakTests.{all-peaks, peak-test}
+use Rattle.tree.proofs.TakeLaws.{reach-finds, fits-means}
+
+-- the height reached lies within the tree, and the node complete within the pack
+module _ (N : ℕ) (trusted : List ℕ) (c : ℕ) (l : c < N) where
+  peak-counts : (b : Bool) → b ≡ every (trustedIn trusted) (peaks N) → countedBit b N trusted (peakOf N c .high) (above (peakOf N c .high) c) ≡ true
+  peak-counts true e = all-peaks (trustedIn trusted) N (sym e) (peakOf N c .high) (above (peakOf N c .high) c) (above-aligned (peakOf N c .high) c) (peak-test N c l)
+  peak-counts false e = rw (peak-test N c l)
+
+  pub reach-in : (b : Bool) → b ≡ every (trustedIn trusted) (peaks N) → (t : ℕ) → t ≡ reachFrom (λ h. countedBit b N trusted h (above h c)) (suc (levels N)) 0
+      → (t ≤ levels N) × (above t c + 2 ^ t ≤ N) × (countedBit b N trusted t (above t c) ≡ true)
+  reach-in b e t q =
+      let k = peak-of N c l in
+      let p = peakOf N c .high in
+      let w : above p c + 2 ^ p ≤ N = rw (k .on-way) at (k .whole) in
+      let i = high-bound N p (omega arith) in
+      let R = rw (← q) at (reach-finds (λ h. countedBit b N trusted h (above h c)) p (peak-counts b e) (suc (levels N)) 0 (omega arith) (omega arith)) in
+      (omega (arith, R .within), whole-below N c t p (R .within .1) w, R .passes)
+
+module _ (L : ℕ) (bytes map : List ℕ) (N : ℕ) (r hashes trusted : List ℕ) (c : ℕ) (d : List ℕ) (o : Integrity) (b : Bool) (t : ℕ) where
+  reached-is : (x : Bool)
+      → reachFrom (λ h. countedBit x N trusted h (above h c)) (suc (levels N)) 0
+      ≡ reachFrom (λ h. pick x (stateOf L (roomsOf bytes map hashes trusted)) (adopted N (got filler (cameFrom o)) (stateOf L (roomsOf bytes map hashes trusted))) .trust h (above h c)) (suc (levels N)) 0
+  reached-is true = refl
+  reached-is false = refl
+
+  target-is : (x : Bool) (h a : ℕ) → countedHash x N hashes o h a ≡ pick x (stateOf L (roomsOf bytes map hashes trusted)) (adopted N (got filler (cameFrom o)) (stateOf L (roomsOf bytes map hashes trusted))) .hash h a
+  target-is true h a = refl
+  target-is false h a = refl
+
+  module _ (bo : b ≡ every (trustedIn trusted) (peaks N)) (tr : t ≡ reachFrom (λ h. countedBit b N trusted h (above h c)) (suc (levels N)) 0) where
+    is-peaksTrusted : b ≡ peaksTrusted sha256 filler N r (stateOf L (roomsOf bytes map hashes trusted)) c d (cameFrom o)
+    unfolding peaksTrusted
+    is-peaksTrusted = bo
+
+    is-reached : t ≡ reached sha256 filler N r (stateOf L (roomsOf bytes map hashes trusted)) c d (cameFrom o)
+    unfolding reached counted
+    is-reached = tr ∙ reached-is b ∙ ap (λ (x : Bool). reachFrom (λ h. pick x (stateOf L (roomsOf bytes map hashes trusted)) (adopted N (got filler (cameFrom o)) (stateOf L (roomsOf bytes map hashes trusted))) .trust h (above h c)) (suc (levels N)) 0) is-peaksTrusted
+
+    is-complete : pick (pick b true (every (cameIn o) (peaks N))) (every (cameIn o) (siblings c t (above t c))) false ≡ complete sha256 filler N r (stateOf L (roomsOf bytes map hashes trusted)) c d (cameFrom o)
+    unfolding complete
+    is-complete = rw (is-peaksTrusted, is-reached)
+
+    is-rooted : pick b true (same (given sha256 filler N (gotBy o) (levels N) 0) r) ≡ rooted sha256 filler N r (stateOf L (roomsOf bytes map hashes trusted)) c d (cameFrom o)
+    unfolding combined rooted
+    is-rooted = rw is-peaksTrusted
+
+    is-met : same (climb sha256 (gotBy o) (sha256 d) c t (above t c)) (countedHash b N hashes o t (above t c)) ≡ met sha256 filler N r (stateOf L (roomsOf bytes map hashes trusted)) c d (cameFrom o)
+    unfolding counted met
+    is-met = rw (target-is b t (above t c), is-peaksTrusted, is-reached)
+
+    module _ (u : Bool) (uo : u ≡ pick (pick b true (every (cameIn o) (peaks N))) (every (cameIn o) (siblings c t (above t c))) false) where
+      pub at-missing : u ≡ false → Missing ≡ verdict sha256 filler N r (stateOf L (roomsOf bytes map hashes trusted)) c d (cameFrom o)
+      unfolding verdict
+      at-missing e = sym (rw (sym is-complete ∙ sym uo ∙ e))
+
+      module _ (v : Bool) (vo : v ≡ pick b true (same (given sha256 filler N (gotBy o) (levels N) 0) r)) (ut : u ≡ true) where
+        pub at-peaks : v ≡ false → WrongPeaks ≡ verdict sha256 filler N r (stateOf L (roomsOf bytes map hashes trusted)) c d (cameFrom o)
+        unfolding verdict
+        at-peaks e = sym (cases (complete sha256 filler N r (stateOf L (roomsOf bytes map hashes trusted)) c d (cameFrom o)) (rooted sha256 filler N r (stateOf L (roomsOf bytes map hashes trusted)) c d (cameFrom o)) (sym is-complete ∙ sym uo ∙ ut) (sym is-rooted ∙ sym vo ∙ e))
+          where
+            cases : (x y : Bool) → x ≡ true → y ≡ false → pick x (pick y (pick (met sha256 filler N r (stateOf L (roomsOf bytes map hashes trusted)) c d (cameFrom o)) (Fits (reached sha256 filler N r (stateOf L (roomsOf bytes map hashes trusted)) c d (cameFrom o))) WrongClimb) WrongPeaks) Missing ≡ WrongPeaks
+            cases x y p q = rw (p, q)
+
+        module _ (w : Bool) (wo : w ≡ same (climb sha256 (gotBy o) (sha256 d) c t (above t c)) (countedHash b N hashes o t (above t c))) (vt : v ≡ true) where
+          pick-last : pick (complete sha256 filler N r (stateOf L (roomsOf bytes map hashes trusted)) c d (cameFrom o)) (pick (rooted sha256 filler N r (stateOf L (roomsOf bytes map hashes trusted)) c d (cameFrom o)) (pick (met sha256 filler N r (stateOf L (roomsOf bytes map hashes trusted)) c d (cameFrom o)) (Fits (reached sha256 filler N r (stateOf L (roomsOf bytes map hashes trusted)) c d (cameFrom o))) WrongClimb) WrongPeaks) Missing
+              ≡ pick w (Fits t) WrongClimb
+          pick-last = cases _ _ _ _ (sym is-complete ∙ sym uo ∙ ut) (sym is-rooted ∙ sym vo ∙ vt) (sym is-met ∙ sym wo) (sym is-reached)
+            where
+              cases : (x y z : Bool) (h : ℕ) → x ≡ true → y ≡ true → z ≡ w → h ≡ t → pick x (pick y (pick z (Fits h) WrongClimb) WrongPeaks) Missing ≡ pick w (Fits t) WrongClimb
+              cases x y z h p q m n = rw (p, q, m, n)
+
+          pub at-climb : w ≡ false → WrongClimb ≡ verdict sha256 filler N r (stateOf L (roomsOf bytes map hashes trusted)) c d (cameFrom o)
+          unfolding verdict
+          at-climb e = sym (pick-last ∙ rw e)
+
+          pub at-fits : w ≡ true → Fits t ≡ verdict sha256 filler N r (stateOf L (roomsOf bytes map hashes trusted)) c d (cameFrom o)
+          unfolding verdict
+          at-fits e = sym (pick-last ∙ rw e)
+
+-- what the verdict is, in the rooms' words; it looks at the hashes and the trusted bits alone
+module _ (N : ℕ) (r hashes trusted : List ℕ) (c : ℕ) (d : List ℕ) (o : Integrity) (L : ℕ) (bytes map : List ℕ) where
+  abbrev openly : Bool
+  openly = every (trustedIn trusted) (peaks N)
+
+  abbrev reaches : ℕ
+  reaches = reachFrom (λ h. countedBit openly N trusted h (above h c)) (suc (levels N)) 0
+
+  in-rooms : verdict sha256 filler N r (stateOf L (roomsOf bytes map hashes trusted)) c d (cameFrom o)
+      ≡ pick (pick (pick openly true (every (cameIn o) (peaks N))) (every (cameIn o) (siblings c reaches (above reaches c))) false)
+      (pick (pick openly true (same (given sha256 filler N (gotBy o) (levels N) 0) r))
+      (pick (same (climb sha256 (gotBy o) (sha256 d) c reaches (above reaches c)) (countedHash openly N hashes o reaches (above reaches c))) (Fits reaches) WrongClimb) WrongPeaks) Missing
+  unfolding verdict
+  in-rooms = sym (cases _ _ _ _ _ _ _ _ (is-complete L bytes map N r hashes trusted c d o openly reaches refl refl) (is-rooted L bytes map N r hashes trusted c d o openly reaches refl refl) (is-met L bytes map N r hashes trusted c d o openly reaches refl refl) (is-reached L bytes map N r hashes trusted c d o openly reaches refl refl))
+    where
+      cases : (u u′ v v′ w w′ : Bool) (h h′ : ℕ) → u ≡ u′ → v ≡ v′ → w ≡ w′ → h ≡ h′ → pick u (pick v (pick w (Fits h) WrongClimb) WrongPeaks) Missing ≡ pick u′ (pick v′ (pick w′ (Fits h′) WrongClimb) WrongPeaks) Missing
+      cases u u′ v v′ w w′ h h′ e f g i = rw (e, f, g, i)
+
+pub verdict-sees : (N : ℕ) (r hashes trusted : List ℕ) (c : ℕ) (d : List ℕ) (o : Integrity) (L : ℕ) (bytes map : List ℕ)
+    → roomVerdict N r hashes trusted c d o ≡ verdict sha256 filler N r (stateOf L (roomsOf bytes map hashes trusted)) c d (cameFrom o)
+unfolding roomVerdict
+verdict-sees N r hashes trusted c d o L bytes map = in-rooms N r hashes trusted c d o 0 [] [] ∙ sym (in-rooms N r hashes trusted c d o L bytes map)
+
+-- the height reached, in the theory's words
+is-counted : (N : ℕ) (r hashes trusted : List ℕ) (c : ℕ) (d : List ℕ) (o : Integrity)
+    → reachFrom (λ h. countedBit (every (trustedIn trusted) (peaks N)) N trusted h (above h c)) (suc (levels N)) 0
+    ≡ reachFrom (λ h. counted sha256 filler N r (stateOf 0 (roomsOf [] [] hashes trusted)) c d (cameFrom o) .trust h (above h c)) (suc (levels N)) 0
+unfolding counted peaksTrusted
+is-counted N r hashes trusted c d o = reached-is 0 [] [] N r hashes trusted c d o true 0 (every (trustedIn trusted) (peaks N))
+
+-- a chunk that fits hangs below a node of the tree
+pub fits-within : (N : ℕ) (r hashes trusted : List ℕ) (c : ℕ) (d : List ℕ) (o : Integrity) (t : ℕ) → c < N → roomVerdict N r hashes trusted c d o ≡ Fits t → t ≤ levels N
+fits-within N r hashes trusted c d o t l e =
+    let f = fits-means sha256 filler N r (stateOf 0 (roomsOf [] [] hashes trusted)) c d (cameFrom o) t (sym (verdict-sees N r hashes trusted c d o 0 [] []) ∙ e) in
+    let j = reach-in N trusted c l (every (trustedIn trusted) (peaks N)) refl t (f .reached-is ∙ sym (is-counted N r hashes trusted c d o)) in
+    j .0
+
+-- ---- test by test, as the code has them
+
+module _ (N : ℕ) (r hashes trusted : List ℕ) (c : ℕ) (d : List ℕ) (o : Integrity) (b : Bool) (t top : ℕ) (te : top ≡ levels N)
+    (bo : b ≡ every (trustedIn trusted) (peaks N)) (tr : t ≡ reachFrom (λ h. countedBit b N trusted h (above h c)) (suc top) 0)
+    (u : Bool) (uo : u ≡ pick (pick b true (every (cameIn o) (peaks N))) (every (cameIn o) (siblings c t (above t c))) false) where
+  at-levels : t ≡ reachFrom (λ h. countedBit b N trusted h (above h c)) (suc (levels N)) 0
+  at-levels = tr ∙ ap (λ (x : ℕ). reachFrom (λ h. countedBit b N trusted h (above h c)) (suc x) 0) te
+
+  pub judge-missing : u ≡ false → Missing ≡ roomVerdict N r hashes trusted c d o
+  unfolding roomVerdict
+  judge-missing e = at-missing 0 [] [] N r hashes trusted c d o b t bo at-levels u uo e
+
+  module _ (v : Bool) (vo : v ≡ pick b true (same (given sha256 filler N (gotBy o) top 0) r)) (ut : u ≡ true) where
+    roots : v ≡ pick b true (same (given sha256 filler N (gotBy o) (levels N) 0) r)
+    roots = vo ∙ ap (λ (x : ℕ). pick b true (same (given sha256 filler N (gotBy o) x 0) r)) te
+
+    pub judge-peaks : v ≡ false → WrongPeaks ≡ roomVerdict N r hashes trusted c d o
+    unfolding roomVerdict
+    judge-peaks e = at-peaks 0 [] [] N r hashes trusted c d o b t bo at-levels u uo v roots ut e
+
+    module _ (x : List ℕ) (xe : x ≡ sha256 d) (w : Bool)
+        (wo : w ≡ same (climb sha256 (gotBy o) x c t (above t c)) (countedHash b N hashes o t (above t c))) (vt : v ≡ true) where
+      meets : w ≡ same (climb sha256 (gotBy o) (sha256 d) c t (above t c)) (countedHash b N hashes o t (above t c))
+      meets = wo ∙ ap (λ (y : List ℕ). same (climb sha256 (gotBy o) y c t (above t c)) (countedHash b N hashes o t (above t c))) xe
+
+      pub judge-climb : w ≡ false → WrongClimb ≡ roomVerdict N r hashes trusted c d o
+      unfolding roomVerdict
+      judge-climb e = at-climb 0 [] [] N r hashes trusted c d o b t bo at-levels u uo v roots ut w meets vt e
+
+      pub judge-fits : w ≡ true → Fits t ≡ roomVerdict N r hashes trusted c d o
+      unfolding roomVerdict
+      judge-fits e = at-fits 0 [] [] N r hashes trusted c d o b t bo at-levels u uo v roots ut w meets vt e

@@ -1,0 +1,5 @@
+pub mod Room
+pub mod Integrity
+pub mod Rooms
+pub mod Verdict
+pub mod Steps

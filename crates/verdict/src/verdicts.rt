@@ -1,0 +1,231 @@
+// Whether a chunk that came may be stored: the climb to the first trusted node, and the verdict.
+ghost use mathlib.Core.Path.{_≡_};
+ghost use Prim.Native.Nat.{ℕ, suc, _≤_, _<_, _^_};
+ghost use mathlib.Core.Bool.{true, false};
+ghost use lib.ListN.{length};
+ghost use Rattle.hash.proofs.Promise.{bytesOf, sha256, same};
+ghost use Rattle.tree.specs.Pick.{pick};
+ghost use Rattle.tree.specs.Node.{above, other};
+ghost use Rattle.tree.specs.Pack.{levels};
+ghost use Rattle.tree.specs.Peaks.{peaks, siblings};
+ghost use Rattle.tree.specs.Steps.{siblingAt};
+ghost use Rattle.tree.specs.Tree.{given, joined, climb};
+ghost use Rattle.tree.specs.Verdicts.{every, reachFrom};
+ghost use Rattle.verdict.specs.Room.{filler};
+ghost use Rattle.verdict.specs.Integrity.{integrityOf};
+ghost use Rattle.verdict.specs.Rooms.{cameIn, gotBy};
+ghost use Rattle.verdict.specs.Steps.{countedBit, countedHash, scratchWords, Climbed};
+ghost use Rattle.verdict.specs.Verdict.{roomVerdict};
+use crate::integrity;
+use crate::peaks;
+use crate::room;
+use hash::message;
+use hash::node;
+use hash::value;
+use hash::value::HashValue;
+use tree::verdict::Verdict;
+
+// The words of a scratch: it keeps the hash of a climb's node at each height from 0 to 32, so that storing hashes none again.
+pub const SCRATCH: usize = 264;
+
+// One height of siblings_came.
+fn sibling_came(entries: &[u64], bytes: &[u8], c: u32, h: u32, ok: bool) -> bool
+    requires { ⌜ h < 59 ⌝ }
+    ensures { λ r. ⌜ r ≡ pick (cameIn (integrityOf (now (entries .entry)) (now (bytes .entry))) (siblingAt c h)) ok false ⌝ }
+{
+    let b = tree::peaks::sibling(c, h);
+    if integrity::has(entries, bytes, b) {
+        return ok;
+    }
+    false
+}
+
+// Whether the sibling of each node above chunk c of a height below t came.
+fn siblings_came(entries: &[u64], bytes: &[u8], c: u32, t: u32) -> bool
+    requires { ⌜ t ≤ 33 ⌝ }
+    ensures { λ r. ⌜ r ≡ every (cameIn (integrityOf (now (entries .entry)) (now (bytes .entry)))) (siblings c t (above t c)) ⌝ }
+{
+    let mut ok = true;
+    let mut h = 0u32;
+    while h < t {
+        ok = sibling_came(entries, bytes, c, h, ok);
+        h = h + 1;
+    }
+    ok
+}
+
+// Whether the node of height h above chunk c counts as trusted.
+fn counts(trusted: &[u32], opened: bool, n: u32, c: u32, h: u32) -> bool
+    requires { ⌜ h < 59 ⌝ }
+    ensures { λ r. ⌜ r ≡ countedBit opened n (now (trusted .entry)) h (above h c) ⌝ }
+{
+    let b = tree::peaks::node(c, h);
+    if bits::test(trusted, b as usize) {
+        return true;
+    }
+    if opened {
+        return false;
+    }
+    tree::peaks::is_peak(n, c, h)
+}
+
+// The height of the first node at or above chunk c that counts as trusted.
+fn reach(trusted: &[u32], opened: bool, n: u32, c: u32, top: u32) -> u32
+    requires { ⌜ top ≤ 32 ⌝ }
+    ensures { λ r. ⌜ (r ≡ reachFrom (λ h. countedBit opened n (now (trusted .entry)) h (above h c)) (suc top) 0) × (r ≤ 33) ⌝ }
+{
+    let mut h = 0u32;
+    let mut left = top + 1;
+    while 0 < left {
+        if counts(trusted, opened, n, c, h) {
+            return h;
+        }
+        h = h + 1;
+        left = left - 1;
+    }
+    h
+}
+
+// One step of the climb from chunk c, from height h to the next: left then right.
+fn step(entries: &[u64], bytes: &[u8], c: u32, h: u32, acc: HashValue) -> HashValue
+    requires { ⌜ h < 59 ⌝ }
+    ensures { λ r. ⌜ bytesOf (r .words) ≡ joined sha256 c h (above (suc h) c) (bytesOf (acc .words)) (gotBy (integrityOf (now (entries .entry)) (now (bytes .entry))) h (other c h (above (suc h) c))) ⌝ }
+{
+    let b = tree::peaks::sibling(c, h);
+    let s = integrity::get(entries, bytes, b);
+    if tree::peaks::side(c, h) == 0 {
+        return node::parent(acc, s);
+    }
+    node::parent(s, acc)
+}
+
+// The climb from chunk c, whose leaf has the hash v, to the node of height t above it; the scratch keeps the hashes below.
+fn climb(
+    scratch: &mut [u32],
+    entries: &[u64],
+    bytes: &[u8],
+    c: u32,
+    v: HashValue,
+    t: u32,
+) -> HashValue
+    requires { ⌜ (t ≤ 33) × (scratchWords ≤ length (now scratch)) ⌝ }
+    ensures { λ r. ⌜ (bytesOf (r .words) ≡ climb sha256 (gotBy (integrityOf (now (entries .entry)) (now (bytes .entry)))) (bytesOf (v .words)) c t (above t c)) × Climbed (now (scratch .exit)) (gotBy (integrityOf (now (entries .entry)) (now (bytes .entry)))) (bytesOf (v .words)) c t ⌝ }
+{
+    let mut acc = v;
+    let mut h = 0u32;
+    while h < t {
+        room::write(scratch, h as u64, acc);
+        acc = step(entries, bytes, c, h, acc);
+        h = h + 1;
+    }
+    acc
+}
+
+// The hash that counts for the node of height t above chunk c: a peak's came where the peaks aren't trusted yet.
+fn target(
+    hashes: &[u32],
+    entries: &[u64],
+    bytes: &[u8],
+    opened: bool,
+    n: u32,
+    c: u32,
+    t: u32,
+) -> HashValue
+    requires { ⌜ t ≤ 33 ⌝ }
+    ensures { λ r. ⌜ bytesOf (r .words) ≡ countedHash opened n (now (hashes .entry)) (integrityOf (now (entries .entry)) (now (bytes .entry))) t (above t c) ⌝ }
+{
+    let b = tree::peaks::node(c, t);
+    if opened {
+        return room::read(hashes, b);
+    }
+    if tree::peaks::is_peak(n, c, t) {
+        return integrity::get(entries, bytes, b);
+    }
+    room::read(hashes, b)
+}
+
+// Whether each hash that is needed came.
+fn complete(entries: &[u64], bytes: &[u8], opened: bool, n: u32, c: u32, top: u32, t: u32) -> bool
+    requires { ⌜ (top ≡ levels n) × (top ≤ 32) × (t ≤ 33) ⌝ }
+    ensures { λ r. ⌜ r ≡ pick (pick opened true (every (cameIn (integrityOf (now (entries .entry)) (now (bytes .entry)))) (peaks n))) (every (cameIn (integrityOf (now (entries .entry)) (now (bytes .entry)))) (siblings c t (above t c))) false ⌝ }
+{
+    if opened {
+        return siblings_came(entries, bytes, c, t);
+    }
+    if peaks::all_came(entries, bytes, n, top) {
+        return siblings_came(entries, bytes, c, t);
+    }
+    false
+}
+
+// Whether the peaks are trusted, or give the root.
+fn rooted(
+    entries: &[u64],
+    bytes: &[u8],
+    hashes: &[u32],
+    opened: bool,
+    root: HashValue,
+    n: u32,
+    top: u32,
+) -> bool
+    requires { ⌜ (top ≤ 32) × (n ≤ 2 ^ top) ⌝ }
+    ensures { λ r. ⌜ r ≡ pick opened true (same (given sha256 filler n (gotBy (integrityOf (now (entries .entry)) (now (bytes .entry)))) top 0) (bytesOf (root .words))) ⌝ }
+{
+    if opened {
+        return true;
+    }
+    let p = peaks::root_of_peaks(true, hashes, entries, bytes, n, top);
+    value::same(p, root)
+}
+
+// Whether the climb from the leaf's hash gives the hash that counts for the node of height t; the scratch keeps the climb.
+fn met(
+    scratch: &mut [u32],
+    hashes: &[u32],
+    entries: &[u64],
+    bytes: &[u8],
+    opened: bool,
+    n: u32,
+    c: u32,
+    t: u32,
+    leaf: HashValue,
+) -> bool
+    requires { ⌜ (t ≤ 33) × (scratchWords ≤ length (now scratch)) ⌝ }
+    ensures { λ r. ⌜ (r ≡ same (climb sha256 (gotBy (integrityOf (now (entries .entry)) (now (bytes .entry)))) (bytesOf (leaf .words)) c t (above t c)) (countedHash opened n (now (hashes .entry)) (integrityOf (now (entries .entry)) (now (bytes .entry))) t (above t c))) × Climbed (now (scratch .exit)) (gotBy (integrityOf (now (entries .entry)) (now (bytes .entry)))) (bytesOf (leaf .words)) c t ⌝ }
+{
+    let x = climb(scratch, entries, bytes, c, leaf, t);
+    let y = target(hashes, entries, bytes, opened, n, c, t);
+    value::same(x, y)
+}
+
+// What becomes of chunk c of n that came with these hashes. The chunk is hashed once, and only where that decides; where it
+// fits, the scratch keeps the climb.
+pub fn judge(
+    scratch: &mut [u32],
+    hashes: &[u32],
+    trusted: &[u32],
+    root: HashValue,
+    n: u32,
+    c: u32,
+    chunk: &[u8],
+    entries: &[u64],
+    bytes: &[u8],
+) -> Verdict
+    requires { ⌜ scratchWords ≤ length (now scratch) ⌝ }
+    ensures { λ r. ⌜ (r ≡ roomVerdict n (bytesOf (root .words)) (now (hashes .entry)) (now (trusted .entry)) c (now (chunk .entry)) (integrityOf (now (entries .entry)) (now (bytes .entry)))) × ((t : ℕ) → r ≡ Verdict.Fits t → Climbed (now (scratch .exit)) (gotBy (integrityOf (now (entries .entry)) (now (bytes .entry)))) (sha256 (now (chunk .entry))) c t) ⌝ }
+{
+    let top = tree::pack::levels(n);
+    let opened = peaks::all_trusted(trusted, n, top);
+    let t = reach(trusted, opened, n, c, top);
+    if !complete(entries, bytes, opened, n, c, top, t) {
+        return Verdict::Missing;
+    }
+    if !rooted(entries, bytes, hashes, opened, root, n, top) {
+        return Verdict::WrongPeaks;
+    }
+    let leaf = message::sha256(chunk);
+    if !met(scratch, hashes, entries, bytes, opened, n, c, t, leaf) {
+        return Verdict::WrongClimb;
+    }
+    Verdict::Fits(t)
+}
