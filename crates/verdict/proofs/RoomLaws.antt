@@ -154,15 +154,24 @@ words-self (suc n) p (x ∷ l) e =
     (ap₂ (λ (q : List ℕ) (i : ℕ). wordsAt n q i) (sym (append-snoc p x l)) (sym (length-append p (x ∷ []) ∙ add-one (length p)))
     ∙ words-self n (p ++ (x ∷ [])) l (omega arith))
 
-eight-stores : (l : List ℕ) (i : ℕ) (v : List ℕ) → length v ≡ 8
-    → set (set (set (set (set (set (set (set l i (getD v 0 0)) (i + 1) (getD v 1 0)) (i + 2) (getD v 2 0)) (i + 3) (getD v 3 0)) (i + 4) (getD v 4 0)) (i + 5) (getD v 5 0)) (i + 6) (getD v 6 0)) (i + 7) (getD v 7 0)
-    ≡ sets l i v
+-- the first k + 1 of them written from place i on
+abbrev written : ℕ → List ℕ → ℕ → List ℕ → List ℕ
+written zero l i v = set l i (getD v 0 0)
+written (suc k) l i v = set (written k l i v) (i + suc k) (getD v (suc k) 0)
+
+pub length-written : (k : ℕ) (l : List ℕ) (i : ℕ) (v : List ℕ) → length (written k l i v) ≡ length l
+length-written zero l i v = length-set l i (getD v 0 0)
+length-written (suc k) l i v = length-set (written k l i v) (i + suc k) (getD v (suc k) 0) ∙ length-written k l i v
+
+-- the next one has its place
+pub inside : (k : ℕ) (l : List ℕ) (b : ℕ) (v : List ℕ) → k < 7 → b < length l / 8 → 8 * b + suc k < length (written k l (8 * b) v)
+inside k l b v h q = rw (length-written k l (8 * b) v) (omega arith)
+
+eight-stores : (l : List ℕ) (i : ℕ) (v : List ℕ) → length v ≡ 8 → written 7 l i v ≡ sets l i v
 unfolding wordsAt
 eight-stores l i v e = rw (← (words-self 8 [] v e)) (simp towards-suc)
 
-pub write-eight : (l : List ℕ) (b : ℕ) (v : List ℕ) → b < length l / 8 → length v ≡ 8 → Words v
-    → set (set (set (set (set (set (set (set l (8 * b) (getD v 0 0)) (8 * b + 1) (getD v 1 0)) (8 * b + 2) (getD v 2 0)) (8 * b + 3) (getD v 3 0)) (8 * b + 4) (getD v 4 0)) (8 * b + 5) (getD v 5 0)) (8 * b + 6) (getD v 6 0)) (8 * b + 7) (getD v 7 0)
-    ≡ putHash l b (bytesOf v)
+pub write-eight : (l : List ℕ) (b : ℕ) (v : List ℕ) → b < length l / 8 → length v ≡ 8 → Words v → written 7 l (8 * b) v ≡ putHash l b (bytesOf v)
 unfolding putHash
 write-eight l b v i e h =
     rw (lt-ltb b (length l / 8) i)

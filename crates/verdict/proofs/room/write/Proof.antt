@@ -1,10 +1,11 @@
+use Prim.Native.Nat.{_*_}
 use native.Mathlib.Omega.{arith}
 use mir.Val.{Fits}
 use mir.Syntax.{w32}
-use lib.ListN.{getD, length-set}
+use lib.ListN.{getD}
 use Rattle.hash.proofs.Promise.{bytesOf, words}
 use Rattle.tree.specs.Peaks.{before}
-use Rattle.verdict.proofs.RoomLaws.{write-eight, write-past}
+use Rattle.verdict.proofs.RoomLaws.{length-written, inside, write-eight, write-past}
 use borrow.Author.Needs.{needs}
 use Rattle.verdict.proofs.room.write.Statement.{statement}
 use Rattle.verdict.proofs.room.write.Tie as tie
@@ -31,7 +32,7 @@ mul-hashes-2 : tie.Need-mul-hashes-2
 mul-hashes-2 c = search needs
 
 slice-write-hashes-2 : tie.Need-slice-write-hashes-2
-slice-write-hashes-2 c = simp length-set (omega arith)
+slice-write-hashes-2 c = let a = c .before .before .before .args in inside 0 (a .hashes .now) (a .b) (a .t3 .words) (omega arith) (omega arith)
 
 element-copy-out-hashes-3 : tie.Need-element-copy-out-hashes-3
 element-copy-out-hashes-3 c = search needs
@@ -43,7 +44,7 @@ mul-hashes-3 : tie.Need-mul-hashes-3
 mul-hashes-3 c = search needs
 
 slice-write-hashes-3 : tie.Need-slice-write-hashes-3
-slice-write-hashes-3 c = simp length-set (omega arith)
+slice-write-hashes-3 c = let a = c .before .before .before .before .args in inside 1 (a .hashes .now) (a .b) (a .t3 .words) (omega arith) (omega arith)
 
 element-copy-out-hashes-4 : tie.Need-element-copy-out-hashes-4
 element-copy-out-hashes-4 c = search needs
@@ -55,7 +56,7 @@ mul-hashes-4 : tie.Need-mul-hashes-4
 mul-hashes-4 c = search needs
 
 slice-write-hashes-4 : tie.Need-slice-write-hashes-4
-slice-write-hashes-4 c = simp length-set (omega arith)
+slice-write-hashes-4 c = let a = c .before .before .before .before .before .args in inside 2 (a .hashes .now) (a .b) (a .t3 .words) (omega arith) (omega arith)
 
 element-copy-out-hashes-5 : tie.Need-element-copy-out-hashes-5
 element-copy-out-hashes-5 c = search needs
@@ -67,7 +68,7 @@ mul-hashes-5 : tie.Need-mul-hashes-5
 mul-hashes-5 c = search needs
 
 slice-write-hashes-5 : tie.Need-slice-write-hashes-5
-slice-write-hashes-5 c = simp length-set (omega arith)
+slice-write-hashes-5 c = let a = c .before .before .before .before .before .before .args in inside 3 (a .hashes .now) (a .b) (a .t3 .words) (omega arith) (omega arith)
 
 element-copy-out-hashes-6 : tie.Need-element-copy-out-hashes-6
 element-copy-out-hashes-6 c = search needs
@@ -79,7 +80,7 @@ mul-hashes-6 : tie.Need-mul-hashes-6
 mul-hashes-6 c = search needs
 
 slice-write-hashes-6 : tie.Need-slice-write-hashes-6
-slice-write-hashes-6 c = simp length-set (omega arith)
+slice-write-hashes-6 c = let a = c .before .before .before .before .before .before .before .args in inside 4 (a .hashes .now) (a .b) (a .t3 .words) (omega arith) (omega arith)
 
 element-copy-out-hashes-7 : tie.Need-element-copy-out-hashes-7
 element-copy-out-hashes-7 c = search needs
@@ -91,7 +92,7 @@ mul-hashes-7 : tie.Need-mul-hashes-7
 mul-hashes-7 c = search needs
 
 slice-write-hashes-7 : tie.Need-slice-write-hashes-7
-slice-write-hashes-7 c = simp length-set (omega arith)
+slice-write-hashes-7 c = let a = c .before .before .before .before .before .before .before .before .args in inside 5 (a .hashes .now) (a .b) (a .t3 .words) (omega arith) (omega arith)
 
 element-copy-out-hashes-8 : tie.Need-element-copy-out-hashes-8
 element-copy-out-hashes-8 c = search needs
@@ -103,10 +104,10 @@ mul-hashes-8 : tie.Need-mul-hashes-8
 mul-hashes-8 c = search needs
 
 slice-write-hashes-8 : tie.Need-slice-write-hashes-8
-slice-write-hashes-8 c = simp length-set (omega arith)
+slice-write-hashes-8 c = let a = c .before .before .before .before .before .before .before .before .before .args in inside 6 (a .hashes .now) (a .b) (a .t3 .words) (omega arith) (omega arith)
 
 same-length : tie.Need-same-length
-same-length c = simp length-set
+same-length c = let a = c .before .before .before .before .before .before .before .before .before .args in length-written 7 (a .hashes .now) (8 * a .b) (a .t3 .words)
 
 returns : tie.Need-returns
 returns c = let a = c .before .before .before .before .before .before .before .before .before .args in write-eight (a .hashes .now) (a .b) (a .t3 .words) (omega arith) (search needs) (λ i. let f : Fits w32 (getD (a .t3 .words) i 0) = search needs in f .fits)
