@@ -2,17 +2,20 @@
 use mathlib.Core.Path.{_≡_, refl, sym, ap, ap₂, _∙_}
 use mathlib.Core.Logic.{_≢_}
 use mathlib.Core.Bool.{Bool, true, false, not}
-use mathlib.Core.List.{List, [], map}
+use mathlib.Core.List.{List, [], _∷_, map}
 use Prim.Native.Nat.{ℕ, zero, suc, _+_, _*_, _≤_, _<_}
 use native.Mathlib.Omega.{arith}
 use borrow.Author.Tests.{eqb-true}
+use types.Run.{OneOf, miss}
+use denote.Enum.Declared.{tagOf}
 use lib.Dec.{eqb}
 use lib.ListN.{length}
 use Rattle.bits.proofs.Promise.{setBit}
 use Rattle.tree.specs.Pack.{chunkSize, leafPlaces, rootNode}
 use Rattle.tree.specs.Verdicts.{number}
 use Rattle.tree.specs.declared.verdict.Verdict.{Verdict}
-use Rattle.tree.specs.declared.verdict.Verdict.the-variants.{Fits}
+use Rattle.tree.specs.declared.verdict.Verdict.the-variants.{Fits, Missing, WrongPeaks, WrongClimb}
+use Rattle.tree.proofs.verdict.Verdict as verdict
 use Rattle.verdict.specs.Room.{filler, putHash}
 use Rattle.verdict.specs.Integrity.{Integrity}
 use Rattle.verdict.specs.Rooms.{Rooms, roomsOf, countOf}
@@ -95,6 +98,16 @@ root-not (suc k) r d e = e
 
 -- ---- taking
 
+-- the verdicts that refuse a chunk: its rooms stay
+abbrev refusals : List ℕ
+refusals = 1 ∷ 2 ∷ 3 ∷ []
+
+stays : (v : Verdict) (w : Rooms) (new : ℕ → Rooms) → OneOf refusals (tagOf verdict.the-type v) → w ≡ roomsBy v w new
+stays (Fits t) w new h = absurd (miss refusals 0 tt h)
+stays Missing w new h = refl
+stays WrongPeaks w new h = refl
+stays WrongClimb w new h = refl
+
 module _ (w : Rooms) (r : List ℕ) (N c : ℕ) (d : List ℕ) (o : Integrity) (v : Verdict) (vo : v ≡ roomVerdict N r (w .hashes) (w .trusted) c d o) where
   settle-by : (n : ℕ) (w′ : Rooms) → n ≡ number v → w′ ≡ roomsBy v w (λ t. storeSpec w N c t d o) → outOf n w′ ≡ settleSpec w r N c d o
   unfolding settleSpec
@@ -104,8 +117,8 @@ module _ (w : Rooms) (r : List ℕ) (N c : ℕ) (d : List ℕ) (o : Integrity) (
   pub settle-fits : (n t : ℕ) (w′ : Rooms) → n ≡ number v → v ≡ Fits t → w′ ≡ storeSpec w N c t d o → outOf n w′ ≡ settleSpec w r N c d o
   settle-fits n t w′ k e f = settle-by n w′ k (f ∙ ap (λ (x : Verdict). roomsBy x w (λ k. storeSpec w N c k d o)) (sym e))
 
-  pub settle-refused : (n : ℕ) (u : Verdict) → n ≡ number v → v ≡ u → w ≡ roomsBy u w (λ t. storeSpec w N c t d o) → outOf n w ≡ settleSpec w r N c d o
-  settle-refused n u k e f = settle-by n w k (f ∙ ap (λ (x : Verdict). roomsBy x w (λ k. storeSpec w N c k d o)) (sym e))
+  pub settle-refused : (n : ℕ) → n ≡ number v → OneOf refusals (tagOf verdict.the-type v) → outOf n w ≡ settleSpec w r N c d o
+  settle-refused n k h = settle-by n w k (stays v w (λ t. storeSpec w N c t d o) h)
 
 module _ (w : Rooms) (r : List ℕ) (L c : ℕ) (d : List ℕ) (o : Integrity) (k : ℕ) (ke : k ≡ earlier (roomsAnswer L w) (chunkAnswer L c (length d))) where
   pub take-refused : k ≢ 0 → outOf k w ≡ takeSpec w r L c d o

@@ -163,9 +163,7 @@ fn settle(
             );
             answer
         }
-        Verdict::Missing => answer,
-        Verdict::WrongPeaks => answer,
-        Verdict::WrongClimb => answer,
+        _ => answer,
     }
 }
 

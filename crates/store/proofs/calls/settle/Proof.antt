@@ -1,9 +1,8 @@
-use mathlib.Core.Path.{refl, sym, _∙_}
+use mathlib.Core.Path.{sym, _∙_}
 use native.Mathlib.Omega.{arith}
 use mir.Val.{Fits}
 use mir.Syntax.{w32}
 use Rattle.hash.proofs.Promise.{bytesOf}
-use Rattle.tree.specs.declared.verdict.Verdict.the-variants.{Missing, WrongPeaks, WrongClimb}
 use Rattle.verdict.specs.Integrity.{integrityOf}
 use Rattle.verdict.specs.Rooms.{roomsOf}
 use Rattle.verdict.proofs.VerdictLaws.{fits-within}
@@ -39,15 +38,6 @@ store-requires c κs = let a = c .before .before .before .before .before .before
     let l = levels-small 32 (a .n) (omega (arith, f .fits)) in
     (omega (arith, t, l), p .1, j .1 _ e)
 
-enum-told : tie.Need-enum-told
-enum-told c = search needs
-
-enum-told-2 : tie.Need-enum-told-2
-enum-told-2 c = search needs
-
-enum-told-3 : tie.Need-enum-told-3
-enum-told-3 c = search needs
-
 same-length : tie.Need-same-length
 same-length c = search needs
 
@@ -72,31 +62,9 @@ same-length-6 : tie.Need-same-length-6
 same-length-6 c = search needs
 
 returns-2 : tie.Need-returns-2
-returns-2 c = let a = c .before .before .before .before .before .before .before .before .before .before .before .before .before .before .before .args in
+returns-2 c = let a = c .before .before .before .before .before .before .before .before .before .before .before .before .before .before .args in
     let o = integrityOf (a .entries .now) (a .bytes .now) in
-    settle-refused (roomsOf (a .chunks .now) (a .map .now) (a .hashes .now) (a .trusted .now)) (bytesOf (a .root .words)) (a .n) (a .c) (a .chunk .now) o (c .before .before .before .before .judge .result) (c .before .before .before .before .judge .ensures .0) (c .before .before .number .result) Missing (c .before .before .number .ensures) (c .enum-told .given .1) refl
-
-same-length-7 : tie.Need-same-length-7
-same-length-7 c = search needs
-
-same-length-8 : tie.Need-same-length-8
-same-length-8 c = search needs
-
-returns-3 : tie.Need-returns-3
-returns-3 c = let a = c .before .before .before .before .before .before .before .before .before .before .before .before .before .before .before .args in
-    let o = integrityOf (a .entries .now) (a .bytes .now) in
-    settle-refused (roomsOf (a .chunks .now) (a .map .now) (a .hashes .now) (a .trusted .now)) (bytesOf (a .root .words)) (a .n) (a .c) (a .chunk .now) o (c .before .before .before .before .judge .result) (c .before .before .before .before .judge .ensures .0) (c .before .before .number .result) WrongPeaks (c .before .before .number .ensures) (c .enum-told2 .given .1) refl
-
-same-length-9 : tie.Need-same-length-9
-same-length-9 c = search needs
-
-same-length-10 : tie.Need-same-length-10
-same-length-10 c = search needs
-
-returns-4 : tie.Need-returns-4
-returns-4 c = let a = c .before .before .before .before .before .before .before .before .before .before .before .before .before .before .before .args in
-    let o = integrityOf (a .entries .now) (a .bytes .now) in
-    settle-refused (roomsOf (a .chunks .now) (a .map .now) (a .hashes .now) (a .trusted .now)) (bytesOf (a .root .words)) (a .n) (a .c) (a .chunk .now) o (c .before .before .before .before .judge .result) (c .before .before .before .before .judge .ensures .0) (c .before .before .number .result) WrongClimb (c .before .before .number .ensures) (c .enum-told3 .given .1) refl
+    settle-refused (roomsOf (a .chunks .now) (a .map .now) (a .hashes .now) (a .trusted .now)) (bytesOf (a .root .words)) (a .n) (a .c) (a .chunk .now) o (c .before .before .before .judge .result) (c .before .before .before .judge .ensures .0) (c .before .number .result) (c .before .number .ensures) (c .match .keys2)
 
 pub settle-spec : {M : Type 1} → statement M
 settle-spec =
@@ -108,9 +76,6 @@ settle-spec =
     enum-known-v
     slice-aggregate-store
     store-requires
-    enum-told
-    enum-told-2
-    enum-told-3
     same-length
     same-length-2
     same-length-3
@@ -118,10 +83,4 @@ settle-spec =
     returns
     same-length-5
     same-length-6
-    returns-2
-    same-length-7
-    same-length-8
-    returns-3
-    same-length-9
-    same-length-10
-    returns-4)
+    returns-2)
