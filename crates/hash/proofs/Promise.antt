@@ -12,8 +12,9 @@ use Rattle.hash.specs.Sha256.{sha256-is}
 use Rattle.hash.proofs.MessageLaws.{finished-append}
 use Rattle.hash.proofs.BytesLaws as bytes
 use Rattle.hash.proofs.SameLaws as same-laws
+pub use Rattle.lists.specs.Same.{same}
+pub use Rattle.lists.proofs.SameLaws.{same-refl, same-not, same-is}
 pub use Rattle.hash.specs.Word.{words, bytesOf}
-pub use Rattle.hash.specs.Same.{same}
 pub use Rattle.hash.specs.Message.{H0, after, finished}
 pub use Rattle.hash.specs.Sha256.{sha256}
 pub use Rattle.hash.proofs.BytesLaws.{Words, Bytes}
@@ -65,17 +66,6 @@ bytes-words = bytes.bytes-words
 -- Equal bytes, equal words.
 pub bytes-injective : (u v : List ℕ) → Words u → Words v → length u ≡ length v → bytesOf u ≡ bytesOf v → u ≡ v
 bytes-injective = same-laws.bytes-injective
-
--- ---- comparing
-
-pub same-refl : (s : List ℕ) → same s s ≡ true
-same-refl = same-laws.same-refl
-
-pub same-not : (s t : List ℕ) → s ≢ t → same s t ≡ false
-same-not = same-laws.same-not
-
-pub same-is : (s t : List ℕ) → same s t ≡ true → s ≡ t
-same-is = same-laws.same-is
 
 -- ---- a message block by block
 

@@ -2,6 +2,5 @@
 pub mod Word
 pub mod Block
 pub mod Rows
-pub mod Same
 pub mod Message
 pub mod Sha256

@@ -3,8 +3,8 @@ ghost use mathlib.Core.Path.{_≡_};
 ghost use mathlib.Core.List.{_++_};
 ghost use Prim.Native.Nat.{_+_, _/_, _%_, _^_, _<_, _≤_};
 ghost use lib.ListN.{length, drop, replicate};
+ghost use Rattle.lists.specs.Same.{same};
 ghost use Rattle.hash.specs.Word.{word32, words, bytesOf};
-ghost use Rattle.hash.specs.Same.{same};
 
 // Eight words: a hash value, and the working variables a to h on the way to the next.
 pub struct HashValue {

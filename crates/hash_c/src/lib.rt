@@ -7,8 +7,8 @@ ghost use lib.ListN.{length, take, drop};
 ghost use Rattle.hash.specs.Word.{words, bytesOf};
 ghost use Rattle.hash.specs.Block.{compressed};
 ghost use Rattle.hash.specs.Message.{H0, finished};
-ghost use Rattle.hash.specs.Same.{same};
 ghost use Rattle.hash.specs.Sha256.{sha256};
+ghost use Rattle.hash.proofs.Promise.{same};
 use hash::value::HashValue;
 
 // SHA-256 of a message.

@@ -7,7 +7,7 @@ use Prim.Native.Nat.{ℕ, zero, suc, _+_, _/_, _%_, _^_, _≤_, _<_}
 use native.Mathlib.Omega.{arith}
 use borrow.Author.Tests.{eqb-true, leb-true}
 use lib.Dec.{leb, ltb}
-use Rattle.hash.proofs.Promise.{same}
+use Rattle.lists.specs.Same.{same}
 use Rattle.tree.specs.Pick.{pick}
 use Rattle.tree.specs.Node.{Node, other, above}
 use Rattle.tree.specs.Pack.{levels}

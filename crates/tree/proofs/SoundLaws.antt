@@ -8,7 +8,7 @@ use native.Mathlib.Omega.{arith}
 use borrow.Author.Tests.{lt-ltb, le-leb, leb-true}
 use lib.Dec.{leb, ltb}
 use lib.Pow.{pow-pos}
-use Rattle.hash.proofs.Promise.{same}
+use Rattle.lists.specs.Same.{same}
 use Rattle.tree.specs.Node.{above}
 use Rattle.tree.specs.Pack.{levels}
 use Rattle.tree.specs.Tree.{given, combined, climb}

@@ -5,7 +5,8 @@ use mathlib.Core.Bool.{Bool, true, false, true≢false}
 use mathlib.Core.List.{List}
 use Prim.Native.Nat.{ℕ, zero, suc, _+_, _^_, _≤_, _<_}
 use native.Mathlib.Omega.{arith}
-use Rattle.hash.proofs.Promise.{same, same-is}
+use Rattle.lists.specs.Same.{same}
+use Rattle.lists.proofs.SameLaws.{same-is}
 use Rattle.tree.specs.Pick.{pick}
 use Rattle.tree.specs.Node.{above}
 use Rattle.tree.specs.Pack.{levels}

@@ -7,7 +7,8 @@ use Prim.Native.Nat.{ℕ, zero, suc, _+_, _/_, _%_, _^_, _≤_, _<_}
 use native.Mathlib.Omega.{arith}
 use borrow.Author.Tests.{eqb-true, leb-true}
 use lib.Dec.{leb, ltb}
-use Rattle.hash.proofs.Promise.{same, same-refl}
+use Rattle.lists.specs.Same.{same}
+use Rattle.lists.proofs.SameLaws.{same-refl}
 use Rattle.tree.specs.Pick.{pick}
 use Rattle.tree.specs.Node.{Node, other, above}
 use Rattle.tree.specs.Pack.{levels}

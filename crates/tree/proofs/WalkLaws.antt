@@ -9,7 +9,8 @@ use native.Mathlib.Omega.{arith}
 use lib.Dec.{ltb}
 use lib.ListN.{length, take, drop}
 use lib.Seq.{take-at, drop-at}
-use Rattle.hash.proofs.Promise.{same, same-is, same-refl}
+use Rattle.lists.specs.Same.{same}
+use Rattle.lists.proofs.SameLaws.{same-is, same-refl}
 use Rattle.tree.specs.Pick.{pick}
 use Rattle.tree.specs.Node.{Node, node, down, above}
 use Rattle.tree.specs.Pack.{levels}

@@ -4,7 +4,7 @@ use Prim.Native.Nat.{ℕ, zero, suc}
 use mathlib.Core.Bool.{Bool, true, false}
 use mathlib.Core.List.{List, [], _∷_}
 use mathlib.Core.Option.{Option, none, some}
-use Rattle.hash.proofs.Promise.{same}
+use Rattle.lists.specs.Same.{same}
 use Rattle.tree.specs.Pick.{pick}
 use Rattle.tree.specs.Node.{Node, above}
 use Rattle.tree.specs.Pack.{levels}

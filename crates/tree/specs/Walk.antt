@@ -6,7 +6,7 @@ use mathlib.Core.Logic.{_≢_}
 use mathlib.Core.Bool.{true}
 use mathlib.Core.List.{List, _++_}
 use mathlib.Core.Option.{Option, none, some}
-use Rattle.hash.proofs.Promise.{same}
+use Rattle.lists.specs.Same.{same}
 use Rattle.tree.specs.Pick.{pick}
 use Rattle.tree.specs.Node.{Node, node, down, above}
 use Rattle.tree.specs.Pack.{levels}

@@ -1,0 +1,2 @@
+-- What is said of lists in more than one crate.
+pub mod Same

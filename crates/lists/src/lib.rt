@@ -1,0 +1,1 @@
+// Definitions and laws on lists that hash and tree share: no function.
