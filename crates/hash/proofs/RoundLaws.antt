@@ -8,7 +8,8 @@ use lib.ListN.{length, getD, drop, take, replicate, getD-replicate, List·getD-a
 use lib.Seq.{getD-append-add}
 use Rattle.hash.specs.Word.{_⊞_, Ch, Maj, Σ0, Σ1}
 use Rattle.hash.specs.Block.{K, T1, T2, turned, round, rounds, sums}
-use Rattle.hash.specs.Rows.{constants, summedRounds}
+use Rattle.hash.specs.Rows.{constants, slid, Stepped, Advanced, summedRounds}
+use Rattle.hash.proofs.ScheduleLaws.{slid-sixteen}
 
 ⊞-assoc : (x y z : ℕ) → x ⊞ y ⊞ z ≡ x ⊞ (y ⊞ z)
 unfolding _⊞_
@@ -97,6 +98,32 @@ pub rounds-law : (v k w : List ℕ) {v1 v2 v3 v4 v5 v6 v7 v8 v9 v10 v11 v12 v13 
     → v16 ≡ rounds 16 v k w
 unfolding rounds
 rounds-law v k w e0 e1 e2 e3 e4 e5 e6 e7 e8 e9 e10 e11 e12 e13 e14 e15 = rw (e15, e14, e13, e12, e11, e10, e9, e8, e7, e6, e5, e4, e3, e2, e1, e0)
+
+-- Sixteen rounds by sixteen steps.
+pub steps-law : (v k w : List ℕ) → length w ≡ 16
+    → {v1 v2 v3 v4 v5 v6 v7 v8 v9 v10 v11 v12 v13 v14 v15 v16 w1 w2 w3 w4 w5 w6 w7 w8 w9 w10 w11 w12 w13 w14 w15 w16 : List ℕ}
+    → Stepped (getD k 0 0) v w v1 w1
+    → Stepped (getD k 1 0) v1 w1 v2 w2
+    → Stepped (getD k 2 0) v2 w2 v3 w3
+    → Stepped (getD k 3 0) v3 w3 v4 w4
+    → Stepped (getD k 4 0) v4 w4 v5 w5
+    → Stepped (getD k 5 0) v5 w5 v6 w6
+    → Stepped (getD k 6 0) v6 w6 v7 w7
+    → Stepped (getD k 7 0) v7 w7 v8 w8
+    → Stepped (getD k 8 0) v8 w8 v9 w9
+    → Stepped (getD k 9 0) v9 w9 v10 w10
+    → Stepped (getD k 10 0) v10 w10 v11 w11
+    → Stepped (getD k 11 0) v11 w11 v12 w12
+    → Stepped (getD k 12 0) v12 w12 v13 w13
+    → Stepped (getD k 13 0) v13 w13 v14 w14
+    → Stepped (getD k 14 0) v14 w14 v15 w15
+    → Stepped (getD k 15 0) v15 w15 v16 w16
+    → Advanced k v w v16 w16
+unfolding rounds slid
+steps-law v k w l s0 s1 s2 s3 s4 s5 s6 s7 s8 s9 s10 s11 s12 s13 s14 s15 = record {
+  variables = rw (s15 .variables, s14 .variables, s13 .variables, s12 .variables, s11 .variables, s10 .variables, s9 .variables, s8 .variables, s7 .variables, s6 .variables, s5 .variables, s4 .variables, s3 .variables, s2 .variables, s1 .variables, s0 .variables, s14 .schedule, s13 .schedule, s12 .schedule, s11 .schedule, s10 .schedule, s9 .schedule, s8 .schedule, s7 .schedule, s6 .schedule, s5 .schedule, s4 .schedule, s3 .schedule, s2 .schedule, s1 .schedule, s0 .schedule);
+  schedule = rw (s15 .schedule, s14 .schedule, s13 .schedule, s12 .schedule, s11 .schedule, s10 .schedule, s9 .schedule, s8 .schedule, s7 .schedule, s6 .schedule, s5 .schedule, s4 .schedule, s3 .schedule, s2 .schedule, s1 .schedule, s0 .schedule) (slid-sixteen w l);
+}
 
 -- ---- rounds given the sums of their constants and words
 

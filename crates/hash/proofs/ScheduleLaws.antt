@@ -7,7 +7,7 @@ use native.Mathlib.Omega.{arith}
 use lib.ListN.{length, getD, drop, take, length-append, length-drop, take-append-drop}
 use lib.Seq.{getD-append-add, take-take, take-length, take-append-le}
 use Rattle.hash.specs.Block.{next, extended, schedule}
-use Rattle.hash.specs.Rows.{nextSixteen}
+use Rattle.hash.specs.Rows.{nextSixteen, slid}
 use Rattle.hash.proofs.Cells.{cells, cells-is}
 
 -- The word that follows a schedule so far.
@@ -84,26 +84,14 @@ schedule-rows w e =
     (row 16 (rowOf w 1) (row-length w 1 e)
     ∙ ap (λ (l : List ℕ). rowOf w 1 ++ l) (row 0 (rowOf w 2) (row-length w 2 e) ∙ ap (λ (l : List ℕ). rowOf w 2 ++ l) (last-row (rowOf w 3))))
 
--- A row of the schedule by sixteen calls.
-pub next-sixteen-law : (w : List ℕ) → length w ≡ 16 → {n16 n17 n18 n19 n20 n21 n22 n23 n24 n25 n26 n27 n28 n29 n30 n31 : ℕ}
-    → n16 ≡ next (getD w 14 0) (getD w 9 0) (getD w 1 0) (getD w 0 0)
-    → n17 ≡ next (getD w 15 0) (getD w 10 0) (getD w 2 0) (getD w 1 0)
-    → n18 ≡ next n16 (getD w 11 0) (getD w 3 0) (getD w 2 0)
-    → n19 ≡ next n17 (getD w 12 0) (getD w 4 0) (getD w 3 0)
-    → n20 ≡ next n18 (getD w 13 0) (getD w 5 0) (getD w 4 0)
-    → n21 ≡ next n19 (getD w 14 0) (getD w 6 0) (getD w 5 0)
-    → n22 ≡ next n20 (getD w 15 0) (getD w 7 0) (getD w 6 0)
-    → n23 ≡ next n21 n16 (getD w 8 0) (getD w 7 0)
-    → n24 ≡ next n22 n17 (getD w 9 0) (getD w 8 0)
-    → n25 ≡ next n23 n18 (getD w 10 0) (getD w 9 0)
-    → n26 ≡ next n24 n19 (getD w 11 0) (getD w 10 0)
-    → n27 ≡ next n25 n20 (getD w 12 0) (getD w 11 0)
-    → n28 ≡ next n26 n21 (getD w 13 0) (getD w 12 0)
-    → n29 ≡ next n27 n22 (getD w 14 0) (getD w 13 0)
-    → n30 ≡ next n28 n23 (getD w 15 0) (getD w 14 0)
-    → n31 ≡ next n29 n24 n16 (getD w 15 0)
-    → n16 ∷ n17 ∷ n18 ∷ n19 ∷ n20 ∷ n21 ∷ n22 ∷ n23 ∷ n24 ∷ n25 ∷ n26 ∷ n27 ∷ n28 ∷ n29 ∷ n30 ∷ n31 ∷ [] ≡ nextSixteen w
-unfolding nextSixteen extended
-next-sixteen-law w l e16 e17 e18 e19 e20 e21 e22 e23 e24 e25 e26 e27 e28 e29 e30 e31 =
-    rw (e31, e30, e29, e28, e27, e26, e25, e24, e23, e22, e21, e20, e19, e18, e17, e16)
-    (subst⁻¹ (λ (u : List ℕ). nextSixteen (cells 16 0 w) ≡ nextSixteen u) (cells-is 16 w l) refl)
+-- One word on, by one call.
+pub slid-law : (w : List ℕ) {n : ℕ} → n ≡ next (getD w 14 0) (getD w 9 0) (getD w 1 0) (getD w 0 0)
+    → getD w 1 0 ∷ getD w 2 0 ∷ getD w 3 0 ∷ getD w 4 0 ∷ getD w 5 0 ∷ getD w 6 0 ∷ getD w 7 0 ∷ getD w 8 0 ∷ getD w 9 0 ∷ getD w 10 0 ∷ getD w 11 0 ∷ getD w 12 0 ∷ getD w 13 0 ∷ getD w 14 0 ∷ getD w 15 0 ∷ n ∷ [] ≡ slid w
+unfolding slid
+slid-law w e = rw e
+
+-- Sixteen times one word on.
+pub slid-sixteen : (w : List ℕ) → length w ≡ 16
+    → slid (slid (slid (slid (slid (slid (slid (slid (slid (slid (slid (slid (slid (slid (slid (slid w))))))))))))))) ≡ nextSixteen w
+unfolding slid nextSixteen extended
+slid-sixteen w l = subst⁻¹ (λ (u : List ℕ). nextSixteen (cells 16 0 w) ≡ nextSixteen u) (cells-is 16 w l) refl

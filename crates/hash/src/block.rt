@@ -4,7 +4,7 @@ ghost use Prim.Native.Nat.{_+_, _/_, _≤_};
 ghost use lib.ListN.{length, take, drop};
 ghost use Rattle.hash.specs.Block.{next, round, rounds, schedule, sums, mixed, compressed};
 ghost use Rattle.hash.specs.Message.{after};
-ghost use Rattle.hash.specs.Rows.{rowsOfK, Advanced, summedRounds, mixedSums};
+ghost use Rattle.hash.specs.Rows.{rowsOfK, Stepped, Advanced, summedRounds, mixedSums};
 use crate::constants::K;
 use crate::value::HashValue;
 use crate::value::load;
@@ -71,89 +71,82 @@ fn rounds(v: HashValue, s: [u32; 16]) -> HashValue
     round(v15, s[15], 0)
 }
 
-// Sixteen rounds with their constants and, in step with them, the next sixteen words of the schedule.
-fn advance(s: Working, k: [u32; 16]) -> Working
-    ensures { λ r. ⌜ Advanced k (s .variables .words) (s .schedule) (r .variables .words) (r .schedule) ⌝ }
+// One round with its constant and, in step with it, the next word of the schedule. The words move up by one place: where
+// the compiler has sixteen such steps in line, that costs nothing.
+fn step(s: Working, k: u32) -> Working
+    ensures { λ r. ⌜ Stepped k (s .variables .words) (s .schedule) (r .variables .words) (r .schedule) ⌝ }
 {
-    let v = s.variables;
     let w = s.schedule;
-    let v1 = round(v, k[0], w[0]);
-    let w16 = next(w[14], w[9], w[1], w[0]);
-    let v2 = round(v1, k[1], w[1]);
-    let w17 = next(w[15], w[10], w[2], w[1]);
-    let v3 = round(v2, k[2], w[2]);
-    let w18 = next(w16, w[11], w[3], w[2]);
-    let v4 = round(v3, k[3], w[3]);
-    let w19 = next(w17, w[12], w[4], w[3]);
-    let v5 = round(v4, k[4], w[4]);
-    let w20 = next(w18, w[13], w[5], w[4]);
-    let v6 = round(v5, k[5], w[5]);
-    let w21 = next(w19, w[14], w[6], w[5]);
-    let v7 = round(v6, k[6], w[6]);
-    let w22 = next(w20, w[15], w[7], w[6]);
-    let v8 = round(v7, k[7], w[7]);
-    let w23 = next(w21, w16, w[8], w[7]);
-    let v9 = round(v8, k[8], w[8]);
-    let w24 = next(w22, w17, w[9], w[8]);
-    let v10 = round(v9, k[9], w[9]);
-    let w25 = next(w23, w18, w[10], w[9]);
-    let v11 = round(v10, k[10], w[10]);
-    let w26 = next(w24, w19, w[11], w[10]);
-    let v12 = round(v11, k[11], w[11]);
-    let w27 = next(w25, w20, w[12], w[11]);
-    let v13 = round(v12, k[12], w[12]);
-    let w28 = next(w26, w21, w[13], w[12]);
-    let v14 = round(v13, k[13], w[13]);
-    let w29 = next(w27, w22, w[14], w[13]);
-    let v15 = round(v14, k[14], w[14]);
-    let w30 = next(w28, w23, w[15], w[14]);
-    let v16 = round(v15, k[15], w[15]);
-    let w31 = next(w29, w24, w16, w[15]);
+    let w0 = w[0];
+    let w1 = w[1];
+    let w9 = w[9];
+    let w14 = w[14];
     Working {
-        variables: v16,
+        variables: round(s.variables, k, w0),
         schedule: [
-            w16,
-            w17,
-            w18,
-            w19,
-            w20,
-            w21,
-            w22,
-            w23,
-            w24,
-            w25,
-            w26,
-            w27,
-            w28,
-            w29,
-            w30,
-            w31,
+            w1,
+            w[2],
+            w[3],
+            w[4],
+            w[5],
+            w[6],
+            w[7],
+            w[8],
+            w9,
+            w[10],
+            w[11],
+            w[12],
+            w[13],
+            w14,
+            w[15],
+            next(w14, w9, w1, w0),
         ],
     }
 }
 
-// The last sixteen rounds.
+// Sixteen rounds with their constants and, in step with them, the next sixteen words of the schedule.
+fn advance(s: Working, k: [u32; 16]) -> Working
+    ensures { λ r. ⌜ Advanced k (s .variables .words) (s .schedule) (r .variables .words) (r .schedule) ⌝ }
+{
+    let s1 = step(s, k[0]);
+    let s2 = step(s1, k[1]);
+    let s3 = step(s2, k[2]);
+    let s4 = step(s3, k[3]);
+    let s5 = step(s4, k[4]);
+    let s6 = step(s5, k[5]);
+    let s7 = step(s6, k[6]);
+    let s8 = step(s7, k[7]);
+    let s9 = step(s8, k[8]);
+    let s10 = step(s9, k[9]);
+    let s11 = step(s10, k[10]);
+    let s12 = step(s11, k[11]);
+    let s13 = step(s12, k[12]);
+    let s14 = step(s13, k[13]);
+    let s15 = step(s14, k[14]);
+    step(s15, k[15])
+}
+
+// The last sixteen rounds. The words that would follow are not used, and the compiler leaves them out.
 fn last_rounds(s: Working, k: [u32; 16]) -> HashValue
     ensures { λ r. ⌜ r .words ≡ rounds 16 (s .variables .words) k (s .schedule) ⌝ }
 {
-    let v = s.variables;
-    let w = s.schedule;
-    let v1 = round(v, k[0], w[0]);
-    let v2 = round(v1, k[1], w[1]);
-    let v3 = round(v2, k[2], w[2]);
-    let v4 = round(v3, k[3], w[3]);
-    let v5 = round(v4, k[4], w[4]);
-    let v6 = round(v5, k[5], w[5]);
-    let v7 = round(v6, k[6], w[6]);
-    let v8 = round(v7, k[7], w[7]);
-    let v9 = round(v8, k[8], w[8]);
-    let v10 = round(v9, k[9], w[9]);
-    let v11 = round(v10, k[10], w[10]);
-    let v12 = round(v11, k[11], w[11]);
-    let v13 = round(v12, k[12], w[12]);
-    let v14 = round(v13, k[13], w[13]);
-    let v15 = round(v14, k[14], w[14]);
-    round(v15, k[15], w[15])
+    let s1 = step(s, k[0]);
+    let s2 = step(s1, k[1]);
+    let s3 = step(s2, k[2]);
+    let s4 = step(s3, k[3]);
+    let s5 = step(s4, k[4]);
+    let s6 = step(s5, k[5]);
+    let s7 = step(s6, k[6]);
+    let s8 = step(s7, k[7]);
+    let s9 = step(s8, k[8]);
+    let s10 = step(s9, k[9]);
+    let s11 = step(s10, k[10]);
+    let s12 = step(s11, k[11]);
+    let s13 = step(s12, k[12]);
+    let s14 = step(s13, k[13]);
+    let s15 = step(s14, k[14]);
+    let s16 = step(s15, k[15]);
+    s16.variables
 }
 
 // The sums of the words of two hash values.
