@@ -153,16 +153,18 @@ fn last_rounds(s: Working, k: [u32; 16]) -> HashValue
 fn sums(v: HashValue, u: HashValue) -> HashValue
     ensures { λ r. ⌜ r .words ≡ sums (v .words) (u .words) ⌝ }
 {
+    let a = v.words;
+    let b = u.words;
     HashValue {
         words: [
-            add(v.words[0], u.words[0]),
-            add(v.words[1], u.words[1]),
-            add(v.words[2], u.words[2]),
-            add(v.words[3], u.words[3]),
-            add(v.words[4], u.words[4]),
-            add(v.words[5], u.words[5]),
-            add(v.words[6], u.words[6]),
-            add(v.words[7], u.words[7]),
+            add(a[0], b[0]),
+            add(a[1], b[1]),
+            add(a[2], b[2]),
+            add(a[3], b[3]),
+            add(a[4], b[4]),
+            add(a[5], b[5]),
+            add(a[6], b[6]),
+            add(a[7], b[7]),
         ],
     }
 }

@@ -76,23 +76,25 @@ pub fn bytes(v: HashValue) -> [u8; 32]
 pub fn pair(left: HashValue, right: HashValue) -> [u32; 16]
     ensures { λ r. ⌜ r ≡ left .words ++ right .words ⌝ }
 {
+    let a = left.words;
+    let b = right.words;
     [
-        left.words[0],
-        left.words[1],
-        left.words[2],
-        left.words[3],
-        left.words[4],
-        left.words[5],
-        left.words[6],
-        left.words[7],
-        right.words[0],
-        right.words[1],
-        right.words[2],
-        right.words[3],
-        right.words[4],
-        right.words[5],
-        right.words[6],
-        right.words[7],
+        a[0],
+        a[1],
+        a[2],
+        a[3],
+        a[4],
+        a[5],
+        a[6],
+        a[7],
+        b[0],
+        b[1],
+        b[2],
+        b[3],
+        b[4],
+        b[5],
+        b[6],
+        b[7],
     ]
 }
 

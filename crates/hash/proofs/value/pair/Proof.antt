@@ -5,78 +5,78 @@ use borrow.Author.Needs.{needs}
 use Rattle.hash.proofs.value.pair.Statement.{statement}
 use Rattle.hash.proofs.value.pair.Tie as tie
 
-element-copy-out-t7 : tie.Need-element-copy-out-t7
-element-copy-out-t7 c = search needs
+array-read-t7 : tie.Need-array-read-t7
+array-read-t7 c = search needs
 
-element-copy-out-t10 : tie.Need-element-copy-out-t10
-element-copy-out-t10 c = search needs
+array-read-t10 : tie.Need-array-read-t10
+array-read-t10 c = search needs
 
-element-copy-out-t13 : tie.Need-element-copy-out-t13
-element-copy-out-t13 c = search needs
+array-read-t13 : tie.Need-array-read-t13
+array-read-t13 c = search needs
 
-element-copy-out-t16 : tie.Need-element-copy-out-t16
-element-copy-out-t16 c = search needs
+array-read-t16 : tie.Need-array-read-t16
+array-read-t16 c = search needs
 
-element-copy-out-t19 : tie.Need-element-copy-out-t19
-element-copy-out-t19 c = search needs
+array-read-t19 : tie.Need-array-read-t19
+array-read-t19 c = search needs
 
-element-copy-out-t22 : tie.Need-element-copy-out-t22
-element-copy-out-t22 c = search needs
+array-read-t22 : tie.Need-array-read-t22
+array-read-t22 c = search needs
 
-element-copy-out-t25 : tie.Need-element-copy-out-t25
-element-copy-out-t25 c = search needs
+array-read-t25 : tie.Need-array-read-t25
+array-read-t25 c = search needs
 
-element-copy-out-t28 : tie.Need-element-copy-out-t28
-element-copy-out-t28 c = search needs
+array-read-t28 : tie.Need-array-read-t28
+array-read-t28 c = search needs
 
-element-copy-out-t31 : tie.Need-element-copy-out-t31
-element-copy-out-t31 c = search needs
+array-read-t31 : tie.Need-array-read-t31
+array-read-t31 c = search needs
 
-element-copy-out-t34 : tie.Need-element-copy-out-t34
-element-copy-out-t34 c = search needs
+array-read-t34 : tie.Need-array-read-t34
+array-read-t34 c = search needs
 
-element-copy-out-t37 : tie.Need-element-copy-out-t37
-element-copy-out-t37 c = search needs
+array-read-t37 : tie.Need-array-read-t37
+array-read-t37 c = search needs
 
-element-copy-out-t40 : tie.Need-element-copy-out-t40
-element-copy-out-t40 c = search needs
+array-read-t40 : tie.Need-array-read-t40
+array-read-t40 c = search needs
 
-element-copy-out-t43 : tie.Need-element-copy-out-t43
-element-copy-out-t43 c = search needs
+array-read-t43 : tie.Need-array-read-t43
+array-read-t43 c = search needs
 
-element-copy-out-t46 : tie.Need-element-copy-out-t46
-element-copy-out-t46 c = search needs
+array-read-t46 : tie.Need-array-read-t46
+array-read-t46 c = search needs
 
-element-copy-out-t49 : tie.Need-element-copy-out-t49
-element-copy-out-t49 c = search needs
+array-read-t49 : tie.Need-array-read-t49
+array-read-t49 c = search needs
 
-element-copy-out-t52 : tie.Need-element-copy-out-t52
-element-copy-out-t52 c = search needs
+array-read-t52 : tie.Need-array-read-t52
+array-read-t52 c = search needs
 
-long : (c : tie.Start) → (length (c .args .t1 .words) ≡ 8) × (length (c .args .t2 .words) ≡ 8)
+long : (c : tie.Start) → (length (c .args .left .words) ≡ 8) × (length (c .args .right .words) ≡ 8)
 long c = search needs
 
 returns : tie.Need-returns
-returns c = pair-law (c .before .before .before .before .before .before .before .before .before .before .before .before .before .before .before .before .args .t1 .words) (c .before .before .before .before .before .before .before .before .before .before .before .before .before .before .before .before .args .t2 .words) (long (c .before .before .before .before .before .before .before .before .before .before .before .before .before .before .before .before) .0) (long (c .before .before .before .before .before .before .before .before .before .before .before .before .before .before .before .before) .1)
+returns c = pair-law (c .before .before .args .left .words) (c .before .before .args .right .words) (long (c .before .before) .0) (long (c .before .before) .1)
 
 pub pair-spec : {M : Type 1} → statement M
 pair-spec =
     tie.close
     (tie.spec
-    element-copy-out-t7
-    element-copy-out-t10
-    element-copy-out-t13
-    element-copy-out-t16
-    element-copy-out-t19
-    element-copy-out-t22
-    element-copy-out-t25
-    element-copy-out-t28
-    element-copy-out-t31
-    element-copy-out-t34
-    element-copy-out-t37
-    element-copy-out-t40
-    element-copy-out-t43
-    element-copy-out-t46
-    element-copy-out-t49
-    element-copy-out-t52
+    array-read-t7
+    array-read-t10
+    array-read-t13
+    array-read-t16
+    array-read-t19
+    array-read-t22
+    array-read-t25
+    array-read-t28
+    array-read-t31
+    array-read-t34
+    array-read-t37
+    array-read-t40
+    array-read-t43
+    array-read-t46
+    array-read-t49
+    array-read-t52
     returns)
