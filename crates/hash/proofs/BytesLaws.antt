@@ -3,10 +3,10 @@ use mathlib.Core.Path.{_≡_, refl, sym, ap, ap₂, _∙_}
 use mathlib.Core.List.{List, [], _∷_, _++_, append-assoc, append-nil}
 use Prim.Native.Nat.{ℕ, zero, suc, _+_, _-_, _*_, _/_, _%_, _^_, _<_, _≤_}
 use native.Mathlib.Nat.{add-zero, zero-add, suc-add, add-assoc, div-one}
-use native.Mathlib.Numerals.{add-one}
+use native.Mathlib.Numerals.{add-one, add-two, add-three, add-four}
 use native.Mathlib.Omega.{arith}
-use lib.ListN.{length, getD, take, drop, set, replicate, length-append, length-take}
-use lib.Seq.{getD-drop, drop-drop, take-suc, take-length, length-take-le}
+use lib.ListN.{length, getD, take, drop, set, replicate, length-append, length-take, length-replicate}
+use lib.Seq.{sets, getD-drop, drop-drop, take-suc, take-length, length-take-le}
 use lib.Pow.{shr-shr}
 use Rattle.hash.specs.Word.{word32, words, be, bytesOf}
 use Rattle.hash.proofs.Cells.{cells, cells-is}
@@ -111,18 +111,32 @@ written n i w = bytesOf (take i w) ++ replicate (4 * n - 4 * i) 0
 written-more : (w : List ℕ) (i : ℕ) → i < length w → bytesOf (take (suc i) w) ≡ bytesOf (take i w) ++ be 4 (getD w i 0)
 written-more w i h = rw (take-suc w i 0 h, bytes-append (take i w) (getD w i 0 ∷ []))
 
-pub write-law : (n : ℕ) (w r : List ℕ) (i : ℕ) {b0 b1 b2 b3 : ℕ} → i < n → length w ≡ n
+pub written-long : (n i : ℕ) (w r : List ℕ) → i ≤ n → length w ≡ n → r ≡ written n i w → length r ≡ 4 * n
+written-long n i w r h l e =
+    let k : length (bytesOf (take i w)) ≡ 4 * i = length-bytes (take i w) ∙ ap (λ (n : ℕ). 4 * n) (length-take-le i w (omega arith)) in
+    rw (e, length-append (bytesOf (take i w)) (replicate (4 * n - 4 * i) 0), length-replicate {A = ℕ} (4 * n - 4 * i) 0) (omega arith)
+
+-- A word by four stores.
+pub put-law : (r : List ℕ) (at x : ℕ) {b0 b1 b2 b3 : ℕ}
+    → b0 ≡ x / 2 ^ 24 % 2 ^ 8
+    → b1 ≡ x / 2 ^ 16 % 2 ^ 8
+    → b2 ≡ x / 2 ^ 8 % 2 ^ 8
+    → b3 ≡ x / 2 ^ 0 % 2 ^ 8
+    → set (set (set (set r at b0) (at + 1) b1) (at + 2) b2) (at + 3) b3 ≡ sets r at (be 4 x)
+put-law r at x e0 e1 e2 e3 = rw (e0, e1, e2, e3, add-one at, add-two at, add-three at)
+
+-- A turn of the loop over the words, and its end.
+pub write-law : (n : ℕ) (w r : List ℕ) (i : ℕ) {r′ : List ℕ} → i < n → length w ≡ n
     → r ≡ written n i w
-    → b0 ≡ getD w i 0 / 2 ^ 24 % 2 ^ 8
-    → b1 ≡ getD w i 0 / 2 ^ 16 % 2 ^ 8
-    → b2 ≡ getD w i 0 / 2 ^ 8 % 2 ^ 8
-    → b3 ≡ getD w i 0 / 2 ^ 0 % 2 ^ 8
-    → set (set (set (set r (4 * i) b0) (4 * i + 1) b1) (4 * i + 2) b2) (4 * i + 3) b3 ≡ written n (i + 1) w
-write-law n w r i h l e f0 f1 f2 f3 =
+    → r′ ≡ sets r (4 * i) (be 4 (getD w i 0))
+    → r′ ≡ written n (i + 1) w
+write-law n w r i h l e f =
     let p : List ℕ = bytesOf (take i w) in
     let k : length p ≡ 4 * i = length-bytes (take i w) ∙ ap (λ (n : ℕ). 4 * n) (length-take-le i w (omega arith)) in
     let z : 4 * n - 4 * i ≡ suc (suc (suc (suc (4 * n - 4 * (i + 1))))) = omega arith in
-    rw (e, z, f0, f1, f2, f3, set-here p _ (4 * i) _ k, set-past p _ (4 * i) 1 _ k, set-past p _ (4 * i) 2 _ k, set-past p _ (4 * i) 3 _ k, add-one i, written-more w i (omega arith))
+    f
+    ∙ sym (put-law r (4 * i) (getD w i 0) refl refl refl refl)
+    ∙ rw (e, z, set-here p _ (4 * i) _ k, set-past p _ (4 * i) 1 _ k, set-past p _ (4 * i) 2 _ k, set-past p _ (4 * i) 3 _ k, add-one i, written-more w i (omega arith))
     (sym (append-assoc p _ _))
 
 pub write-end : (n : ℕ) (w r : List ℕ) (i : ℕ) → i ≤ n → n ≤ i → length w ≡ n → r ≡ written n i w → r ≡ bytesOf w
@@ -168,6 +182,19 @@ but-low-byte a b c d m = omega arith
 
 four-cells : {p q r s p′ q′ r′ s′ : ℕ} → p ≡ p′ → q ≡ q′ → r ≡ r′ → s ≡ s′ → p ∷ q ∷ r ∷ s ∷ [] ≡ p′ ∷ q′ ∷ r′ ∷ s′ ∷ []
 four-cells e f g h = cc
+
+-- The eight bytes of a number are the four of its upper 32 bits and the four of its lower ones.
+be-halves : (x : ℕ) → be 4 (x / 2 ^ 32) ++ be 4 (x % 2 ^ 32) ≡ be 8 x
+be-halves x =
+    ap₂ (λ (p q : List ℕ). p ++ q)
+    (four-cells (ap (λ (y : ℕ). y % 2 ^ 8) (shr-shr x 32 24)) (ap (λ (y : ℕ). y % 2 ^ 8) (shr-shr x 32 16)) (ap (λ (y : ℕ). y % 2 ^ 8) (shr-shr x 32 8)) (ap (λ (y : ℕ). y % 2 ^ 8) (div-one (x / 2 ^ 32))))
+    (four-cells (omega arith) (omega arith) (omega arith) (omega arith))
+
+pub put-both : (b : List ℕ) (at x : ℕ) {h l : ℕ} {p q : List ℕ} → h ≡ x / 2 ^ 32 → l ≡ x % 2 ^ 32
+    → p ≡ sets b at (be 4 h)
+    → q ≡ sets p (at + 4) (be 4 l)
+    → q ≡ sets b at (be 8 x)
+put-both b at x e f g k = k ∙ rw (g, e, f, add-four at) (ap (sets b at) (be-halves x))
 
 value-bytes : (a b c d : ℕ) → a < 256 → b < 256 → c < 256 → d < 256 → be 4 (value a b c d) ≡ a ∷ b ∷ c ∷ d ∷ []
 value-bytes a b c d j k l m =

@@ -1,9 +1,9 @@
 -- Blocks one after another, and the padding that ends a message. Assumes nothing.
-use mathlib.Core.Path.{_≡_, refl, sym, ap, ap₂, subst, _∙_}
+use mathlib.Core.Path.{_≡_, refl, sym, ap, subst, _∙_}
 use mathlib.Core.List.{List, [], _∷_, _++_, append-assoc}
 use Prim.Native.Nat.{ℕ, zero, suc, _+_, _-_, _*_, _/_, _%_, _^_, _<_, _≤_}
-use native.Mathlib.Nat.{zero-add, add-zero, add-suc, mul-comm, sub-zero, zero-sub, suc-sub-suc, div-one, le-refl}
-use native.Mathlib.Numerals.{add-one, add-two, add-three, add-four, add-five, add-six, add-seven}
+use native.Mathlib.Nat.{zero-add, add-zero, add-suc, mul-comm, sub-zero, zero-sub, suc-sub-suc, le-refl}
+use native.Mathlib.Numerals.{add-one}
 use native.Mathlib.Omega.{arith}
 use lib.ListN.{length, getD, take, drop, set, replicate, length-append, length-replicate, length-drop, take-append-drop, replicate-append-replicate}
 use lib.Seq.{sets, sets-eq, paste-suc, set-at, take-at, drop-at, take-length, take-all, take-append-le, drop-append-le, drop-append-add, length-take-le, take-take}
@@ -153,16 +153,3 @@ mark-law m i {b} h k l e =
     let w : 128 - length m ≡ suc (127 - length m) = omega arith in
     let g : b ≡ m ++ (0 ∷ replicate (127 - length m) 0) = e ∙ rw (same, take-length m, drop-zeros (length m) 128, w) in
     rw g (set-at m 0 (replicate (127 - length m) 0) 0x80 (length m) refl)
-
-pub length-law : (b : List ℕ) (at x : ℕ) {b0 b1 b2 b3 b4 b5 b6 b7 : ℕ}
-    → b0 ≡ x / 2 ^ 56 % 2 ^ 8
-    → b1 ≡ x / 2 ^ 48 % 2 ^ 8
-    → b2 ≡ x / 2 ^ 40 % 2 ^ 8
-    → b3 ≡ x / 2 ^ 32 % 2 ^ 8
-    → b4 ≡ x / 2 ^ 24 % 2 ^ 8
-    → b5 ≡ x / 2 ^ 16 % 2 ^ 8
-    → b6 ≡ x / 2 ^ 8 % 2 ^ 8
-    → b7 ≡ x % 2 ^ 8
-    → set (set (set (set (set (set (set (set b at b0) (at + 1) b1) (at + 2) b2) (at + 3) b3) (at + 4) b4) (at + 5) b5) (at + 6) b6) (at + 7) b7 ≡ sets b at (be 8 x)
-length-law b at x e0 e1 e2 e3 e4 e5 e6 e7 =
-    rw (e0, e1, e2, e3, e4, e5, e6, e7, add-one at, add-two at, add-three at, add-four at, add-five at, add-six at, add-seven at, div-one)

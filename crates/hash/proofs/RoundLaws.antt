@@ -1,10 +1,10 @@
 -- What the calls of a round ensure, put together, and rounds one run after another. Assumes nothing.
 use mathlib.Core.Path.{_≡_, refl, sym, ap, _∙_}
 use mathlib.Core.List.{List, [], _∷_, _++_}
-use Prim.Native.Nat.{ℕ, zero, suc, _+_, _*_, _%_, _^_, _<_, _≤_}
+use Prim.Native.Nat.{ℕ, zero, suc, _+_, _%_, _^_, _<_, _≤_}
 use native.Mathlib.Nat.{add-zero, add-suc, add-assoc, mod-add-mod, mod-mod, add-mod-mod, le-refl}
 use native.Mathlib.Omega.{arith}
-use lib.ListN.{length, getD, drop, take, replicate, getD-replicate, List·getD-append}
+use lib.ListN.{length, getD, drop, replicate, getD-replicate, List·getD-append}
 use lib.Seq.{getD-append-add}
 use Rattle.hash.specs.Word.{_⊞_, Ch, Maj, Σ0, Σ1}
 use Rattle.hash.specs.Block.{K, T1, T2, turned, round, rounds, sums}

@@ -1,7 +1,7 @@
 // Padding, and the hash value of a message: FIPS 180-4, sections 5.1.1, 5.3.3 and 6.2.
 ghost use mathlib.Core.Path.{_≡_};
 ghost use mathlib.Core.List.{_∷_, _++_};
-ghost use Prim.Native.Nat.{_+_, _-_, _%_, _^_, _<_, _≤_};
+ghost use Prim.Native.Nat.{_+_, _-_, _/_, _%_, _^_, _<_, _≤_};
 ghost use lib.ListN.{length, replicate};
 ghost use lib.Seq.{sets};
 ghost use Rattle.hash.specs.Word.{be, bytesOf};
@@ -12,6 +12,7 @@ use crate::block::mix;
 use crate::constants::END_OF_1024;
 use crate::constants::INITIAL;
 use crate::value::HashValue;
+use crate::value::put;
 
 // The hash value before the first block.
 pub fn initial() -> HashValue
@@ -36,10 +37,17 @@ fn marked(tail: &[u8]) -> [u8; 128]
     b
 }
 
-fn low_byte(x: u64) -> u8
-    ensures { λ r. ⌜ r ≡ x % 2 ^ 8 ⌝ }
+// The upper 32 bits of x, and the lower ones.
+fn high(x: u64) -> u32
+    ensures { λ r. ⌜ r ≡ x / 2 ^ 32 ⌝ }
 {
-    (x % 256) as u8
+    (x >> 32) as u32
+}
+
+fn low(x: u64) -> u32
+    ensures { λ r. ⌜ r ≡ x % 2 ^ 32 ⌝ }
+{
+    (x % 0x1_0000_0000) as u32
 }
 
 // The eight bytes of x, the highest first, written at a place.
@@ -48,14 +56,8 @@ fn with_length(b: [u8; 128], at: usize, x: u64) -> [u8; 128]
     ensures { λ r. ⌜ r ≡ sets b at (be 8 x) ⌝ }
 {
     let mut p = b;
-    p[at] = low_byte(x >> 56);
-    p[at + 1] = low_byte(x >> 48);
-    p[at + 2] = low_byte(x >> 40);
-    p[at + 3] = low_byte(x >> 32);
-    p[at + 4] = low_byte(x >> 24);
-    p[at + 5] = low_byte(x >> 16);
-    p[at + 6] = low_byte(x >> 8);
-    p[at + 7] = low_byte(x);
+    put(&mut p, at, high(x));
+    put(&mut p, at + 4, low(x));
     p
 }
 

@@ -3,8 +3,9 @@ ghost use mathlib.Core.Path.{_≡_};
 ghost use mathlib.Core.List.{_++_};
 ghost use Prim.Native.Nat.{_+_, _/_, _%_, _^_, _<_, _≤_};
 ghost use lib.ListN.{length, drop, replicate};
+ghost use lib.Seq.{sets};
 ghost use Rattle.lists.specs.Same.{same};
-ghost use Rattle.hash.specs.Word.{word32, words, bytesOf};
+ghost use Rattle.hash.specs.Word.{word32, words, be, bytesOf};
 
 // Eight words: a hash value, and the working variables a to h on the way to the next.
 pub struct HashValue {
@@ -55,6 +56,17 @@ fn part(x: u32, n: u32) -> u8
     ((x >> n) % 256) as u8
 }
 
+// The four bytes of x, the highest first, written at a place.
+pub(crate) fn put(b: &mut [u8], at: usize, x: u32)
+    requires { ⌜ at + 4 ≤ length (now b) ⌝ }
+    ensures { λ _. ⌜ now (b .exit) ≡ sets (now (b .entry)) at (be 4 x) ⌝ }
+{
+    b[at] = part(x, 24);
+    b[at + 1] = part(x, 16);
+    b[at + 2] = part(x, 8);
+    b[at + 3] = part(x, 0);
+}
+
 // The 32 bytes of a hash value.
 pub fn bytes(v: HashValue) -> [u8; 32]
     ensures { λ r. ⌜ r ≡ bytesOf (v .words) ⌝ }
@@ -63,10 +75,7 @@ pub fn bytes(v: HashValue) -> [u8; 32]
     let mut i: usize = 0;
     while i < 8 {
         let x = v.words[i];
-        b[4 * i] = part(x, 24);
-        b[4 * i + 1] = part(x, 16);
-        b[4 * i + 2] = part(x, 8);
-        b[4 * i + 3] = part(x, 0);
+        put(&mut b, 4 * i, x);
         i += 1;
     }
     b
@@ -107,10 +116,7 @@ pub fn pair_bytes(left: HashValue, right: HashValue) -> [u8; 64]
     let mut i: usize = 0;
     while i < 16 {
         let x = w[i];
-        b[4 * i] = part(x, 24);
-        b[4 * i + 1] = part(x, 16);
-        b[4 * i + 2] = part(x, 8);
-        b[4 * i + 3] = part(x, 0);
+        put(&mut b, 4 * i, x);
         i += 1;
     }
     b

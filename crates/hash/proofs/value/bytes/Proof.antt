@@ -1,8 +1,8 @@
 use Prim.Native.Nat.{_≤_, _-_}
-use mathlib.Core.Path.{_≡_, refl}
+use mathlib.Core.Path.{_≡_, refl, sym}
 use native.Mathlib.Omega.{arith}
 use lib.ListN.{length}
-use Rattle.hash.proofs.BytesLaws.{written, write-law, write-end}
+use Rattle.hash.proofs.BytesLaws.{written, written-long, write-law, write-end}
 use borrow.Author.Needs.{needs}
 use Rattle.hash.proofs.value.bytes.Statement.{statement}
 use Rattle.hash.proofs.value.bytes.Tie as tie
@@ -25,50 +25,17 @@ mul-x c = search needs
 element-copy-out-x : tie.Need-element-copy-out-x Inv-loop μ-loop
 element-copy-out-x c = search needs
 
-part-requires : tie.Need-part-requires Inv-loop μ-loop
-part-requires c κs = search needs
+room : (c : tie.After-b Inv-loop μ-loop) → length (c .before .before .before .loop .b) ≡ 32
+room c = written-long 8 (c .before .before .before .loop .i) (c .before .before .before .before .args .t1 .words) (c .before .before .before .loop .b) (c .before .before .before .loop .inv .0) (long (c .before .before .before .before)) (c .before .before .before .loop .inv .1)
 
-mul-b : tie.Need-mul-b Inv-loop μ-loop
-mul-b c = search needs
+slice-aggregate-put : tie.Need-slice-aggregate-put Inv-loop μ-loop
+slice-aggregate-put c = sym (room c)
 
-array-write-b : tie.Need-array-write-b Inv-loop μ-loop
-array-write-b c = search needs
+mul-put : tie.Need-mul-put Inv-loop μ-loop
+mul-put c = search needs
 
-part-requires-2 : tie.Need-part-requires-2 Inv-loop μ-loop
-part-requires-2 c κs = search needs
-
-mul-b-2 : tie.Need-mul-b-2 Inv-loop μ-loop
-mul-b-2 c = search needs
-
-add-b : tie.Need-add-b Inv-loop μ-loop
-add-b c = search needs
-
-array-write-b-2 : tie.Need-array-write-b-2 Inv-loop μ-loop
-array-write-b-2 c = search needs
-
-part-requires-3 : tie.Need-part-requires-3 Inv-loop μ-loop
-part-requires-3 c κs = search needs
-
-mul-b-3 : tie.Need-mul-b-3 Inv-loop μ-loop
-mul-b-3 c = search needs
-
-add-b-2 : tie.Need-add-b-2 Inv-loop μ-loop
-add-b-2 c = search needs
-
-array-write-b-3 : tie.Need-array-write-b-3 Inv-loop μ-loop
-array-write-b-3 c = search needs
-
-part-requires-4 : tie.Need-part-requires-4 Inv-loop μ-loop
-part-requires-4 c κs = search needs
-
-mul-b-4 : tie.Need-mul-b-4 Inv-loop μ-loop
-mul-b-4 c = search needs
-
-add-b-3 : tie.Need-add-b-3 Inv-loop μ-loop
-add-b-3 c = search needs
-
-array-write-b-4 : tie.Need-array-write-b-4 Inv-loop μ-loop
-array-write-b-4 c = search needs
+put-requires : tie.Need-put-requires Inv-loop μ-loop
+put-requires c κs = omega (arith, room c, c .before .before .loop-test)
 
 add-i : tie.Need-add-i Inv-loop μ-loop
 add-i c = search needs
@@ -77,7 +44,7 @@ loop-less : tie.Need-loop-less Inv-loop μ-loop
 loop-less c = search needs
 
 loop-again : tie.Need-loop-again Inv-loop μ-loop
-loop-again c = (omega arith, write-law 8 (c .before .before .before .before .before .before .before .args .t1 .words) _ (c .before .before .before .before .before .before .loop .i) (search needs) (long (c .before .before .before .before .before .before .before)) (c .before .before .before .before .before .before .loop .inv .1) (c .before .before .before .part .ensures) (c .before .before .part2 .ensures) (c .before .part3 .ensures) (c .part4 .ensures))
+loop-again c = (omega arith, write-law 8 (c .before .before .before .before .before .before .args .t1 .words) (c .before .before .before .before .before .loop .b) (c .before .before .before .before .before .loop .i) (search needs) (long (c .before .before .before .before .before .before)) (c .before .before .before .before .before .loop .inv .1) (c .before .put .ensures))
 
 returns : tie.Need-returns Inv-loop μ-loop
 returns c = write-end 8 (c .before .before .args .t1 .words) _ (c .before .loop .i) (c .before .loop .inv .0) (search needs) (long (c .before .before)) (c .before .loop .inv .1)
@@ -91,21 +58,9 @@ bytes-spec =
     loop-holds
     mul-x
     element-copy-out-x
-    part-requires
-    mul-b
-    array-write-b
-    part-requires-2
-    mul-b-2
-    add-b
-    array-write-b-2
-    part-requires-3
-    mul-b-3
-    add-b-2
-    array-write-b-3
-    part-requires-4
-    mul-b-4
-    add-b-3
-    array-write-b-4
+    slice-aggregate-put
+    mul-put
+    put-requires
     add-i
     loop-less
     loop-again
