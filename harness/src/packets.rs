@@ -7,6 +7,9 @@ use second::wire::{self, Step};
 /// The options that are End alone.
 pub const END_ONLY: [u8; 1] = [255];
 
+/// The type of messages that have a range and a hash.
+pub const INTEGRITY: u8 = 4;
+
 /// The types of messages that have a range alone.
 pub const HAVE: u8 = 3;
 pub const REQUEST: u8 = 8;
@@ -42,7 +45,7 @@ pub fn messages(datagram: &[u8]) -> Vec<Vec<u8>> {
 
 /// Whether a message is INTEGRITY.
 pub fn is_integrity(message: &[u8]) -> bool {
-    message[0] == 4
+    message[0] == INTEGRITY
 }
 
 /// The node of a sound INTEGRITY, whose number is the sum of its range's ends.
@@ -74,7 +77,7 @@ pub fn ack(first: u32, last: u32, delay: u64) -> Vec<u8> {
 /// INTEGRITY of a node whose chunks have numbers of 32 bits.
 pub fn integrity(node: u64, hash: &Digest) -> Vec<u8> {
     let [first, last] = [tree::first_chunk(node), tree::last_chunk(node)].map(|chunk| chunk as u32);
-    [ranged(4, first, last), hash.to_vec()].concat()
+    [ranged(INTEGRITY, first, last), hash.to_vec()].concat()
 }
 
 /// DATA with such a range, at a time.

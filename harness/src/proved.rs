@@ -1,6 +1,7 @@
 //! The proved SHA-256, through the C functions of `libhash_c.a`, in [`store`] the
-//! proved chunk store, in [`wire`] the proved reader and writer of datagrams, and
-//! in [`channel`] the proved entry points of the channels.
+//! proved chunk store, in [`tree`] the numbers of its tree, in [`wire`] the proved
+//! reader and writer of datagrams, and in [`channel`] the proved entry points of
+//! the channels.
 //!
 //! A proof holds only where the caller ensures what the function requires, and
 //! nothing at this boundary proves that a caller does. So each wrapper tests it
@@ -10,6 +11,7 @@
 
 pub mod channel;
 pub mod store;
+pub mod tree;
 pub mod wire;
 
 /// The eight words of a hash value.

@@ -28,6 +28,37 @@ impl Take {
         }
     }
 
+    /// A chunk right and wrong, with all the hashes that go out with it, with
+    /// all but one, with that one wrong, and with none.
+    pub fn eight(pack: &Pack, number: u32, one: usize) -> Vec<Self> {
+        let right = pack.chunk(number);
+        let mut damaged = right.to_vec();
+        damaged[0] ^= 1;
+        let short = &right[..right.len() - 1];
+        let all = all(&pack.built, number);
+        let one = one % all.len();
+        let mut all_but_one = all.clone();
+        all_but_one.remove(one);
+        let mut one_wrong = all.clone();
+        one_wrong[one].1[0] ^= 1;
+        let take = |chunk: &[u8], hashes: &[NodeHash], what: &str| Take {
+            number,
+            chunk: chunk.to_vec(),
+            came: Came::new(hashes),
+            what: format!("chunk {number}, {what}"),
+        };
+        vec![
+            take(right, &[], "no hashes"),
+            take(&damaged, &all, "damaged"),
+            take(right, &all_but_one, "all hashes but one"),
+            take(right, &one_wrong, "one hash wrong"),
+            take(short, &all, "a byte short"),
+            take(right, &all, "right"),
+            take(right, &[], "right, once more, no hashes"),
+            take(&damaged, &all, "damaged, once more"),
+        ]
+    }
+
     /// A chunk that may be wrong, with hashes that may be.
     pub fn random(random: &mut Random, pack: &Pack, store: &Store) -> Self {
         let number = random.below(pack.count());

@@ -42,6 +42,31 @@ fn the_longest_pack() {
     println!("answers 0 to 12, the longest pack: {answers:?}");
 }
 
+/// Packs of all small counts and of those around powers of two, with last chunks
+/// of every kind: building, and each chunk right and wrong, in a leaping order.
+#[test]
+fn packs_of_every_shape() {
+    let mut answers = Answers::default();
+    for count in (1..=40).chain([63, 64, 65, 127, 128, 129, 511, 512]) {
+        for last in [1, 2, 1_018, 1_023, 1_024] {
+            let random = Random::new(1_000 * count + last);
+            let mut run = Run {
+                seed: 1_000 * count + last,
+                random,
+                answers: &mut answers,
+            };
+            run.chunks_in_turn(1_024 * (count - 1) + last);
+        }
+    }
+    println!("answers 0 to 12, packs of every shape: {answers:?}");
+    for number in [0, 8, 9, 10] {
+        assert!(
+            answers.take[number] >= 1_000,
+            "{number} is rare: {answers:?}"
+        );
+    }
+}
+
 /// Rooms, content and length all one byte over the limit.
 #[test]
 fn one_byte_too_long() {
@@ -206,6 +231,31 @@ impl Run<'_> {
         }
         let whole = both.second().is_whole() && both.rooms().chunks.starts_with(&pack.content);
         assert!(whole, "{}", self.case(pack, "the pack is not there whole"));
+    }
+
+    /// Each chunk of a pack, with what goes out with it: in small packs eight
+    /// times, in others of each eighth chunk.
+    fn chunks_in_turn(&mut self, length: u32) {
+        let pack = Pack::new(&mut self.random, length);
+        let rooms = random_rooms(&mut self.random, length);
+        self.build(&pack, "right", 0, length, &rooms, &pack.content);
+        let mut both = self.started(&pack, pack.built.root());
+        let count = pack.count();
+        for k in 0..count {
+            let number = 521 * k % count;
+            let takes = match count <= 65 || k % 8 == 0 {
+                true => Take::eight(&pack, number, k as usize),
+                false => vec![Take::right(&pack, both.second(), number)],
+            };
+            for take in takes {
+                let case = self.case(&pack, &take.what);
+                self.take(&case, &mut both, &take);
+            }
+            let held = both.second().holds(number);
+            assert!(held, "{}", self.case(&pack, "a chunk is not held"));
+        }
+        let whole = both.second().is_whole() && both.rooms().chunks.starts_with(&pack.content);
+        assert!(whole, "{}", self.case(&pack, "the pack is not there whole"));
     }
 
     /// None of the chunks can be taken.

@@ -6,9 +6,9 @@ use harness::datagrams::{add, begin, layout, read};
 use harness::proved::wire::{self as proved, ENTRY_WORDS, FOUND_WORDS};
 use harness::random::Random;
 use second::answer;
-use second::wire;
+use second::by_hand::parse;
+use second::wire::{self, Message, Options, Step};
 use second::wire_cases::{cuts, datagrams, messages, LONGEST};
-use second::wire_vectors::parse;
 
 /// How many random datagrams are read, and how many messages are added to one.
 const READ_SEEDS: u64 = 40;
@@ -66,8 +66,41 @@ fn datagrams_made_by_hand() {
         let wanted = u32::from(hand_made.number);
         assert_eq!(got, wanted, "line {}: both", hand_made.line);
         compared.datagram(datagram);
+        if let Some(destination) = datagram.first_chunk() {
+            written_again(u32::from_be_bytes(*destination), datagram);
+        }
     }
     println!("datagrams made by hand: {compared}");
+}
+
+/// Begins a datagram and adds the messages of another to it, up to the first
+/// that is refused or cannot be read. If its layout is sound and it has no other
+/// options, it stands there again, byte for byte.
+fn written_again(destination: u32, datagram: &[u8]) {
+    let mut sent = begin(&[0; wire::MAX_SIZE], destination, &[0]);
+    let (mut len, mut at, mut other) = (sent.datagram_len(), wire::MIN_SIZE, false);
+    while let Step::Read { message, next } = wire::step(datagram, at) {
+        other |= matches!(
+            message,
+            Message::Handshake {
+                options: Options::Other,
+                ..
+            }
+        );
+        sent = add(&sent.room, len, &message, datagram, &[0]);
+        if sent.number != 0 {
+            break;
+        }
+        (len, at) = (sent.datagram_len(), next);
+    }
+    let same = datagram == &sent.room[..len];
+    if wire::layout(datagram, &mut Vec::new()).is_ok() && !other {
+        assert!(
+            same,
+            "{datagram:02x?} written again: {:02x?}",
+            &sent.room[..len]
+        );
+    }
 }
 
 /// Rooms of every length around the least ones.

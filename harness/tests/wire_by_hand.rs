@@ -4,8 +4,8 @@
 
 use harness::datagrams::message_words;
 use harness::proved::wire as proved;
+use second::by_hand::parse;
 use second::wire::{Message, Options};
-use second::wire_vectors::parse;
 
 /// What stands in a room behind the datagram.
 const BEHIND: u8 = 0xc5;

@@ -7,6 +7,7 @@
 
 pub mod answer;
 pub mod bulk;
+pub mod by_hand;
 pub mod channel;
 mod climb;
 pub mod hex;
@@ -18,8 +19,6 @@ pub mod sha256;
 pub mod store;
 pub mod traces;
 pub mod tree;
-pub mod tree_vectors;
 pub mod vectors;
 pub mod wire;
 pub mod wire_cases;
-pub mod wire_vectors;

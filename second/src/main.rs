@@ -3,7 +3,7 @@
 #![forbid(unsafe_code)]
 
 use second::sha256::Sha256;
-use second::{bulk, hex, named_traces, replay, traces, tree_vectors, vectors, wire_vectors};
+use second::{bulk, hex, named_traces, replay, traces, vectors};
 use std::io::{self, BufWriter, ErrorKind, Read, Write};
 use std::process::ExitCode;
 
@@ -11,11 +11,6 @@ const USAGE: &str = "\
 usage: second COMMAND
   sha256-vectors   print the label and the digest of each test vector
   sha256           print the digest of standard input
-  tree-vectors     print the nodes, orders, packs and answers of the tests
-  wire-frames      read hand-made datagrams from standard input, and write each
-                   behind its length in two bytes
-  wire-vectors     read them, and print what each holds and how writing it again
-                   goes; fail if a number made by hand is not the program's
   replay           answer the order and the datagrams in standard input
   trace SEED       print a random input for replay, the same for a seed
   trace-bulk KIND MEGABYTES
@@ -32,9 +27,6 @@ fn main() -> ExitCode {
     let outcome = match arguments[..] {
         ["sha256-vectors"] => sha256_vectors(),
         ["sha256"] => sha256_of_input(),
-        ["tree-vectors"] => tree_vectors(),
-        ["wire-frames"] => wire_frames(),
-        ["wire-vectors"] => wire_vectors(),
         ["replay"] => replay_input(),
         ["trace", seed] => trace(seed),
         ["trace-bulk", kind, megabytes] => trace_bulk(kind, megabytes),
@@ -78,25 +70,6 @@ fn sha256_of_input() -> io::Result<()> {
     output.flush()
 }
 
-fn tree_vectors() -> io::Result<()> {
-    let mut output = BufWriter::new(io::stdout().lock());
-    tree_vectors::write(&mut output)?;
-    output.flush()
-}
-
-fn wire_frames() -> io::Result<()> {
-    let all = hand_made_input()?;
-    let mut output = BufWriter::new(io::stdout().lock());
-    wire_vectors::write_frames(&mut output, &all)?;
-    output.flush()
-}
-
-fn wire_vectors() -> io::Result<()> {
-    let all = hand_made_input()?;
-    let mut output = BufWriter::new(io::stdout().lock());
-    wire_vectors::write_vectors(&mut output, &all)
-}
-
 fn replay_input() -> io::Result<()> {
     let mut output = BufWriter::new(io::stdout().lock());
     replay::replay(io::stdin().lock(), &mut output)?;
@@ -128,8 +101,4 @@ fn named_traces(directory: &str) -> io::Result<()> {
 fn number(argument: &str) -> io::Result<u64> {
     let number = argument.parse();
     number.map_err(|_| io::Error::other(format!("{argument}: not a number")))
-}
-
-fn hand_made_input() -> io::Result<Vec<wire_vectors::HandMade>> {
-    wire_vectors::parse(&io::read_to_string(io::stdin().lock())?)
 }

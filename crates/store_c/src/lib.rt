@@ -3,6 +3,9 @@
 ghost use mathlib.Core.Path.{_≡_};
 ghost use Rattle.store.proofs.Promise.{roomsOf, integrityOf, rootOf, outOf, startSpec, buildSpec, takeSpec};
 ghost use Rattle.store_c.specs.Root.{rooted, rootIn, rootPut};
+
+pub mod nodes;
+
 use store::calls;
 use store::calls::Order;
 use verdict::room;

@@ -1,2 +1,0 @@
--- Lines on their way to standard output.
-pub mod Lines
