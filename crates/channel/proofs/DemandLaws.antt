@@ -4,19 +4,20 @@ use native.Mathlib.Omega.{arith}
 use mathlib.Core.Path.{_≡_, refl, sym, ap, _∙_}
 use mathlib.Core.Bool.{true, false}
 use mathlib.Core.List.{List}
-use borrow.Author.Tests.{eq-eqb, eqb-true, le-ltb}
+use borrow.Author.Tests.{eq-eqb, eqb-true}
 use lib.Dec.{eqb}
 use lib.ListN.{length}
 use lib.Seq.{take-all}
 use Rattle.bits.proofs.Promise.{bitAt, countBits, rowWords, count-full, full-count}
 use Rattle.hash.proofs.Promise.{bytesOf, words, bytes-words}
+use Rattle.held.proofs.Promise.{held-counted}
 use Rattle.store.proofs.Promise.{Rooms, countOf, Digest, Running, Whole, Alike, lengthAnswer, roomsAnswer, rootOf, both-zero, order-accepted, build-accepted, start-zero, started-running, started-empty, build-zero, built-running, built-whole, content-root, running-hangs, whole-alike}
 use Rattle.store.specs.declared.calls.Order.{Order}
 use Rattle.channel.specs.declared.state.State.{State}
 use Rattle.channel.specs.World.{World, orderLength, chunkCount}
 use Rattle.channel.specs.Answers.{allRoomsAnswer}
 use Rattle.channel.specs.Starting.{freshChannels, startSpec, buildNumber, buildSpec}
-use Rattle.channel.specs.Ask.{Asked, askedOf, askNumber, askSpec}
+use Rattle.channel.specs.Ask.{Asked, askedOf, askSpec}
 use Rattle.channel.specs.Run.{Call, run, FreshOrBuilt, fresh, built}
 use Rattle.channel.specs.Demand.{rootIn, lengthIn, chunksIn, ask, BothWhole, Demand}
 use Rattle.channel.proofs.OutLaws.{unless-zero}
@@ -90,8 +91,8 @@ built-full w L s e =
 -- Of a store whose length is within the limit and whose map is large enough.
 asked : (st : State) (map : List ℕ) → lengthAnswer (orderLength st) ≡ 0 → rowWords (chunkCount st) ≤ length map
     → askSpec st map ≡ askedOf 0 (countBits map (chunkCount st)) (eqb (countBits map (chunkCount st)) (chunkCount st))
-unfolding askSpec askNumber
-asked st map e h = rw (e, le-ltb (length map) (rowWords (chunkCount st)) h)
+unfolding askSpec
+asked st map e h = held-counted (orderLength st) map e h
 
 module _ (w : World) (ready : Ready w) where
   asked-here : ask w ≡ askedOf 0 (countBits (w .rooms .map) (chunksIn w)) (eqb (countBits (w .rooms .map) (chunksIn w)) (chunksIn w))

@@ -2,7 +2,6 @@
 pub mod OutLaws
 pub mod AcceptLaws
 pub mod RoomLaws
-pub mod AskLaws
 pub mod WriteLaws
 pub mod StartLaws
 pub mod OpenLaws

@@ -1,8 +1,8 @@
 use native.Mathlib.Omega.{arith}
-use Rattle.channel.proofs.AskLaws.{ask-length, ask-short, ask-right}
+use Rattle.held.proofs.AskLaws.{ask-length, ask-short, ask-right}
 use borrow.Author.Needs.{needs}
-use Rattle.channel.proofs.asking.ask_number.Statement.{statement}
-use Rattle.channel.proofs.asking.ask_number.Tie as tie
+use Rattle.held.proofs.ask_number.Statement.{statement}
+use Rattle.held.proofs.ask_number.Tie as tie
 
 length-answer-requires : tie.Need-length-answer-requires
 length-answer-requires c κs = search needs

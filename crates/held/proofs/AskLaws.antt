@@ -8,10 +8,8 @@ use borrow.Author.Tests.{lt-ltb, le-ltb}
 use lib.Dec.{eqb}
 use lib.ListN.{length}
 use Rattle.bits.proofs.Promise.{countBits, rowWords}
-use Rattle.store.proofs.Promise.{earlier-not, lengthAnswer}
-use Rattle.channel.specs.declared.state.State.{State}
-use Rattle.channel.specs.World.{orderLength, chunkCount}
-use Rattle.channel.specs.Ask.{askedOf, askNumber, countedUnless, askSpec}
+use Rattle.store.proofs.Promise.{earlier-not, lengthAnswer, countOf}
+use Rattle.held.specs.Held.{askedOf, askNumber, countedUnless, heldSpec}
 
 -- ---- its number
 
@@ -39,17 +37,24 @@ counted-not : (n held N : ℕ) → n ≢ 0 → askedOf n 0 false ≡ countedUnle
 counted-not zero held N d = absurd (d refl)
 counted-not (suc n) held N d = refl
 
-module _ (st : State) (map : List ℕ) (N : ℕ) (ne : N ≡ chunkCount st) {n : ℕ} (e : n ≡ askNumber (orderLength st) N (length map)) where
+module _ (L : ℕ) (map : List ℕ) (N : ℕ) (ne : N ≡ countOf L) {n : ℕ} (e : n ≡ askNumber L N (length map)) where
   -- The number that the code found is the one given back.
-  number-is : n ≡ askNumber (orderLength st) (chunkCount st) (length map)
-  number-is = e ∙ ap (λ (x : ℕ). askNumber (orderLength st) x (length map)) ne
+  number-is : n ≡ askNumber L (countOf L) (length map)
+  number-is = e ∙ ap (λ (x : ℕ). askNumber L x (length map)) ne
 
   -- A refused call counts nothing.
-  pub ask-refused : n ≢ 0 → askedOf n 0 false ≡ askSpec st map
-  unfolding askSpec
-  ask-refused d = rw (← number-is) (counted-not n (countBits map (chunkCount st)) (chunkCount st) d)
+  pub ask-refused : n ≢ 0 → askedOf n 0 false ≡ heldSpec L map
+  unfolding heldSpec
+  ask-refused d = rw (← number-is) (counted-not n (countBits map (countOf L)) (countOf L) d)
 
   -- Otherwise it counts the bits of all chunks.
-  pub ask-counted : n ≡ 0 → (held : ℕ) → held ≡ countBits map N → askedOf 0 held (eqb held N) ≡ askSpec st map
-  unfolding askSpec
+  pub ask-counted : n ≡ 0 → (held : ℕ) → held ≡ countBits map N → askedOf 0 held (eqb held N) ≡ heldSpec L map
+  unfolding heldSpec
   ask-counted z held h = rw (← number-is, z, ← ne, ← h)
+
+-- ---- a map that is large enough
+
+pub held-counted : (L : ℕ) (map : List ℕ) → lengthAnswer L ≡ 0 → rowWords (countOf L) ≤ length map
+    → heldSpec L map ≡ askedOf 0 (countBits map (countOf L)) (eqb (countBits map (countOf L)) (countOf L))
+unfolding heldSpec askNumber
+held-counted L map e h = rw (e, le-ltb (length map) (rowWords (countOf L)) h)
