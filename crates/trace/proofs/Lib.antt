@@ -1,3 +1,4 @@
 -- What the proofs of several functions cite.
 pub mod SessionLaws
 pub mod StreamLaws
+pub mod Promise

@@ -6,7 +6,9 @@ use mathlib.Core.List.{List, []}
 use mathlib.Core.Bool.{Bool, true, false}
 use lib.ListN.{length, take}
 use lib.Seq.{length-take-le}
-use borrow.Author.Tests.{eq-eqb, ne-eqb}
+use lib.Dec.{eqb}
+use borrow.Author.Tests.{eq-eqb, ne-eqb, eqb-true, eqb-false}
+use Rattle.tree.specs.Pick.{pick}
 use Rattle.channel.specs.declared.state.State.{State}
 use Rattle.channel.proofs.Promise.{World, Asked, askedOf, askSpec}
 use Rattle.script.proofs.Promise.{Placed, placed, beforeFeed, kept, appended, answerLine, closingLine, feed-bound, length-kept, append-nothing}
@@ -81,3 +83,20 @@ module _ (r : Replay) (room : List ℕ) (len : ℕ) (out : Placed) where
       → streamOf (s .replay) (s .line) (s .read) o ≡ closed r (placed room len) out
   unfolding closed
   close-line h e f = rw (ne-eqb len 0 h, ← e, f)
+
+-- ---- how far a block is read
+
+module _ (r : Replay) (line : Placed) (rest : List ℕ) (out : Placed) where
+  how-far : (advanced r line rest out .read ≤ length rest) × (0 < length rest → 0 < advanced r line rest out .read)
+  unfolding advanced lineDone
+  how-far = go (eqb (beforeFeed rest) (length rest)) refl
+    where
+      go : (b : Bool) → eqb (beforeFeed rest) (length rest) ≡ b → (pick b (streamOf r (kept (line .room) (line .used) (take (beforeFeed rest) rest)) (beforeFeed rest) out) (lineDone r (kept (line .room) (line .used) (take (beforeFeed rest) rest)) (beforeFeed rest + 1) out) .read ≤ length rest) × (0 < length rest → 0 < pick b (streamOf r (kept (line .room) (line .used) (take (beforeFeed rest) rest)) (beforeFeed rest) out) (lineDone r (kept (line .room) (line .used) (take (beforeFeed rest) rest)) (beforeFeed rest + 1) out) .read)
+      go true e = let h = eqb-true (beforeFeed rest) (length rest) e in (omega arith, λ k. omega arith)
+      go false e = let h = eqb-false (beforeFeed rest) (length rest) e in (omega (arith, feed-bound rest), λ k. omega arith)
+
+  pub read-bound : {s : Stream} → s ≡ advanced r line rest out → s .read ≤ length rest
+  read-bound e = rw e (how-far .0)
+
+  pub read-some : {s : Stream} → s ≡ advanced r line rest out → 0 < length rest → 0 < s .read
+  read-some e = rw e (how-far .1)
