@@ -80,14 +80,26 @@ fn feed(
     }
 }
 
-// Reads a block of input; 0 where the input ends, and where no turn is left.
-fn read_block(block: &mut [u8], turns: u64) -> usize
+// Reads a block of input; 0 where the input ends, and where no turn is left. Where it ends in a line that has begun, with
+// `len` characters, that gets its line feed.
+fn read_block(block: &mut [u8], len: usize, turns: u64) -> usize
     ensures { λ r. ⌜ (r ≤ length (now (block .exit))) × (0 < r → 0 < turns) ⌝ }
 {
     if turns == 0 {
         return 0;
     }
-    io::count(libc::read(STDIN_FILENO, block), block)
+    let n = io::count(libc::read(STDIN_FILENO, block), block);
+    if 0 < n {
+        return n;
+    }
+    if len == 0 {
+        return 0;
+    }
+    if block.len() == 0 {
+        return 0;
+    }
+    block[0] = b'\n';
+    1
 }
 
 // Reads block after block. A proved loop has to end, and nothing says that the input does: it counts its turns down, from
@@ -107,7 +119,7 @@ fn run(
     let mut now = session::fresh();
     let mut len: usize = 0;
     let mut turns = u64::MAX;
-    let mut n = read_block(block, turns);
+    let mut n = read_block(block, len, turns);
     while 0 < n {
         let p = feed(
             now,
@@ -126,23 +138,12 @@ fn run(
         now = p.session;
         len = p.len;
         turns -= 1;
-        n = read_block(block, turns);
+        n = read_block(block, len, turns);
     }
-    let end = stream::close(
-        now,
-        chunks,
-        map,
-        hashes,
-        trusted,
-        has,
-        wants,
-        reply,
-        line,
-        len,
-        out,
-        0,
-    );
-    flush(out, end.used);
+    let stage = now.stage;
+    let state = now.state;
+    let used = stream::finish(out, 0, stage, state, map);
+    flush(out, used);
 }
 
 // The rooms of a store for 32 chunks, and one for a line that is a character longer than the longest frame.

@@ -8,7 +8,7 @@ use Rattle.script.proofs.Promise.{Placed}
 use Rattle.trace.proofs.SessionLaws as session
 use Rattle.trace.proofs.StreamLaws as stream
 pub use Rattle.trace.specs.Session.{Replay, replayOf}
-pub use Rattle.trace.specs.Stream.{Stream, streamOf, advanced, closed}
+pub use Rattle.trace.specs.Stream.{Stream, streamOf, advanced}
 
 -- At least a byte of what is left of a block, and not more than all.
 module _ (r : Replay) (line : Placed) (rest : List ℕ) (out : Placed) {s : Stream} (e : s ≡ advanced r line rest out) where

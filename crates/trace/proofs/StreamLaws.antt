@@ -1,5 +1,5 @@
 -- Laws of the lines of blocks, step by step as the code has them. Assumes nothing.
-use Prim.Native.Nat.{ℕ, _+_, _<_, _≤_}
+use Prim.Native.Nat.{ℕ, _+_, _<_, _≤_, min}
 use native.Mathlib.Omega.{arith}
 use mathlib.Core.Path.{_≡_, refl, sym, ap, _∙_}
 use mathlib.Core.List.{List, []}
@@ -14,8 +14,9 @@ use Rattle.channel.proofs.Promise.{World, Asked, askedOf, askSpec}
 use Rattle.script.proofs.Promise.{Placed, placed, beforeFeed, kept, appended, answerLine, closingLine, feed-bound, length-kept, append-nothing}
 use Rattle.trace.specs.declared.session.Stage.{Stage}
 use Rattle.trace.specs.declared.session.Stage.the-variants.{First, Later, Over}
-use Rattle.trace.specs.Session.{Replay, Answer, answerOf, lineAnswer, spoken, endAt, endOut}
-use Rattle.trace.specs.Stream.{Stream, streamOf, lineDone, advanced, ended, closed}
+use Rattle.trace.specs.Session.{Replay, Answer, answerOf, lineAnswer, spoken, endAt}
+use Rattle.trace.proofs.SessionLaws.{counted}
+use Rattle.trace.specs.Stream.{Stream, streamOf, lineDone, advanced}
 
 -- ---- what is written
 
@@ -45,11 +46,11 @@ module _ (room : List ℕ) (used : ℕ) (st : State) (map : List ℕ) {stage : S
 -- ---- a line answered
 
 pub line-done : (r : Replay) (room : List ℕ) (len read : ℕ) (out : List ℕ) (used : ℕ) {after : Replay} {silent : Bool} {number n : ℕ} {o : Placed}
-    → answerOf after silent number n ≡ lineAnswer r (take len room)
+    → {m : ℕ} → m ≡ min len (length room) → answerOf after silent number n ≡ lineAnswer r (take m room)
     → o ≡ appended out used (spoken silent number (take n (after .world .channels .reply)))
     → streamOf after (placed room 0) read o ≡ lineDone r (placed room len) read (placed out used)
 unfolding lineDone
-line-done r room len read out used e f = rw (← e, f)
+line-done r room len read out used {m = m} h e f = rw (← counted room m len h r, ← e, f)
 
 -- ---- a block read on
 
@@ -71,18 +72,6 @@ module _ (rest : List ℕ) {n : ℕ} (e : n ≡ beforeFeed rest) where
     pub advance-line : (n ≡ length rest → ⊥) → {next : ℕ} → next ≡ n + 1 → lineDone r k next out ≡ advanced r (placed room len) rest out
     unfolding advanced
     advance-line h g = rw (g, ← e, ne-eqb n (length rest) h, ← f)
-
--- ---- the end
-
-module _ (r : Replay) (room : List ℕ) (len : ℕ) (out : Placed) where
-  pub close-empty : len ≡ 0 → {o : Placed} → o ≡ appended (out .room) (out .used) (endOut r) → streamOf r (placed room 0) 0 o ≡ closed r (placed room len) out
-  unfolding closed
-  close-empty h f = rw (h, f)
-
-  pub close-line : (len ≡ 0 → ⊥) → {s : Stream} {o : Placed} → s ≡ lineDone r (placed room len) 0 out → o ≡ appended (s .out .room) (s .out .used) (endOut (s .replay))
-      → streamOf (s .replay) (s .line) (s .read) o ≡ closed r (placed room len) out
-  unfolding closed
-  close-line h e f = rw (ne-eqb len 0 h, ← e, f)
 
 -- ---- how far a block is read
 

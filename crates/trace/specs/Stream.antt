@@ -5,7 +5,7 @@ use lib.Dec.{eqb}
 use lib.ListN.{length, take}
 use Rattle.tree.specs.Pick.{pick}
 use Rattle.script.proofs.Promise.{Placed, placed, beforeFeed, kept, appended}
-use Rattle.trace.specs.Session.{Replay, Answer, lineAnswer, lineOut, endOut}
+use Rattle.trace.specs.Session.{Replay, Answer, lineAnswer, lineOut}
 
 -- A replay, what is kept of the line that has begun, how much of a block was read, and what is to be written.
 pub record Stream : Type 0 where
@@ -35,11 +35,3 @@ advanced r line rest out =
     pick (eqb (beforeFeed rest) (length rest))
     (streamOf r (kept (line .room) (line .used) (take (beforeFeed rest) rest)) (beforeFeed rest) out)
     (lineDone r (kept (line .room) (line .used) (take (beforeFeed rest) rest)) (beforeFeed rest + 1) out)
-
--- What is written at the end.
-abbrev pub ended : Stream → Stream
-ended s = streamOf (s .replay) (s .line) (s .read) (adding (s .out) (endOut (s .replay)))
-
--- The end of input ends a line that has begun: "nothing after the last line feed is no line".
-unfoldable pub closed : Replay → Placed → Placed → Stream
-closed r line out = ended (pick (eqb (line .used) 0) (streamOf r line 0 out) (lineDone r line 0 out))

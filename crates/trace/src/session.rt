@@ -1,7 +1,7 @@
 // A store under replay, line after line: line one is its order, each later one a datagram.
 ghost use mathlib.Core.Path.{_≡_};
 ghost use Prim.Native.Nat.{_≤_};
-ghost use lib.ListN.{length, take, replicate};
+ghost use lib.ListN.{length, replicate};
 ghost use Rattle.hash.proofs.Promise.{bytesOf};
 ghost use Rattle.table.proofs.Promise.{freeTable};
 ghost use Rattle.channel.proofs.Promise.{worldOf};
@@ -18,7 +18,6 @@ use channel::taking;
 use hash::value;
 use script::frames;
 use script::frames::Frame;
-use script::lines;
 use store::calls::Order;
 use wire::bytes;
 
@@ -234,7 +233,8 @@ fn later_line(
 
 // ---- any line
 
-fn answer_line(
+// Answers a line.
+pub fn answer(
     session: Session,
     chunks: &mut [u8],
     map: &mut [u32],
@@ -278,33 +278,4 @@ fn answer_line(
             len: 0,
         },
     }
-}
-
-// Answers a line, the first `len` bytes of a room.
-pub fn answer(
-    session: Session,
-    chunks: &mut [u8],
-    map: &mut [u32],
-    hashes: &mut [u32],
-    trusted: &mut [u32],
-    has: &mut [u32],
-    wants: &mut [u32],
-    reply: &mut [u8],
-    line: &[u8],
-    len: usize,
-) -> Answered
-    ensures { λ r. ⌜ answerOf (replayOf (worldOf (r .session .state) (now (chunks .exit)) (now (map .exit)) (now (hashes .exit)) (now (trusted .exit)) (now (has .exit)) (now (wants .exit)) (now (reply .exit))) (r .session .id) (r .session .stage)) (r .silent) (r .number) (r .len) ≡ lineAnswer (replayOf (worldOf (session .state) (now (chunks .entry)) (now (map .entry)) (now (hashes .entry)) (now (trusted .entry)) (now (has .entry)) (now (wants .entry)) (now (reply .entry))) (session .id) (session .stage)) (take len (now (line .entry))) ⌝ }
-{
-    let n = lines::least(len, line.len());
-    answer_line(
-        session,
-        chunks,
-        map,
-        hashes,
-        trusted,
-        has,
-        wants,
-        reply,
-        &line[..n],
-    )
 }

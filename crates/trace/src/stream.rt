@@ -5,7 +5,7 @@ ghost use lib.ListN.{length, take};
 ghost use Rattle.channel.proofs.Promise.{worldOf};
 ghost use Rattle.script.proofs.Promise.{placed, appended};
 ghost use Rattle.trace.specs.Session.{replayOf, spoken, endAt};
-ghost use Rattle.trace.specs.Stream.{streamOf, lineDone, advanced, closed};
+ghost use Rattle.trace.specs.Stream.{streamOf, lineDone, advanced};
 use crate::session;
 use crate::session::Answered;
 use crate::session::Session;
@@ -59,6 +59,7 @@ fn end_line(
 ) -> Progress
     ensures { λ r. ⌜ streamOf (replayOf (worldOf (r .session .state) (now (chunks .exit)) (now (map .exit)) (now (hashes .exit)) (now (trusted .exit)) (now (has .exit)) (now (wants .exit)) (now (reply .exit))) (r .session .id) (r .session .stage)) (placed (now (line .entry)) (r .len)) (r .read) (placed (now (out .exit)) (r .used)) ≡ lineDone (replayOf (worldOf (session .state) (now (chunks .entry)) (now (map .entry)) (now (hashes .entry)) (now (trusted .entry)) (now (has .entry)) (now (wants .entry)) (now (reply .entry))) (session .id) (session .stage)) (placed (now (line .entry)) len) read (placed (now (out .entry)) used) ⌝ }
 {
+    let n = lines::least(len, line.len());
     let answered = session::answer(
         session,
         chunks,
@@ -68,8 +69,7 @@ fn end_line(
         has,
         wants,
         reply,
-        line,
-        len,
+        &line[..n],
     );
     let after = answered.session;
     Progress {
@@ -142,7 +142,7 @@ pub fn advance(
 }
 
 // Adds what stands at the end of the output.
-fn put_end(out: &mut [u8], used: usize, stage: Stage, state: State, map: &[u32]) -> usize
+pub fn finish(out: &mut [u8], used: usize, stage: Stage, state: State, map: &[u32]) -> usize
     ensures { λ r. ⌜ placed (now (out .exit)) r ≡ appended (now (out .entry)) used (endAt stage state (now (map .entry))) ⌝ }
 {
     match stage {
@@ -155,60 +155,5 @@ fn put_end(out: &mut [u8], used: usize, stage: Stage, state: State, map: &[u32])
             answers::closing_line(out, used, asked.whole, asked.held)
         }
         Stage::Over => used,
-    }
-}
-
-// At the end of input: answers a line that has begun, and ends the output.
-pub fn close(
-    session: Session,
-    chunks: &mut [u8],
-    map: &mut [u32],
-    hashes: &mut [u32],
-    trusted: &mut [u32],
-    has: &mut [u32],
-    wants: &mut [u32],
-    reply: &mut [u8],
-    line: &[u8],
-    len: usize,
-    out: &mut [u8],
-    used: usize,
-) -> Progress
-    ensures { λ r. ⌜ streamOf (replayOf (worldOf (r .session .state) (now (chunks .exit)) (now (map .exit)) (now (hashes .exit)) (now (trusted .exit)) (now (has .exit)) (now (wants .exit)) (now (reply .exit))) (r .session .id) (r .session .stage)) (placed (now (line .entry)) (r .len)) (r .read) (placed (now (out .exit)) (r .used)) ≡ closed (replayOf (worldOf (session .state) (now (chunks .entry)) (now (map .entry)) (now (hashes .entry)) (now (trusted .entry)) (now (has .entry)) (now (wants .entry)) (now (reply .entry))) (session .id) (session .stage)) (placed (now (line .entry)) len) (placed (now (out .entry)) used) ⌝ }
-{
-    if len == 0 {
-        let stage = session.stage;
-        let state = session.state;
-        let end = put_end(out, used, stage, state, map);
-        return Progress {
-            session,
-            len: 0,
-            read: 0,
-            used: end,
-        };
-    }
-    let p = end_line(
-        session,
-        chunks,
-        map,
-        hashes,
-        trusted,
-        has,
-        wants,
-        reply,
-        line,
-        len,
-        out,
-        used,
-        0,
-    );
-    let after = p.session;
-    let stage = after.stage;
-    let state = after.state;
-    let end = put_end(out, p.used, stage, state, map);
-    Progress {
-        session: after,
-        len: p.len,
-        read: p.read,
-        used: end,
     }
 }

@@ -1,19 +1,25 @@
 use mathlib.Core.Path.{_≡_, refl, sym, ap, _∙_}
-use Rattle.trace.proofs.SessionLaws.{count-length, counted}
+use Rattle.trace.proofs.SessionLaws.{at-first, at-later, at-over}
 use borrow.Author.Needs.{needs}
 use Rattle.trace.proofs.session.answer.Statement.{statement}
 use Rattle.trace.proofs.session.answer.Tie as tie
-use Rattle.script.proofs.lines.least.Reads as least-reads
-use Rattle.trace.proofs.session.answer_line.Reads as answer-line-reads
+use Rattle.trace.proofs.session.first_line.Reads as first-line-reads
+use Rattle.trace.proofs.session.later_line.Reads as later-line-reads
 
-least-requires : tie.Need-least-requires
-least-requires c κs = search needs
+enum-told : tie.Need-enum-told
+enum-told c = search needs
 
-slice-aggregate-answer-line : tie.Need-slice-aggregate-answer-line
-slice-aggregate-answer-line c = count-length (c .before .before .before .before .before .before .before .before .before .before .before .before .before .before .before .before .before .args .line .now) _ _ (c .before .before .before .before .before .before .before .before .least .ensures)
+first-line-requires : tie.Need-first-line-requires
+first-line-requires c κs = search needs
 
-answer-line-requires : tie.Need-answer-line-requires
-answer-line-requires c κs = search needs
+enum-told-2 : tie.Need-enum-told-2
+enum-told-2 c = search needs
+
+later-line-requires : tie.Need-later-line-requires
+later-line-requires c κs = search needs
+
+enum-told-3 : tie.Need-enum-told-3
+enum-told-3 c = search needs
 
 same-length : tie.Need-same-length
 same-length c = search needs
@@ -37,15 +43,44 @@ same-length-7 : tie.Need-same-length-7
 same-length-7 c = search needs
 
 returns : tie.Need-returns
-returns c = c .before .before .before .before .before .before .before .before .before .before .before .before .before .before .answer-line .ensures ∙ counted (c .before .before .before .before .before .before .before .before .before .before .before .before .before .before .before .before .before .before .before .before .before .before .before .before .before .before .before .before .before .before .before .before .args .line .now) _ _ (c .before .before .before .before .before .before .before .before .before .before .before .before .before .before .before .before .before .before .before .before .before .before .before .least .ensures) _
+returns c = c .before .before .before .before .before .before .before .before .before .before .first-line .ensures ∙ at-first _ _ (c .before .before .before .before .before .before .before .before .before .before .before .before .before .before .before .before .before .before .enum-told .given .1)
+
+same-length-8 : tie.Need-same-length-8
+same-length-8 c = search needs
+
+same-length-9 : tie.Need-same-length-9
+same-length-9 c = search needs
+
+same-length-10 : tie.Need-same-length-10
+same-length-10 c = search needs
+
+same-length-11 : tie.Need-same-length-11
+same-length-11 c = search needs
+
+same-length-12 : tie.Need-same-length-12
+same-length-12 c = search needs
+
+same-length-13 : tie.Need-same-length-13
+same-length-13 c = search needs
+
+same-length-14 : tie.Need-same-length-14
+same-length-14 c = search needs
+
+returns-2 : tie.Need-returns-2
+returns-2 c = c .before .before .before .before .before .before .before .before .before .before .before .before .before .before .later-line .ensures ∙ at-later _ _ (c .before .before .before .before .before .before .before .before .before .before .before .before .before .before .before .before .before .before .before .before .before .before .enum-told2 .given .1)
+
+returns-3 : tie.Need-returns-3
+returns-3 c = at-over _ _ (c .enum-told3 .given .1)
 
 pub answer-spec : {M : Type 1} → statement M
 answer-spec =
     tie.close
     (tie.spec
-    least-requires
-    slice-aggregate-answer-line
-    answer-line-requires
+    enum-told
+    first-line-requires
+    enum-told-2
+    later-line-requires
+    enum-told-3
     same-length
     same-length-2
     same-length-3
@@ -53,4 +88,13 @@ answer-spec =
     same-length-5
     same-length-6
     same-length-7
-    returns)
+    returns
+    same-length-8
+    same-length-9
+    same-length-10
+    same-length-11
+    same-length-12
+    same-length-13
+    same-length-14
+    returns-2
+    returns-3)

@@ -1,10 +1,17 @@
-use mathlib.Core.Path.{_≡_, refl, sym, ap, _∙_}
+use Rattle.trace.proofs.SessionLaws.{count-length}
 use Rattle.trace.proofs.StreamLaws.{line-done}
 use borrow.Author.Needs.{needs}
 use Rattle.trace.proofs.stream.end_line.Statement.{statement}
 use Rattle.trace.proofs.stream.end_line.Tie as tie
+use Rattle.script.proofs.lines.least.Reads as least-reads
 use Rattle.trace.proofs.session.answer.Reads as answer-reads
 use Rattle.trace.proofs.stream.put_answer.Reads as put-answer-reads
+
+least-requires : tie.Need-least-requires
+least-requires c κs = search needs
+
+slice-aggregate-answer : tie.Need-slice-aggregate-answer
+slice-aggregate-answer c = count-length (c .before .before .before .before .before .before .before .before .before .before .before .before .before .before .before .before .before .before .args .line .now) _ _ (c .before .before .before .before .before .before .before .before .least .ensures)
 
 answer-requires : tie.Need-answer-requires
 answer-requires c κs = search needs
@@ -37,12 +44,14 @@ same-length-8 : tie.Need-same-length-8
 same-length-8 c = search needs
 
 returns : tie.Need-returns
-returns c = line-done _ _ _ _ _ _ (c .before .before .before .before .before .before .before .before .before .before .before .before .before .before .before .before .before .before .before .before .answer .ensures) (c .before .before .put-answer .ensures)
+returns c = line-done _ _ _ _ _ _ (c .before .before .before .before .before .before .before .before .before .before .before .before .before .before .before .before .before .before .before .before .before .before .before .before .before .before .before .before .before .least .ensures) (c .before .before .before .before .before .before .before .before .before .before .before .before .before .before .before .before .before .before .before .before .answer .ensures) (c .before .before .put-answer .ensures)
 
 pub end-line-spec : {M : Type 1} → statement M
 end-line-spec =
     tie.close
     (tie.spec
+    least-requires
+    slice-aggregate-answer
     answer-requires
     put-answer-requires
     same-length

@@ -1,8 +1,8 @@
 use mathlib.Core.Path.{_≡_, refl, sym, ap, _∙_}
 use Rattle.trace.proofs.StreamLaws.{end-first, end-later, end-over}
 use borrow.Author.Needs.{needs}
-use Rattle.trace.proofs.stream.put_end.Statement.{statement}
-use Rattle.trace.proofs.stream.put_end.Tie as tie
+use Rattle.trace.proofs.stream.finish.Statement.{statement}
+use Rattle.trace.proofs.stream.finish.Tie as tie
 use Rattle.channel.proofs.asking.ask.Reads as ask-reads
 use Rattle.script.proofs.answers.answer_line.Reads as answer-line-reads
 use Rattle.script.proofs.answers.closing_line.Reads as closing-line-reads
@@ -43,8 +43,8 @@ returns-2 c = c .before .before .closing-line .ensures ∙ end-later _ _ _ _ (c 
 returns-3 : tie.Need-returns-3
 returns-3 c = end-over _ _ _ _ (c .enum-told3 .given .1)
 
-pub put-end-spec : {M : Type 1} → statement M
-put-end-spec =
+pub finish-spec : {M : Type 1} → statement M
+finish-spec =
     tie.close
     (tie.spec
     enum-told
