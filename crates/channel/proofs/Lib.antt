@@ -11,4 +11,6 @@ pub mod StepLaws
 pub mod RunLaws
 pub mod DemandLaws
 pub mod RefusedLaws
+pub mod ReplyLaws
+pub mod ShorterLaws
 pub mod Promise

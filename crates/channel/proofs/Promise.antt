@@ -3,19 +3,22 @@
 use mathlib.Core.Path.{_≡_}
 use mathlib.Core.Bool.{false}
 use mathlib.Core.List.{List}
-use Prim.Native.Nat.{ℕ, _<_}
+use Prim.Native.Nat.{ℕ, _≤_, _<_}
+use lib.ListN.{length}
 use Rattle.bits.proofs.Promise.{bitAt}
 use Rattle.store.proofs.Promise.{countOf, Whole}
 use Rattle.store.specs.declared.calls.Order.{Order}
 use Rattle.channel.proofs.RefusedLaws as refused
 use Rattle.channel.proofs.DemandLaws as demand
+use Rattle.channel.proofs.ReplyLaws as reply
+use Rattle.channel.proofs.ShorterLaws as shorter
 pub use Rattle.channel.specs.World.{Channels, channelsOf, World, worldOf, Out, outOf, orderRoot, orderLength, chunkCount, tableRows}
 pub use Rattle.channel.specs.Opening.{openSpec}
 pub use Rattle.channel.specs.Starting.{startSpec, buildSpec}
 pub use Rattle.channel.specs.Take.{takeSpec}
 pub use Rattle.channel.specs.Write.{writeSpec}
 pub use Rattle.channel.specs.Ask.{Asked, askedOf, askSpec}
-pub use Rattle.channel.specs.Run.{Call, run, FreshOrBuilt, firstBrought}
+pub use Rattle.channel.specs.Run.{Call, opening, taking, writing, asking, run, FreshOrBuilt, fresh, built, firstBrought}
 pub use Rattle.channel.specs.Demand.{BothWhole, Demand}
 pub use Rattle.channel.proofs.RefusedLaws.{Unaltered}
 
@@ -35,6 +38,22 @@ take-refused-same = refused.take-unaltered
 
 pub write-refused-same : (w : World) (id c clock : ℕ) → Unaltered w (writeSpec w id c clock)
 write-refused-same = refused.write-unaltered
+
+-- ---- a start: of an order of some length, and in rooms for a longer one
+
+pub start-some : (w : World) (o : Order) → startSpec w o .answer ≡ 0 → 0 < o .length
+start-some = shorter.start-some
+
+pub start-shorter : (w : World) (o p : Order) → 0 < o .length → o .length ≤ p .length → startSpec w p .answer ≡ 0 → startSpec w o .answer ≡ 0
+start-shorter = shorter.start-shorter
+
+-- ---- the reply room stays as long as it is
+
+pub start-reply : (w : World) (o : Order) → length (startSpec w o .after .channels .reply) ≡ length (w .channels .reply)
+start-reply = reply.start-reply
+
+pub take-reply : (w : World) (clock id : ℕ) (s : List ℕ) → length (takeSpec w clock id s .after .channels .reply) ≡ length (w .channels .reply)
+take-reply = reply.take-reply
 
 -- ---- where a list begins: "A fresh store has no chunk in its map, a built one all N"
 

@@ -12,4 +12,5 @@ pub mod BegunLaws
 pub mod TakenLaws
 pub mod AlikeLaws
 pub mod AcceptLaws
+pub mod ShorterLaws
 pub mod Promise

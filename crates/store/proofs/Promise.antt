@@ -17,6 +17,7 @@ use Rattle.store.proofs.TakenLaws.{take-refused-same, take-means, take-
 use Rattle.store.proofs.AlikeLaws.{hangs, alike}
 use Rattle.store.proofs.AnswerLaws as answers
 use Rattle.store.proofs.AcceptLaws as accept
+use Rattle.store.proofs.ShorterLaws as shorter
 pub use Rattle.verdict.specs.Room.{filler, hashIn}
 unfoldable pub use Rattle.verdict.specs.Room.{Digest}
 pub use Rattle.verdict.proofs.RoomLaws.{hash-length}
@@ -54,6 +55,17 @@ both-zero = answers.both-zero
 -- Not 12, and not 11.
 pub order-accepted : (L b m h t : ℕ) → orderAnswer L b m h t ≡ 0 → (lengthAnswer L ≡ 0) × (roomAnswer L b m h t ≡ 0)
 order-accepted = accept.order-accepted
+
+-- Neither for a shorter order.
+pub order-shorter : (K L : ℕ) → K ≤ L → (b m h t : ℕ) → 0 < K → orderAnswer L b m h t ≡ 0 → orderAnswer K b m h t ≡ 0
+order-shorter = shorter.order-shorter
+
+-- A row of fewer bits has no more words, and a shorter pack no more chunks.
+pub row-mono : (m n : ℕ) → m ≤ n → rowWords m ≤ rowWords n
+row-mono = shorter.row-mono
+
+pub count-mono : (K L : ℕ) → K ≤ L → countOf K ≤ countOf L
+count-mono = shorter.count-mono
 
 -- Not 12: the length is within the limit.
 pub length-accepted : (L : ℕ) → lengthAnswer L ≡ 0 → (0 < L) × (L ≤ maxLength)

@@ -41,6 +41,14 @@ pub levels-least : (N h : ℕ) → h < levels N → 2 ^ h < N
 unfolding levels
 levels-least N h l = least-least N N h l
 
+-- fewer chunks have no higher tree
+pub levels-mono : (M N : ℕ) → M ≤ N → levels M ≤ levels N
+levels-mono M N h = go (split (levels M) (levels N))
+  where
+    go : (levels M ≤ levels N) ⊎ (levels N < levels M) → levels M ≤ levels N
+    go (inl l) = l
+    go (inr l) = absurd (omega (arith, levels-least M (levels N) l, levels-holds N))
+
 -- the height at which a count from 0 stops
 pub levels-unique : (N h : ℕ) → N ≤ 2 ^ h → ((k : ℕ) → k < h → 2 ^ k < N) → h ≡ levels N
 levels-unique N h e l = go (split h (levels N)) (split (levels N) h)
