@@ -95,6 +95,14 @@ unfolding isFrame
 frame-bounds least most line e =
     length-bounds least most (length line) (both-true (hasLength least most (length line)) (allDigits line) e .0)
 
+-- A line that is too long is none.
+pub long-no-frame : (least most : ℕ) (line : List ℕ) → most < length line → isFrame least most line ≡ false
+long-no-frame least most line h = go (isFrame least most line) refl
+  where
+    go : (b : Bool) → isFrame least most line ≡ b → b ≡ false
+    go true e = let k = frame-bounds least most line e in absurd (omega arith)
+    go false e = refl
+
 module _ (least most : ℕ) (line room : List ℕ) (wide : most / 2 ≤ length room) {left : List ℕ} where
   read-back : {len : ℕ} → len ≡ length line / 2 → left ≡ sets room 0 (decoded line) → isFrame least most line ≡ true → least ≤ length line → length line / 2 ≤ length room
       → (isFrame least most line ≡ true) × (least / 2 ≤ len) × (len ≤ length left) × (take len left ≡ decoded line)

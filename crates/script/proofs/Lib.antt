@@ -2,4 +2,5 @@
 pub mod HexLaws
 pub mod FrameLaws
 pub mod LineLaws
+pub mod RoomLaws
 pub mod Promise

@@ -10,7 +10,7 @@ use lib.Dec.{leb, eqb}
 use borrow.Author.Tests.{eq-eqb, ne-eqb, le-leb, lt-leb, leb-true, leb-false}
 use Rattle.tree.specs.Pick.{pick}
 use Rattle.script.specs.Hex.{encoded}
-use Rattle.script.specs.Lines.{beforeFeed, Placed, placed, taken, kept}
+use Rattle.script.specs.Lines.{beforeFeed, Filled, filled, fitting, kept}
 use Rattle.script.specs.Answers.{answerLine, closingLine, fits, appended}
 
 -- ---- the first line feed
@@ -42,6 +42,14 @@ module _ (s : List ℕ) (at : ℕ) where
   unfolding beforeFeed
   feed-on h e = rw (drop-cons s at 0 h, ne-eqb (getD s at 0) 10 e, one at) (omega arith)
 
+pub feed-nothing : beforeFeed [] ≡ 0
+unfolding beforeFeed
+feed-nothing = refl
+
+pub feed-first : (c : ℕ) (s : List ℕ) → beforeFeed (c ∷ s) ≡ pick (eqb c 10) 0 (suc (beforeFeed s))
+unfolding beforeFeed
+feed-first c s = refl
+
 pub feed-bound : (s : List ℕ) → beforeFeed s ≤ length s
 unfolding beforeFeed
 feed-bound [] = omega arith
@@ -65,20 +73,20 @@ keep-one (c ∷ s) room at h k g = rw (g, length-set room at c, one at, left, sh
     shift : (n : ℕ) → suc at + n ≡ at + suc n
     shift n = omega arith
 
--- Nothing is taken.
+-- Nothing of it fits.
 module _ (r room : List ℕ) (at : ℕ) where
-  keep-none : taken room at r ≡ [] → placed room at ≡ kept room at r
+  keep-none : fitting room at r ≡ [] → filled room at ≡ kept room at r
   unfolding kept
-  keep-none e = rw e (ap (λ (n : ℕ). placed room n) (omega arith))
+  keep-none e = rw e (ap (λ (n : ℕ). filled room n) (omega arith))
 
   -- No room is left, or nothing of the part.
-  pub keep-full : length room ≤ at → placed room at ≡ kept room at r
+  pub keep-full : length room ≤ at → filled room at ≡ kept room at r
   keep-full h = keep-none (rw none)
     where
       none : length room - at ≡ 0
       none = omega arith
 
-  pub keep-end : length r ≤ 0 → placed room at ≡ kept room at r
+  pub keep-end : length r ≤ 0 → filled room at ≡ kept room at r
   keep-end h = keep-none (rw (empty r h) (take-nil (length room - at)))
     where
       empty : (r : List ℕ) → length r ≤ 0 → r ≡ []
@@ -87,16 +95,16 @@ module _ (r room : List ℕ) (at : ℕ) where
 
 pub length-kept : (room : List ℕ) (len : ℕ) (part : List ℕ) → length (kept room len part .room) ≡ length room
 unfolding kept
-length-kept room len part = length-sets room len (taken room len part)
+length-kept room len part = length-sets room len (fitting room len part)
 
 -- ---- lines added to a room
 
-pub append-nothing : (room : List ℕ) (at : ℕ) → placed room at ≡ appended room at []
+pub append-nothing : (room : List ℕ) (at : ℕ) → filled room at ≡ appended room at []
 unfolding appended
 append-nothing room at = go (leb (at + 0) (length room))
   where
-    go : (b : Bool) → placed room at ≡ pick b (placed room (at + 0)) (placed room at)
-    go true = ap (λ (n : ℕ). placed room n) (omega arith)
+    go : (b : Bool) → filled room at ≡ pick b (filled room (at + 0)) (filled room at)
+    go true = ap (λ (n : ℕ). filled room n) (omega arith)
     go false = refl
 
 -- A line as long as its digits and the line feed.
@@ -163,11 +171,11 @@ fits-bound room at n e = leb-true (at + (3 + 2 * n)) room e
 module _ (room : List ℕ) (at number n len : ℕ) (reply : List ℕ) (e : n ≡ min len (length reply)) where
   -- A line that fits, and one that does not.
   pub line-fits : fits (length room) at n ≡ true
-      → placed (sets room at (answerLine number (take n reply))) (at + (3 + 2 * n)) ≡ appended room at (answerLine number (take len reply))
+      → filled (sets room at (answerLine number (take n reply))) (at + (3 + 2 * n)) ≡ appended room at (answerLine number (take len reply))
   unfolding appended fits
   line-fits f = rw (length-line number (take len reply), length-take len reply, ← e, f, ← take-least len reply, ← e)
 
-  pub line-not : fits (length room) at n ≡ false → placed room at ≡ appended room at (answerLine number (take len reply))
+  pub line-not : fits (length room) at n ≡ false → filled room at ≡ appended room at (answerLine number (take len reply))
   unfolding appended fits
   line-not f = rw (length-line number (take len reply), length-take len reply, ← e, f)
 
@@ -181,3 +189,7 @@ module _ (room : List ℕ) (at held : ℕ) {whole : Bool} where
   pub closing-part : whole ≡ false → appended room at (answerLine 240 (held / 256 % 256 ∷ held % 256 ∷ [])) ≡ appended room at (closingLine whole held)
   unfolding closingLine
   closing-part e = rw e
+
+pub length-closing : (whole : Bool) (held : ℕ) → length (closingLine whole held) ≤ 7
+unfolding closingLine
+length-closing whole held = rw (length-line (pick whole 255 240) (held / 256 % 256 ∷ held % 256 ∷ [])) (omega arith)

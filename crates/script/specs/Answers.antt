@@ -8,7 +8,7 @@ use lib.ListN.{length}
 use lib.Seq.{sets}
 use Rattle.tree.specs.Pick.{pick}
 use Rattle.script.specs.Hex.{encoded}
-use Rattle.script.specs.Lines.{Placed, placed}
+use Rattle.script.specs.Lines.{Filled, filled}
 
 -- An answer's line: the number and the reply.
 unfoldable pub answerLine : ℕ → List ℕ → List ℕ
@@ -18,10 +18,10 @@ answerLine number reply = encoded (number ∷ reply) ++ 10 ∷ []
 unfoldable pub closingLine : Bool → ℕ → List ℕ
 closingLine whole held = answerLine (pick whole 255 240) (held / 256 % 256 ∷ held % 256 ∷ [])
 
--- Whether a line of a number and n bytes fits behind the first `at` bytes of a room.
-unfoldable pub fits : (room at n : ℕ) → Bool
-fits room at n = leb (at + (3 + 2 * n)) room
+-- Whether a line of a number and n bytes fits behind the first `at` bytes of a room of this size.
+unfoldable pub fits : (size at n : ℕ) → Bool
+fits size at n = leb (at + (3 + 2 * n)) size
 
 -- Bytes added behind the first `at` of a room; a room that is too small for them stays.
-unfoldable pub appended : List ℕ → ℕ → List ℕ → Placed
-appended room at s = pick (leb (at + length s) (length room)) (placed (sets room at s) (at + length s)) (placed room at)
+unfoldable pub appended : List ℕ → ℕ → List ℕ → Filled
+appended room at s = pick (leb (at + length s) (length room)) (filled (sets room at s) (at + length s)) (filled room at)

@@ -15,7 +15,7 @@ use Rattle.script.specs.declared.frames.Frame.the-variants.{Bytes, Bad}
 unfoldable pub hasLength : (least most len : ℕ) → Bool
 hasLength least most len = pick (ltb len least) false (pick (ltb most len) false (eqb (len % 2) 0))
 
--- And all of them are digits.
+-- Whether a line is a frame: such a length, and digits alone.
 unfoldable pub isFrame : (least most : ℕ) → List ℕ → Bool
 isFrame least most line = pick (hasLength least most (length line)) (allDigits line) false
 

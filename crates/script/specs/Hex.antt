@@ -7,13 +7,13 @@ use Rattle.tree.specs.Pick.{pick}
 
 -- ---- digits
 
--- Whether a character lies from one to another.
+-- Whether a character lies between two, both included.
 abbrev pub among : (first last c : ℕ) → Bool
 among first last c = pick (ltb c first) false (ltb c (last + 1))
 
 -- The value of a digit, by its ASCII code: `0` to `9`, `A` to `F`, `a` to `f`. 16 for any other character.
 unfoldable pub digitOf : ℕ → ℕ
-digitOf c = pick (among 48 57 c) (c - 48) (pick (among 65 70 c) (c - 55) (pick (among 97 102 c) (c - 87) 16))
+digitOf c = pick (among 48 57 c) (c - 48) (pick (among 65 70 c) (c - 65 + 10) (pick (among 97 102 c) (c - 97 + 10) 16))
 
 -- The digit of a value under 16, in lower case.
 unfoldable pub digitFor : ℕ → ℕ
@@ -26,7 +26,7 @@ allDigits (c ∷ s) = pick (ltb (digitOf c) 16) (allDigits s) false
 
 -- ---- bytes
 
--- The bytes of digits, two each.
+-- The bytes of digits, two each. A digit without its second is left out; no frame has one.
 unfoldable pub decoded : List ℕ → List ℕ
 decoded [] = []
 decoded (c ∷ []) = []

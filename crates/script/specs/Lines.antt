@@ -7,22 +7,26 @@ use lib.Seq.{sets}
 use Rattle.tree.specs.Pick.{pick}
 
 -- A room, and how many of its bytes are in use.
-pub record Placed : Type 0 where
+pub record Filled : Type 0 where
   pub room : List ℕ
   pub used : ℕ
 
-abbrev pub placed : List ℕ → ℕ → Placed
-placed room used = record { room = room; used = used }
+abbrev pub filled : List ℕ → ℕ → Filled
+filled room used = record { room = room; used = used }
+
+-- The bytes in use, at the front of the room.
+abbrev pub front : Filled → List ℕ
+front p = take (p .used) (p .room)
 
 -- How many characters stand before the first line feed, all where there is none.
 unfoldable pub beforeFeed : List ℕ → ℕ
 beforeFeed [] = 0
 beforeFeed (c ∷ s) = pick (eqb c 10) 0 (suc (beforeFeed s))
 
--- What a room takes of a part behind its first `len` bytes.
-abbrev pub taken : List ℕ → ℕ → List ℕ → List ℕ
-taken room len part = take (length room - len) part
+-- What fits of a part behind the first `len` bytes of a room.
+abbrev pub fitting : List ℕ → ℕ → List ℕ → List ℕ
+fitting room len part = take (length room - len) part
 
--- The room with that.
-unfoldable pub kept : List ℕ → ℕ → List ℕ → Placed
-kept room len part = placed (sets room len (taken room len part)) (len + length (taken room len part))
+-- The room with it, and how many of its bytes are in use then.
+unfoldable pub kept : List ℕ → ℕ → List ℕ → Filled
+kept room len part = filled (sets room len (fitting room len part)) (len + length (fitting room len part))

@@ -3,19 +3,19 @@ ghost use mathlib.Core.Path.{_≡_};
 ghost use Prim.Native.Nat.{_+_, _*_, _≤_};
 ghost use lib.ListN.{length, take};
 ghost use lib.Seq.{sets};
-ghost use Rattle.script.specs.Lines.{placed};
+ghost use Rattle.script.specs.Lines.{filled};
 ghost use Rattle.script.specs.Answers.{fits, appended, answerLine, closingLine};
 use crate::hex;
 use crate::lines;
 
-// Whether a line of a number and n bytes fits behind the first `at` bytes of a room.
-fn fits(room: usize, at: usize, n: usize) -> bool
-    ensures { λ r. ⌜ r ≡ fits room at n ⌝ }
+// Whether a line of a number and n bytes fits behind the first `at` bytes of a room of this size.
+pub fn fits(size: usize, at: usize, n: usize) -> bool
+    ensures { λ r. ⌜ r ≡ fits size at n ⌝ }
 {
-    if room < at {
+    if size < at {
         return false;
     }
-    let left = room - at;
+    let left = size - at;
     if left < 3 {
         return false;
     }
@@ -35,7 +35,7 @@ fn put_line(room: &mut [u8], at: usize, number: u8, reply: &[u8])
 // Adds an answer's line behind the first `at` bytes of a room: the number, and the first `len` bytes of the reply room.
 // Where the lines end then.
 pub fn answer_line(room: &mut [u8], at: usize, number: u8, reply: &[u8], len: usize) -> usize
-    ensures { λ r. ⌜ placed (now (room .exit)) r ≡ appended (now (room .entry)) at (answerLine number (take len (now (reply .entry)))) ⌝ }
+    ensures { λ r. ⌜ filled (now (room .exit)) r ≡ appended (now (room .entry)) at (answerLine number (take len (now (reply .entry)))) ⌝ }
 {
     let n = lines::least(len, reply.len());
     if fits(room.len(), at, n) {
@@ -47,7 +47,7 @@ pub fn answer_line(room: &mut [u8], at: usize, number: u8, reply: &[u8], len: us
 
 // Adds the closing line: whole or not, and the held count.
 pub fn closing_line(room: &mut [u8], at: usize, whole: bool, held: u32) -> usize
-    ensures { λ r. ⌜ placed (now (room .exit)) r ≡ appended (now (room .entry)) at (closingLine whole held) ⌝ }
+    ensures { λ r. ⌜ filled (now (room .exit)) r ≡ appended (now (room .entry)) at (closingLine whole held) ⌝ }
 {
     let count = [(held / 256 % 256) as u8, (held % 256) as u8];
     if whole {

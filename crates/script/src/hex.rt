@@ -69,6 +69,7 @@ fn digit_for(x: u8) -> u8
     if x < 10 { b'0' + x } else { b'a' - 10 + x }
 }
 
+// The two digits of a byte.
 fn high_digit(x: u8) -> u8
     ensures { λ r. ⌜ r ≡ digitFor (x / 16) ⌝ }
 {

@@ -1,7 +1,7 @@
 // Lines in the blocks that input comes in.
 ghost use mathlib.Core.Path.{_≡_};
 ghost use Prim.Native.Nat.{min};
-ghost use Rattle.script.specs.Lines.{placed, beforeFeed, kept};
+ghost use Rattle.script.specs.Lines.{filled, beforeFeed, kept};
 
 // How many characters stand before the first line feed, all where there is none.
 pub fn before_feed(block: &[u8]) -> usize
@@ -20,7 +20,7 @@ pub fn before_feed(block: &[u8]) -> usize
 // Adds a part of a line to what is kept of it, the first `len` bytes of a room, as far as the room goes; how many bytes
 // are kept then.
 pub fn keep(room: &mut [u8], len: usize, part: &[u8]) -> usize
-    ensures { λ r. ⌜ placed (now (room .exit)) r ≡ kept (now (room .entry)) len (now (part .entry)) ⌝ }
+    ensures { λ r. ⌜ filled (now (room .exit)) r ≡ kept (now (room .entry)) len (now (part .entry)) ⌝ }
 {
     let mut rest = part;
     let mut at = len;

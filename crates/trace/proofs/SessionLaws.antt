@@ -17,9 +17,9 @@ use Rattle.channel.proofs.Promise.{World, Out, outOf, startSpec, takeSpec}
 use Rattle.script.specs.declared.frames.Frame.{Frame}
 use Rattle.script.specs.declared.frames.Frame.the-variants.{Bytes, Bad}
 use Rattle.script.proofs.Promise.{isFrame, decoded, framed, frameSpec, bytes-mean, bad-means, take-least}
-use Rattle.trace.specs.Limits.{lengthMax, orderDigits, digitsMin, digitsMax}
+use Rattle.trace.specs.Limits.{lengthMax, orderDigits, orderSize, digitsMin, digitsMax, frameMax}
 use Rattle.trace.specs.declared.session.Stage.the-variants.{First, Later, Over}
-use Rattle.trace.specs.Session.{Replay, replayOf, answerOf, orderBytes, orderIn, limited, startedBy, firstLine, nextId, takenBy, frameTaken, laterLine, lineAnswer}
+use Rattle.trace.specs.Session.{Replay, replayOf, answerOf, orderIn, limited, orderOf, startedBy, firstLine, nextId, takenBy, frameTaken, laterLine, lineAnswer}
 
 -- The part of a slice from an index on, as the code has it.
 pub part : (n : ℕ) (t : List ℕ) → take (length t - n) (drop n t) ≡ drop n t
@@ -36,17 +36,21 @@ module _ (f : List ℕ) (h : HashValue) (L : ℕ) (he : h .words ≡ words 8 f) 
   unfolding limited
   order-long k = rw (← le, lt-leb L lengthMax k, ← he)
 
--- The frame after line one was read, or not.
-pub order-bytes : (line : List ℕ) (left : List ℕ) (f : Frame) → length left ≡ 36 → framed f left ≡ frameSpec orderDigits orderDigits line (replicate 36 0) → left ≡ orderBytes line
-unfolding orderBytes
-order-bytes line left (Bytes n) h e =
-    let m = bytes-mean orderDigits orderDigits line (replicate 36 0) (omega arith) e in
-    rw (m .0) (sym (take-all n left (omega (arith, m .1))) ∙ m .3)
-order-bytes line left Bad h e =
-    let m = bad-means orderDigits orderDigits line (replicate 36 0) (omega arith) e in
-    rw (m .0) (m .1)
+-- The order of line one, by its frame, or where it has none.
+module _ (line : List ℕ) {left : List ℕ} {f : Frame} (h : length left ≡ orderSize) (e : framed f left ≡ frameSpec orderDigits orderDigits line (replicate orderSize 0)) where
+  pub order-frame : {n : ℕ} → f ≡ Bytes n → limited (orderIn left) ≡ orderOf line
+  unfolding orderOf
+  order-frame {n} g =
+      let m = bytes-mean orderDigits orderDigits line (replicate orderSize 0) (omega arith) (ap (λ (x : Frame). framed x left) (sym g) ∙ e) in
+      rw (m .0, ← m .3, take-all n left (omega (arith, m .1)))
 
-module _ (r : Replay) (line : List ℕ) {o : Order} {n len : ℕ} {w : World} (oe : o ≡ limited (orderIn (orderBytes line))) (e : outOf n len w ≡ startSpec (r .world) o) where
+  pub order-none : f ≡ Bad → {root : HashValue} → root .words ≡ words 8 left → record { root = root; length = 0 } ≡ orderOf line
+  unfolding orderOf
+  order-none g k =
+      let m = bad-means orderDigits orderDigits line (replicate orderSize 0) (omega arith) (ap (λ (x : Frame). framed x left) (sym g) ∙ e) in
+      rw (m .0, ← m .1, ← k)
+
+module _ (r : Replay) (line : List ℕ) {o : Order} {n len : ℕ} {w : World} (oe : o ≡ orderOf line) (e : outOf n len w ≡ startSpec (r .world) o) where
   pub started : n ≡ 0 → answerOf (replayOf w (r .id) Later) true 0 0 ≡ firstLine r line
   unfolding firstLine
   started z = rw (← oe, ← e, eq-eqb n 0 z)
@@ -80,14 +84,14 @@ pub took : (r : Replay) (f s : List ℕ) {clock n len i : ℕ} {w : World} → c
 unfolding frameTaken
 took r f s ce se e ie = rw (← se, ← ce, ← e, ie)
 
-wide : digitsMax / 2 ≤ length {A = ℕ} (replicate 2056 0)
-wide = rw (length-replicate {A = ℕ} 2056 0) (omega arith)
+wide : frameMax ≤ length {A = ℕ} (replicate frameMax 0)
+wide = rw (length-replicate {A = ℕ} frameMax 0) (omega arith)
 
 -- A line's frame, or that it has none.
-module _ (line : List ℕ) {left : List ℕ} {f : Frame} (e : framed f left ≡ frameSpec digitsMin digitsMax line (replicate 2056 0)) where
+module _ (line : List ℕ) {left : List ℕ} {f : Frame} (e : framed f left ≡ frameSpec digitsMin digitsMax line (replicate frameMax 0)) where
   module _ {n : ℕ} (g : f ≡ Bytes n) where
     means : (isFrame digitsMin digitsMax line ≡ true) × (8 ≤ n) × (n ≤ length left) × (take n left ≡ decoded line)
-    means = bytes-mean digitsMin digitsMax line (replicate 2056 0) wide (ap (λ (x : Frame). framed x left) (sym g) ∙ e)
+    means = bytes-mean digitsMin digitsMax line (replicate frameMax 0) wide (ap (λ (x : Frame). framed x left) (sym g) ∙ e)
 
     pub frame-fits : n ≤ length left
     frame-fits = means .2
@@ -104,7 +108,7 @@ module _ (line : List ℕ) {left : List ℕ} {f : Frame} (e : framed f left ≡ 
 
   pub no-frame : f ≡ Bad → (r : Replay) → answerOf r false 15 0 ≡ laterLine r line
   unfolding laterLine
-  no-frame g r = rw (bad-means digitsMin digitsMax line (replicate 2056 0) wide (ap (λ (x : Frame). framed x left) (sym g) ∙ e) .0)
+  no-frame g r = rw (bad-means digitsMin digitsMax line (replicate frameMax 0) wide (ap (λ (x : Frame). framed x left) (sym g) ∙ e) .0)
 
 -- ---- any line
 

@@ -11,7 +11,7 @@ use borrow.Author.Tests.{eq-eqb, ne-eqb, eqb-true, eqb-false}
 use Rattle.tree.specs.Pick.{pick}
 use Rattle.channel.specs.declared.state.State.{State}
 use Rattle.channel.proofs.Promise.{World, Asked, askedOf, askSpec}
-use Rattle.script.proofs.Promise.{Placed, placed, beforeFeed, kept, appended, answerLine, closingLine, feed-bound, length-kept, append-nothing}
+use Rattle.script.proofs.Promise.{Filled, filled, beforeFeed, kept, appended, answerLine, closingLine, feed-bound, length-kept, append-nothing}
 use Rattle.trace.specs.declared.session.Stage.{Stage}
 use Rattle.trace.specs.declared.session.Stage.the-variants.{First, Later, Over}
 use Rattle.trace.specs.Session.{Replay, Answer, answerOf, lineAnswer, spoken, endAt}
@@ -21,7 +21,7 @@ use Rattle.trace.specs.Stream.{Stream, streamOf, lineDone, advanced}
 -- ---- what is written
 
 module _ (room : List ℕ) (used number : ℕ) (reply : List ℕ) {silent : Bool} where
-  pub say-nothing : silent ≡ true → placed room used ≡ appended room used (spoken silent number reply)
+  pub say-nothing : silent ≡ true → filled room used ≡ appended room used (spoken silent number reply)
   unfolding spoken
   say-nothing e = rw e (append-nothing room used)
 
@@ -39,16 +39,16 @@ module _ (room : List ℕ) (used : ℕ) (st : State) (map : List ℕ) {stage : S
   unfolding endAt
   end-later e a = rw (e, ← a)
 
-  pub end-over : stage ≡ Over → placed room used ≡ appended room used (endAt stage st map)
+  pub end-over : stage ≡ Over → filled room used ≡ appended room used (endAt stage st map)
   unfolding endAt
   end-over e = rw e (append-nothing room used)
 
 -- ---- a line answered
 
-pub line-done : (r : Replay) (room : List ℕ) (len read : ℕ) (out : List ℕ) (used : ℕ) {after : Replay} {silent : Bool} {number n : ℕ} {o : Placed}
+pub line-done : (r : Replay) (room : List ℕ) (len read : ℕ) (out : List ℕ) (used : ℕ) {after : Replay} {silent : Bool} {number n : ℕ} {o : Filled}
     → {m : ℕ} → m ≡ min len (length room) → answerOf after silent number n ≡ lineAnswer r (take m room)
     → o ≡ appended out used (spoken silent number (take n (after .world .channels .reply)))
-    → streamOf after (placed room 0) read o ≡ lineDone r (placed room len) read (placed out used)
+    → streamOf after (filled room 0) read o ≡ lineDone r (filled room len) read (filled out used)
 unfolding lineDone
 line-done r room len read out used {m = m} h e f = rw (← counted room m len h r, ← e, f)
 
@@ -61,21 +61,21 @@ module _ (rest : List ℕ) {n : ℕ} (e : n ≡ beforeFeed rest) where
   pub before-less : (n ≡ length rest → ⊥) → n < length rest
   before-less h = omega (arith, feed-bound rest)
 
-  pub kept-length : (room : List ℕ) (len : ℕ) {k : Placed} → k ≡ kept room len (take n rest) → length (k .room) ≡ length room
+  pub kept-length : (room : List ℕ) (len : ℕ) {k : Filled} → k ≡ kept room len (take n rest) → length (k .room) ≡ length room
   kept-length room len f = rw f (length-kept room len (take n rest))
 
-  module _ (r : Replay) (room : List ℕ) (len : ℕ) (out : Placed) {k : Placed} (f : k ≡ kept room len (take n rest)) where
-    pub advance-on : n ≡ length rest → streamOf r k n out ≡ advanced r (placed room len) rest out
+  module _ (r : Replay) (room : List ℕ) (len : ℕ) (out : Filled) {k : Filled} (f : k ≡ kept room len (take n rest)) where
+    pub advance-on : n ≡ length rest → streamOf r k n out ≡ advanced r (filled room len) rest out
     unfolding advanced
     advance-on h = rw (← e, eq-eqb n (length rest) h, ← f)
 
-    pub advance-line : (n ≡ length rest → ⊥) → {next : ℕ} → next ≡ n + 1 → lineDone r k next out ≡ advanced r (placed room len) rest out
+    pub advance-line : (n ≡ length rest → ⊥) → {next : ℕ} → next ≡ n + 1 → lineDone r k next out ≡ advanced r (filled room len) rest out
     unfolding advanced
     advance-line h g = rw (g, ← e, ne-eqb n (length rest) h, ← f)
 
 -- ---- how far a block is read
 
-module _ (r : Replay) (line : Placed) (rest : List ℕ) (out : Placed) where
+module _ (r : Replay) (line : Filled) (rest : List ℕ) (out : Filled) where
   how-far : (advanced r line rest out .read ≤ length rest) × (0 < length rest → 0 < advanced r line rest out .read)
   unfolding advanced lineDone
   how-far = go (eqb (beforeFeed rest) (length rest)) refl

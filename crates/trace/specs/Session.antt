@@ -11,7 +11,7 @@ use Rattle.wire.proofs.Promise.{be32, be64}
 use Rattle.channel.specs.declared.state.State.{State}
 use Rattle.channel.proofs.Promise.{World, Out, startSpec, takeSpec, askSpec}
 use Rattle.script.proofs.Promise.{isFrame, decoded, answerLine, closingLine}
-use Rattle.trace.specs.Limits.{lengthMax, orderDigits, digitsMin, digitsMax}
+use Rattle.trace.specs.Limits.{lengthMax, orderDigits, orderSize, digitsMin, digitsMax}
 use Rattle.trace.specs.declared.session.Stage.{Stage}
 use Rattle.trace.specs.declared.session.Stage.the-variants.{First, Later, Over}
 
@@ -36,17 +36,21 @@ answerOf r silent number len = record { after = r; silent = silent; number = num
 
 -- ---- line one
 
--- The bytes of line one; zeros where it is "not 72 hexadecimal digits".
-unfoldable pub orderBytes : List ℕ → List ℕ
-orderBytes line = pick (isFrame orderDigits orderDigits line) (decoded line) (replicate 36 0)
-
--- "Line one is root then L (32 bits)".
+-- "Line one is root then L (32 bits)": an order by its bytes.
 abbrev pub orderIn : List ℕ → Order
 orderIn f = record { root = record { words = words 8 f }; length = be32 f 32 }
 
 -- "the program takes L up to 32,768": a longer one counts as 0, which starting refuses.
 unfoldable pub limited : Order → Order
 limited o = record { root = o .root; length = pick (leb (o .length) lengthMax) (o .length) 0 }
+
+-- The same for a line that is "not 72 hexadecimal digits": an order of length 0.
+abbrev pub noOrder : Order
+noOrder = record { root = record { words = words 8 (replicate orderSize 0) }; length = 0 }
+
+-- The order of line one.
+unfoldable pub orderOf : List ℕ → Order
+orderOf line = pick (isFrame orderDigits orderDigits line) (limited (orderIn (decoded line))) noOrder
 
 -- By what starting gives: the next line is a datagram, or else "`0c` and nothing more".
 abbrev pub startedBy : Replay → Out World → Answer
@@ -57,16 +61,19 @@ startedBy r out =
 
 -- "A missing or bad first line (not 72 hexadecimal digits, L 0 or over 32,768): `0c` and nothing more".
 unfoldable pub firstLine : Replay → List ℕ → Answer
-firstLine r line = startedBy r (startSpec (r .world) (limited (orderIn (orderBytes line))))
+firstLine r line = startedBy r (startSpec (r .world) (orderOf line))
 
 -- ---- later lines
 
--- "The ID passed is 1 and rises by one with each channel opened": a datagram s to channel 0 that is taken opens one. An ID
--- has 32 bits.
-unfoldable pub nextId : (id answer : ℕ) → List ℕ → ℕ
-nextId id answer s = pick (pick (eqb answer 0) (pick (leb 4 (length s)) (eqb (be32 s 0) 0) false) false) ((id + 1) % 2 ^ 32) id
+-- Whether a datagram opened a channel: it was taken, and went to channel 0.
+abbrev pub opened : (answer : ℕ) → List ℕ → Bool
+opened answer s = pick (eqb answer 0) (pick (leb 4 (length s)) (eqb (be32 s 0) 0) false) false
 
--- By what taking in the datagram s gives.
+-- "The ID passed is 1 and rises by one with each channel opened". An ID has 32 bits.
+unfoldable pub nextId : (id answer : ℕ) → List ℕ → ℕ
+nextId id answer s = pick (opened answer s) ((id + 1) % 2 ^ 32) id
+
+-- By what taking in the datagram s gives. Every number is under 256.
 abbrev pub takenBy : Replay → List ℕ → Out World → Answer
 takenBy r s out = answerOf (replayOf (out .after) (nextId (r .id) (out .answer) s) Later) false (out .answer % 256) (out .len)
 
@@ -98,10 +105,14 @@ lineOut a = spoken (a .silent) (a .number) (take (a .len) (a .after .world .chan
 
 -- ---- the end
 
+-- The closing line of a store.
+abbrev pub closingOf : State → (map : List ℕ) → List ℕ
+closingOf st map = closingLine (askSpec st map .whole) (askSpec st map .held)
+
 -- "at the end `ff` if whole or `f0`, then the held count"; `0c` where line one is missing.
 unfoldable pub endAt : Stage → State → (map : List ℕ) → List ℕ
 endAt First st map = answerLine 12 []
-endAt Later st map = closingLine (askSpec st map .whole) (askSpec st map .held)
+endAt Later st map = closingOf st map
 endAt Over st map = []
 
 abbrev pub endOut : Replay → List ℕ

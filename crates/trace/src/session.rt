@@ -6,11 +6,13 @@ ghost use Rattle.hash.proofs.Promise.{bytesOf};
 ghost use Rattle.table.proofs.Promise.{freeTable};
 ghost use Rattle.channel.proofs.Promise.{worldOf};
 ghost use Rattle.trace.specs.declared.session.Stage.the-variants.{First};
-ghost use Rattle.trace.specs.Session.{replayOf, answerOf, orderIn, orderBytes, limited, firstLine, nextId, frameTaken, laterLine, lineAnswer};
+ghost use Rattle.trace.specs.Session.{replayOf, answerOf, orderIn, limited, orderOf, firstLine, nextId, frameTaken, laterLine, lineAnswer};
 use crate::limits::DIGITS_MAX;
 use crate::limits::DIGITS_MIN;
+use crate::limits::FRAME_MAX;
 use crate::limits::LENGTH_MAX;
 use crate::limits::ORDER_DIGITS;
+use crate::limits::ORDER_SIZE;
 use channel::starting;
 use channel::state;
 use channel::state::State;
@@ -71,13 +73,18 @@ fn order_in(frame: &[u8]) -> Order
     Order { root, length: 0 }
 }
 
-// The order of line one; a bad line leaves the frame's zeros, and so a length of 0.
-fn first_order(line: &[u8]) -> Order
-    ensures { λ r. ⌜ r ≡ limited (orderIn (orderBytes (now (line .entry)))) ⌝ }
+// The order of line one; a bad line has none, and so a length of 0.
+fn order_of(line: &[u8]) -> Order
+    ensures { λ r. ⌜ r ≡ orderOf (now (line .entry)) ⌝ }
 {
-    let mut frame = [0u8; 36];
-    frames::read(line, ORDER_DIGITS, ORDER_DIGITS, &mut frame);
-    order_in(&frame)
+    let mut frame = [0u8; ORDER_SIZE];
+    match frames::read(line, ORDER_DIGITS, ORDER_DIGITS, &mut frame) {
+        Frame::Bytes { .. } => order_in(&frame),
+        Frame::Bad => Order {
+            root: value::load(&frame, 0),
+            length: 0,
+        },
+    }
 }
 
 // Line one: starts the store.
@@ -94,7 +101,7 @@ fn first_line(
 ) -> Answered
     ensures { λ r. ⌜ answerOf (replayOf (worldOf (r .session .state) (now (chunks .entry)) (now (map .exit)) (now (hashes .exit)) (now (trusted .exit)) (now (has .exit)) (now (wants .exit)) (now (reply .entry))) (r .session .id) (r .session .stage)) (r .silent) (r .number) (r .len) ≡ firstLine (replayOf (worldOf (session .state) (now (chunks .entry)) (now (map .entry)) (now (hashes .entry)) (now (trusted .entry)) (now (has .entry)) (now (wants .entry)) (now (reply .entry))) (session .id) (session .stage)) (now (line .entry)) ⌝ }
 {
-    let order = first_order(line);
+    let order = order_of(line);
     let state = session.state;
     let out = starting::start(
         state,
@@ -209,7 +216,7 @@ fn later_line(
 ) -> Answered
     ensures { λ r. ⌜ answerOf (replayOf (worldOf (r .session .state) (now (chunks .exit)) (now (map .exit)) (now (hashes .exit)) (now (trusted .exit)) (now (has .exit)) (now (wants .exit)) (now (reply .exit))) (r .session .id) (r .session .stage)) (r .silent) (r .number) (r .len) ≡ laterLine (replayOf (worldOf (session .state) (now (chunks .entry)) (now (map .entry)) (now (hashes .entry)) (now (trusted .entry)) (now (has .entry)) (now (wants .entry)) (now (reply .entry))) (session .id) (session .stage)) (now (line .entry)) ⌝ }
 {
-    let mut frame = [0u8; 2056];
+    let mut frame = [0u8; FRAME_MAX];
     match frames::read(line, DIGITS_MIN, DIGITS_MAX, &mut frame) {
         Frame::Bytes { len } => take(
             session,

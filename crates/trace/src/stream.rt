@@ -3,7 +3,7 @@ ghost use mathlib.Core.Path.{_≡_};
 ghost use Prim.Native.Nat.{_+_, _<_};
 ghost use lib.ListN.{length, take};
 ghost use Rattle.channel.proofs.Promise.{worldOf};
-ghost use Rattle.script.proofs.Promise.{placed, appended};
+ghost use Rattle.script.proofs.Promise.{filled, appended};
 ghost use Rattle.trace.specs.Session.{replayOf, spoken, endAt};
 ghost use Rattle.trace.specs.Stream.{streamOf, lineDone, advanced};
 use crate::session;
@@ -33,7 +33,7 @@ fn put_answer(
     reply: &[u8],
     len: usize,
 ) -> usize
-    ensures { λ r. ⌜ placed (now (out .exit)) r ≡ appended (now (out .entry)) used (spoken silent number (take len (now (reply .entry)))) ⌝ }
+    ensures { λ r. ⌜ filled (now (out .exit)) r ≡ appended (now (out .entry)) used (spoken silent number (take len (now (reply .entry)))) ⌝ }
 {
     if silent {
         return used;
@@ -57,7 +57,7 @@ fn end_line(
     used: usize,
     read: usize,
 ) -> Progress
-    ensures { λ r. ⌜ streamOf (replayOf (worldOf (r .session .state) (now (chunks .exit)) (now (map .exit)) (now (hashes .exit)) (now (trusted .exit)) (now (has .exit)) (now (wants .exit)) (now (reply .exit))) (r .session .id) (r .session .stage)) (placed (now (line .entry)) (r .len)) (r .read) (placed (now (out .exit)) (r .used)) ≡ lineDone (replayOf (worldOf (session .state) (now (chunks .entry)) (now (map .entry)) (now (hashes .entry)) (now (trusted .entry)) (now (has .entry)) (now (wants .entry)) (now (reply .entry))) (session .id) (session .stage)) (placed (now (line .entry)) len) read (placed (now (out .entry)) used) ⌝ }
+    ensures { λ r. ⌜ streamOf (replayOf (worldOf (r .session .state) (now (chunks .exit)) (now (map .exit)) (now (hashes .exit)) (now (trusted .exit)) (now (has .exit)) (now (wants .exit)) (now (reply .exit))) (r .session .id) (r .session .stage)) (filled (now (line .entry)) (r .len)) (r .read) (filled (now (out .exit)) (r .used)) ≡ lineDone (replayOf (worldOf (session .state) (now (chunks .entry)) (now (map .entry)) (now (hashes .entry)) (now (trusted .entry)) (now (has .entry)) (now (wants .entry)) (now (reply .entry))) (session .id) (session .stage)) (filled (now (line .entry)) len) read (filled (now (out .entry)) used) ⌝ }
 {
     let n = lines::least(len, line.len());
     let answered = session::answer(
@@ -87,7 +87,7 @@ fn end_line(
     }
 }
 
-// The place behind one of a block.
+// The place behind a place of a block.
 fn behind(at: usize, block: &[u8]) -> usize
     requires { ⌜ at < length (now block) ⌝ }
     ensures { λ r. ⌜ r ≡ at + 1 ⌝ }
@@ -111,7 +111,7 @@ pub fn advance(
     out: &mut [u8],
     used: usize,
 ) -> Progress
-    ensures { λ r. ⌜ streamOf (replayOf (worldOf (r .session .state) (now (chunks .exit)) (now (map .exit)) (now (hashes .exit)) (now (trusted .exit)) (now (has .exit)) (now (wants .exit)) (now (reply .exit))) (r .session .id) (r .session .stage)) (placed (now (line .exit)) (r .len)) (r .read) (placed (now (out .exit)) (r .used)) ≡ advanced (replayOf (worldOf (session .state) (now (chunks .entry)) (now (map .entry)) (now (hashes .entry)) (now (trusted .entry)) (now (has .entry)) (now (wants .entry)) (now (reply .entry))) (session .id) (session .stage)) (placed (now (line .entry)) len) (now (rest .entry)) (placed (now (out .entry)) used) ⌝ }
+    ensures { λ r. ⌜ streamOf (replayOf (worldOf (r .session .state) (now (chunks .exit)) (now (map .exit)) (now (hashes .exit)) (now (trusted .exit)) (now (has .exit)) (now (wants .exit)) (now (reply .exit))) (r .session .id) (r .session .stage)) (filled (now (line .exit)) (r .len)) (r .read) (filled (now (out .exit)) (r .used)) ≡ advanced (replayOf (worldOf (session .state) (now (chunks .entry)) (now (map .entry)) (now (hashes .entry)) (now (trusted .entry)) (now (has .entry)) (now (wants .entry)) (now (reply .entry))) (session .id) (session .stage)) (filled (now (line .entry)) len) (now (rest .entry)) (filled (now (out .entry)) used) ⌝ }
 {
     let n = lines::before_feed(rest);
     let kept = lines::keep(line, len, &rest[..n]);
@@ -143,7 +143,7 @@ pub fn advance(
 
 // Adds what stands at the end of the output.
 pub fn finish(out: &mut [u8], used: usize, stage: Stage, state: State, map: &[u32]) -> usize
-    ensures { λ r. ⌜ placed (now (out .exit)) r ≡ appended (now (out .entry)) used (endAt stage state (now (map .entry))) ⌝ }
+    ensures { λ r. ⌜ filled (now (out .exit)) r ≡ appended (now (out .entry)) used (endAt stage state (now (map .entry))) ⌝ }
 {
     match stage {
         Stage::First => {

@@ -3,10 +3,10 @@ use borrow.Author.Needs.{needs}
 use Rattle.trace.proofs.session.first_line.Statement.{statement}
 use Rattle.trace.proofs.session.first_line.Tie as tie
 use Rattle.channel.proofs.starting.start.Reads as start-reads
-use Rattle.trace.proofs.session.first_order.Reads as first-order-reads
+use Rattle.trace.proofs.session.order_of.Reads as order-of-reads
 
-first-order-requires : tie.Need-first-order-requires
-first-order-requires c κs = search needs
+order-of-requires : tie.Need-order-of-requires
+order-of-requires c κs = search needs
 
 start-requires : tie.Need-start-requires
 start-requires c κs = search needs
@@ -27,7 +27,7 @@ same-length-5 : tie.Need-same-length-5
 same-length-5 c = search needs
 
 returns : tie.Need-returns
-returns c = started _ _ (c .before .before .before .before .before .before .before .before .before .before .before .before .before .before .before .before .before .before .before .before .first-order .ensures) (c .before .before .before .before .before .before .before .before .before .before .before .before .before .start .ensures) (c .if1 .taken)
+returns c = started _ _ (c .before .before .before .before .before .before .before .before .before .before .before .before .before .before .before .before .before .before .before .before .order-of .ensures) (c .before .before .before .before .before .before .before .before .before .before .before .before .before .start .ensures) (c .if1 .taken)
 
 same-length-6 : tie.Need-same-length-6
 same-length-6 c = search needs
@@ -45,13 +45,13 @@ same-length-10 : tie.Need-same-length-10
 same-length-10 c = search needs
 
 returns-2 : tie.Need-returns-2
-returns-2 c = refused _ _ (c .before .before .before .before .before .before .before .before .before .before .before .before .before .before .before .before .before .before .before .before .first-order .ensures) (c .before .before .before .before .before .before .before .before .before .before .before .before .before .start .ensures) (c .if1 .left)
+returns-2 c = refused _ _ (c .before .before .before .before .before .before .before .before .before .before .before .before .before .before .before .before .before .before .before .before .order-of .ensures) (c .before .before .before .before .before .before .before .before .before .before .before .before .before .start .ensures) (c .if1 .left)
 
 pub first-line-spec : {M : Type 1} → statement M
 first-line-spec =
     tie.close
     (tie.spec
-    first-order-requires
+    order-of-requires
     start-requires
     same-length
     same-length-2
