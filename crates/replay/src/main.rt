@@ -1,16 +1,17 @@
 // The replay program (01, "The replay program"): reads lines of hexadecimal from standard input, and writes the answer to
-// each to standard output. Its memory is the same for any input.
-ghost use Prim.Native.Nat.{_≤_, _<_};
+// each to standard output. Its memory is the same for any input. A read that fails counts as the end of input; a write that
+// fails loses its bytes, and nothing tells it, since a program has no exit status here.
+ghost use Prim.Native.Nat.{_+_, _*_, _≤_, _<_};
 ghost use lib.ListN.{length};
 use libc::STDIN_FILENO;
 use libc::STDOUT_FILENO;
+use script::answers;
+use trace::limits::LINE_ROOM;
 use trace::session;
 use trace::session::Session;
 use trace::stream;
 use trace::stream::Progress;
-
-// The most bytes of an answer's line: the number, a reply of 2,048 bytes, and the line feed.
-const ANSWER_MAX: usize = 4099;
+use wire::limits::MAX_SIZE;
 
 // Writes the first bytes of the output room.
 fn flush(out: &[u8], used: usize) {
@@ -19,15 +20,53 @@ fn flush(out: &[u8], used: usize) {
     }
 }
 
-// Writes them where the next line might not fit; how much of the room is in use then.
-fn flush_full(out: &[u8], used: usize) -> usize {
-    if used <= out.len() {
-        if ANSWER_MAX <= out.len() - used {
-            return used;
-        }
+// Writes them where the line of an answer with any reply might not fit behind them; how much of the room is in use then.
+fn flush_full(out: &[u8], used: usize, reply: &[u8]) -> usize
+    requires { ⌜ 3 + 2 * length (now reply) ≤ length (now out) ⌝ }
+    ensures { λ r. ⌜ r + (3 + 2 * length (now (reply .entry))) ≤ length (now (out .entry)) ⌝ }
+{
+    if answers::fits(out.len(), used, reply.len()) {
+        return used;
     }
     flush(out, used);
     0
+}
+
+// Reads on in what is left of a block, in rooms for a line that is too long and for the line of an answer.
+fn read_on(
+    session: Session,
+    chunks: &mut [u8],
+    map: &mut [u32],
+    hashes: &mut [u32],
+    trusted: &mut [u32],
+    has: &mut [u32],
+    wants: &mut [u32],
+    reply: &mut [u8],
+    line: &mut [u8],
+    len: usize,
+    rest: &[u8],
+    out: &mut [u8],
+    used: usize,
+) -> Progress
+    requires { ⌜ 4112 < length (now line) ⌝ }
+    requires { ⌜ used + (3 + 2 * length (now reply)) ≤ length (now out) ⌝ }
+    ensures { λ r. ⌜ (r .read ≤ length (now (rest .entry))) × (0 < length (now (rest .entry)) → 0 < r .read) ⌝ }
+{
+    stream::advance(
+        session,
+        chunks,
+        map,
+        hashes,
+        trusted,
+        has,
+        wants,
+        reply,
+        line,
+        len,
+        rest,
+        out,
+        used,
+    )
 }
 
 // Answers the lines of a block; what is left is a line that has begun.
@@ -44,14 +83,17 @@ fn feed(
     len: usize,
     block: &[u8],
     out: &mut [u8],
-) -> Progress {
-    let mut now = session;
+) -> Progress
+    requires { ⌜ 4112 < length (now line) ⌝ }
+    requires { ⌜ 3 + 2 * length (now reply) ≤ length (now out) ⌝ }
+{
+    let mut current = session;
     let mut kept = len;
     let mut used: usize = 0;
     let mut rest = block;
     while 0 < rest.len() {
-        let p = stream::advance(
-            now,
+        let p = read_on(
+            current,
             chunks,
             map,
             hashes,
@@ -65,41 +107,47 @@ fn feed(
             out,
             used,
         );
-        now = p.session;
+        current = p.session;
         kept = p.len;
-        used = flush_full(out, p.used);
+        used = flush_full(out, p.used, reply);
         let read = p.read;
         rest = &rest[read..];
     }
     flush(out, used);
     Progress {
-        session: now,
+        session: current,
         len: kept,
         read: 0,
         used: 0,
     }
 }
 
-// Reads a block of input; 0 where the input ends, and where no turn is left. Where it ends in a line that has begun, with
-// `len` characters, that gets its line feed.
-fn read_block(block: &mut [u8], len: usize, turns: u64) -> usize
-    ensures { λ r. ⌜ (r ≤ length (now (block .exit))) × (0 < r → 0 < turns) ⌝ }
+// How many bytes of a block were read, and how many turns are left.
+struct Input {
+    n: usize,
+    turns: u64,
+}
+
+// Reads a block of input; none where the input ends, and where no turn is left. Where it ends in a line that has begun, of
+// which `len` characters are kept, that gets its line feed, and the turn for it is the last.
+fn read_block(block: &mut [u8], len: usize, turns: u64) -> Input
+    ensures { λ r. ⌜ (r .n ≤ length (now (block .exit))) × (0 < r .n → 0 < r .turns) × (r .turns ≤ turns) ⌝ }
 {
     if turns == 0 {
-        return 0;
+        return Input { n: 0, turns };
     }
     let n = io::count(libc::read(STDIN_FILENO, block), block);
     if 0 < n {
-        return n;
+        return Input { n, turns };
     }
     if len == 0 {
-        return 0;
+        return Input { n: 0, turns };
     }
     if block.len() == 0 {
-        return 0;
+        return Input { n: 0, turns };
     }
     block[0] = b'\n';
-    1
+    Input { n: 1, turns: 1 }
 }
 
 // Reads block after block. A proved loop has to end, and nothing says that the input does: it counts its turns down, from
@@ -115,14 +163,18 @@ fn run(
     line: &mut [u8],
     block: &mut [u8],
     out: &mut [u8],
-) {
-    let mut now = session::fresh();
+)
+    requires { ⌜ 4112 < length (now line) ⌝ }
+    requires { ⌜ 3 + 2 * length (now reply) ≤ length (now out) ⌝ }
+{
+    let mut current = session::fresh();
     let mut len: usize = 0;
-    let mut turns = u64::MAX;
-    let mut n = read_block(block, len, turns);
+    let first = read_block(block, len, u64::MAX);
+    let mut n = first.n;
+    let mut turns = first.turns;
     while 0 < n {
         let p = feed(
-            now,
+            current,
             chunks,
             map,
             hashes,
@@ -135,18 +187,19 @@ fn run(
             &block[..n],
             out,
         );
-        now = p.session;
+        current = p.session;
         len = p.len;
-        turns -= 1;
-        n = read_block(block, len, turns);
+        let next = read_block(block, len, turns - 1);
+        n = next.n;
+        turns = next.turns;
     }
-    let stage = now.stage;
-    let state = now.state;
+    let stage = current.stage;
+    let state = current.state;
     let used = stream::finish(out, 0, stage, state, map);
     flush(out, used);
 }
 
-// The rooms of a store for 32 chunks, and one for a line that is a character longer than the longest frame.
+// The rooms of a store for 32 chunks, and those for a line, for input and for output.
 fn main() {
     let mut chunks = [0u8; 32768];
     let mut map = [0u32; 1];
@@ -154,8 +207,8 @@ fn main() {
     let mut trusted = [0u32; 2];
     let mut has = [0u32; 16];
     let mut wants = [0u32; 16];
-    let mut reply = [0u8; 2048];
-    let mut line = [0u8; 4113];
+    let mut reply = [0u8; MAX_SIZE];
+    let mut line = [0u8; LINE_ROOM];
     let mut block = io::large_buffer();
     let mut out = io::large_buffer();
     run(

@@ -40,7 +40,7 @@ same-length-4 : tie.Need-same-length-4
 same-length-4 c = search needs
 
 returns-5 : tie.Need-returns-5
-returns-5 c = (simp length-set (omega arith), λ k. omega (arith, c .before .before .before .before .before .before .before .before .before .if1 .left))
+returns-5 c = (simp length-set (omega arith), λ k. omega arith, omega (arith, c .before .before .before .before .before .before .before .before .before .if1 .left))
 
 pub read-block-spec : {M : Type 1} → statement M
 read-block-spec =
