@@ -11,6 +11,7 @@ pub mod calls;
 pub mod came;
 pub mod channels;
 pub mod datagrams;
+pub mod garbling;
 pub mod lists;
 pub mod packets;
 pub mod packs;

@@ -1,9 +1,9 @@
-//! Random lists of calls on a store, from any state, with changes of the state
-//! and the rooms between them that no call makes.
+//! Random lists of calls on a store, from any state.
 
 use crate::arriving::{clock, Peer};
 use crate::calls::Call;
 use crate::channels::Both;
+use crate::garbling::garble_row;
 use crate::packets::{datagram, fixed, handshake};
 use crate::packs::Pack;
 use crate::proved::channel::{Rooms, STATE_WORDS};
@@ -52,13 +52,13 @@ impl<'a> List<'a> {
     /// The next call, which may have anything wrong.
     pub fn next_call(&mut self, case: &str) -> Call {
         let pack = self.peer.pack;
-        let begun = self.store.state().length == pack.length();
-        if !begun && self.random.one_in(4) {
-            return self.begin();
+        let started = self.store.state().length == pack.length();
+        if !started && self.random.one_in(4) {
+            return self.start();
         }
         match self.random.below(100) {
-            0 => self.begin(),
-            1 => self.wrong_begin(),
+            0 => self.start(),
+            1 => self.wrong_start(),
             2..10 => Call::Open { id: self.new_id() },
             10..22 => self.write(),
             22..30 => Call::Ask,
@@ -72,7 +72,7 @@ impl<'a> List<'a> {
 
     /// A start, or a building in one of three cases; now and then under another
     /// root.
-    pub fn begin(&mut self) -> Call {
+    pub fn start(&mut self) -> Call {
         let pack = self.peer.pack;
         let length = pack.length();
         match self.random.below(12) {
@@ -92,7 +92,7 @@ impl<'a> List<'a> {
     }
 
     /// A start or a building under another length, or from other content.
-    fn wrong_begin(&mut self) -> Call {
+    fn wrong_start(&mut self) -> Call {
         let pack = self.peer.pack;
         let mut content = pack.content.clone();
         let mut length = pack.length();
@@ -143,65 +143,6 @@ impl<'a> List<'a> {
             clock: clock(&mut self.random),
         }
     }
-
-    /// Changes something in the state or in a room.
-    pub fn garble(&mut self) {
-        let (random, store) = (&mut self.random, &mut self.store);
-        match random.below(12) {
-            0..4 => {
-                let row = random.place(CHANNELS);
-                garble_row(random, store, row);
-            }
-            4 => (0..CHANNELS).for_each(|row| garble_row(random, store, row)),
-            5 => {
-                let other = 1 + random.below(2 * self.peer.pack.length());
-                let length = random.one_of(&[0, 524_289, u32::MAX, other, other]);
-                store.change(|state, _| state[8] = length);
-            }
-            6 => {
-                let at = random.place(8);
-                store.change(|state, _| state[at] ^= 1);
-            }
-            room => {
-                let bit = 1 << random.below(32);
-                let rooms = store.rooms();
-                let lengths = [
-                    rooms.map.len(),
-                    rooms.hashes.len(),
-                    rooms.trusted.len(),
-                    rooms.has.len(),
-                    rooms.wants.len(),
-                ];
-                let room = room as usize - 7;
-                let at = random.place(lengths[room]);
-                store.change(|_, rooms| word_rooms(rooms)[room][at] ^= bit);
-            }
-        }
-    }
-}
-
-/// Anything in a row: IDs that are 0 or in use elsewhere, peers that are 0,
-/// phases and marks that no call writes.
-fn garble_row(random: &mut Random, store: &mut Both, row: usize) {
-    let another = random.one_of(&store.state().rows).id;
-    let words = [
-        random.one_of(&[0, 0, 1, 2, 2, 2, 3, 258, u32::MAX]),
-        random.one_of(&[0, another, 1, 2, 3]),
-        random.one_of(&[0, 5, 6]),
-        random.one_of(&[0, 1, 1, 2, 7]),
-    ];
-    store.change(|state, _| state[9 + 4 * row..][..4].copy_from_slice(&words));
-}
-
-/// The rooms that have bits or hashes.
-fn word_rooms(rooms: &mut Rooms) -> [&mut Vec<u32>; 5] {
-    [
-        &mut rooms.map,
-        &mut rooms.hashes,
-        &mut rooms.trusted,
-        &mut rooms.has,
-        &mut rooms.wants,
-    ]
 }
 
 /// Rooms with anything in them, each just large enough or a little larger.

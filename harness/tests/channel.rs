@@ -5,6 +5,7 @@
 
 use harness::calls::{Call, Told};
 use harness::channels::Both;
+use harness::garbling::garble;
 use harness::lists::{random_rooms, List};
 use harness::packs::{random_length, Pack};
 use harness::proved::channel::{self as proved, STATE_WORDS};
@@ -67,11 +68,11 @@ fn run(seed: u32, mut random: Random, length: u32, counts: &mut Counts) {
     for number in 0..CALLS {
         let case = format!("seed {seed}, length {length}, call {number}");
         if number == 0 && !list.random.one_in(8) {
-            let begin = list.begin();
-            counts.add(&begin, list.store.call(&case, &begin).number);
+            let start = list.start();
+            counts.add(&start, list.store.call(&case, &start).number);
         }
         if list.random.one_in(40) {
-            list.garble();
+            garble(&mut list.random, &mut list.store, length);
         }
         let call = list.next_call(&case);
         if list.random.one_in(10) {

@@ -1,0 +1,65 @@
+//! Changes of a store's state and rooms that no call makes.
+
+use crate::channels::Both;
+use crate::proved::channel::Rooms;
+use crate::random::Random;
+use second::channel::CHANNELS;
+
+/// Changes something in the state or in a room of a store of a pack of such a
+/// length.
+pub fn garble(random: &mut Random, store: &mut Both, length: u32) {
+    match random.below(12) {
+        0..4 => {
+            let row = random.place(CHANNELS);
+            garble_row(random, store, row);
+        }
+        4 => (0..CHANNELS).for_each(|row| garble_row(random, store, row)),
+        5 => {
+            let other = 1 + random.below(2 * length);
+            let length = random.one_of(&[0, 524_289, u32::MAX, other, other]);
+            store.change(|state, _| state[8] = length);
+        }
+        6 => {
+            let at = random.place(8);
+            store.change(|state, _| state[at] ^= 1);
+        }
+        room => {
+            let bit = 1 << random.below(32);
+            let rooms = store.rooms();
+            let lengths = [
+                rooms.map.len(),
+                rooms.hashes.len(),
+                rooms.trusted.len(),
+                rooms.has.len(),
+                rooms.wants.len(),
+            ];
+            let room = room as usize - 7;
+            let at = random.place(lengths[room]);
+            store.change(|_, rooms| word_rooms(rooms)[room][at] ^= bit);
+        }
+    }
+}
+
+/// Anything in a row: IDs that are 0 or in use elsewhere, peers that are 0,
+/// phases and marks that no call writes.
+pub fn garble_row(random: &mut Random, store: &mut Both, row: usize) {
+    let another = random.one_of(&store.state().rows).id;
+    let words = [
+        random.one_of(&[0, 0, 1, 2, 2, 2, 3, 258, u32::MAX]),
+        random.one_of(&[0, another, 1, 2, 3]),
+        random.one_of(&[0, 5, 6]),
+        random.one_of(&[0, 1, 1, 2, 7]),
+    ];
+    store.change(|state, _| state[9 + 4 * row..][..4].copy_from_slice(&words));
+}
+
+/// The rooms that have bits or hashes.
+fn word_rooms(rooms: &mut Rooms) -> [&mut Vec<u32>; 5] {
+    [
+        &mut rooms.map,
+        &mut rooms.hashes,
+        &mut rooms.trusted,
+        &mut rooms.has,
+        &mut rooms.wants,
+    ]
+}
