@@ -1,11 +1,14 @@
-//! The entry points of the channels as values: a call with its arguments, which
-//! the proved code and `second` can both be given, and what it gives back.
+//! The entry points as values: a call with its arguments, which the proved code
+//! and `second` can both be given, and what it gives back.
 
+use crate::datagrams::message_words;
 use crate::proved::channel::{self as proved, Rooms};
+use crate::proved::wire;
 use crate::words::words;
 use second::channel::{self as channel, Outcome, State};
 use second::hex;
 use second::sha256::Digest;
+use second::wire::Message;
 use std::fmt;
 
 /// A call with its arguments, but for the state and the rooms.
@@ -33,10 +36,21 @@ pub enum Call {
         clock: u64,
     },
     Ask,
+    Begin {
+        destination: u32,
+    },
+    /// To the datagram in the first `len` bytes of the reply room; the hash,
+    /// chunk or root of the message is in `source`.
+    Add {
+        len: usize,
+        message: Message,
+        source: Vec<u8>,
+    },
 }
 
 /// What a call gives back: its number, and the words for its results. These are
-/// the reply's length or, for asking, the held count and 1 where all are held.
+/// the length of the reply or of the datagram so far or, for asking, the held
+/// count and 1 where all are held.
 #[derive(Clone, Debug, PartialEq, Eq)]
 pub struct Told {
     pub number: u32,
@@ -50,6 +64,12 @@ impl Call {
             Call::Ask => 2,
             _ => 1,
         }
+    }
+
+    /// Whether it begins or adds, and so is lent the reply room alone: no state,
+    /// and no other room.
+    pub fn composes(&self) -> bool {
+        matches!(self, Call::Begin { .. } | Call::Add { .. })
     }
 
     /// Gives it to the proved code.
@@ -67,6 +87,15 @@ impl Call {
                 proved::write(state, rooms, *id, *chunk, *clock, out)
             }
             Call::Ask => proved::ask(state, &rooms.map, out),
+            Call::Begin { destination } => wire::begin(&mut rooms.reply, *destination, out),
+            Call::Add {
+                len,
+                message,
+                source,
+            } => {
+                let fields = message_words(message);
+                wire::add(&mut rooms.reply, *len, &fields, source, out)
+            }
         }
     }
 
@@ -90,6 +119,12 @@ impl Call {
                     words: vec![held.count.into(), held.whole.into()],
                 };
             }
+            Call::Begin { destination } => channel::begin(lent.reply, *destination),
+            Call::Add {
+                len,
+                message,
+                source,
+            } => channel::add(lent.reply, *len, message, source),
         };
         let Outcome { number, length } = outcome;
         Told {
@@ -121,6 +156,15 @@ impl fmt::Display for Call {
                 write!(f, "write chunk {chunk} on {id} at {clock}")
             }
             Call::Ask => write!(f, "ask"),
+            Call::Begin { destination } => write!(f, "begin to {destination}"),
+            Call::Add {
+                len,
+                message,
+                source,
+            } => {
+                let source = hex::encode(source);
+                write!(f, "add to {len} bytes {message:?} from {source}")
+            }
         }
     }
 }

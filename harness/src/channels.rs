@@ -1,15 +1,15 @@
-//! The proved entry points of the channels and `second`'s side by side: each
-//! call goes to both, and then the number, the reply's length, the state and
-//! every byte and word of every room must be the same. What is wanted is what
-//! `second` gives. A difference panics with the case, the call, and the first
-//! place where each thing differs.
+//! The proved entry points and `second`'s side by side: each call goes to both,
+//! and then the number, the reply's length, the state and every byte and word of
+//! every room must be the same. What is wanted is what `second` gives. A
+//! difference panics with the case, the call, and the first place where each
+//! thing differs.
 
 use crate::beside::difference;
 use crate::calls::{Call, Told};
 use crate::proved::channel::{Rooms, STATE_WORDS};
 use crate::words::{digest, words};
-use second::answer;
 use second::channel::{Phase, Row, State, CHANNELS};
+use second::{answer, hex};
 
 /// The words for a call's results, before it.
 const OUT: [u64; 3] = [u64::MAX; 3];
@@ -57,18 +57,30 @@ impl Both {
         let results = difference("out", &out, &wanted_out);
         assert!(
             number == wanted && differing.is_empty() && results.is_none(),
-            "{case}: {call}\nin the state {:?}:\nthe proved code answers {number}, wanted is \
-             {wanted}; what differs: {differing:?}, {results:?}",
-            before.state
+            "{case}: {call}\n{}:\nthe proved code answers {number}, wanted is {wanted}; what \
+             differs: {differing:?}, {results:?}",
+            before.about(call)
         );
         told
     }
 
+    /// What a call meets: the datagram that it adds to, or the state.
+    fn about(&self, call: &Call) -> String {
+        let reply = &self.rooms.reply;
+        match call {
+            Call::Add { len, .. } => {
+                let so_far = reply.get(..*len).unwrap_or(reply);
+                format!("behind {}", hex::encode(so_far))
+            }
+            _ => format!("in the state {:?}", self.state),
+        }
+    }
+
     /// What differs after a call that was done: the words of a new state, and
-    /// the rooms. Asking writes no state.
+    /// the rooms. Asking, beginning and adding write no state.
     fn after_done(&self, before: &Both, call: &Call) -> Vec<String> {
         let mut wanted = before.words.clone();
-        if !matches!(call, Call::Ask) {
+        if !matches!(call, Call::Ask) && !call.composes() {
             wanted[..STATE_WORDS].copy_from_slice(&words_of(&self.state));
         }
         let mut differing = differences(&self.rooms, &self.second);

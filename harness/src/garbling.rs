@@ -8,7 +8,7 @@ use second::channel::CHANNELS;
 /// Changes something in the state or in a room of a store of a pack of such a
 /// length.
 pub fn garble(random: &mut Random, store: &mut Both, length: u32) {
-    match random.below(12) {
+    match random.below(13) {
         0..4 => {
             let row = random.place(CHANNELS);
             garble_row(random, store, row);
@@ -23,6 +23,10 @@ pub fn garble(random: &mut Random, store: &mut Both, length: u32) {
             let at = random.place(8);
             store.change(|state, _| state[at] ^= 1);
         }
+        7 => {
+            let (at, bit) = (random.place(64), 1 << random.below(8));
+            store.change(|_, rooms| rooms.reply[at] ^= bit);
+        }
         room => {
             let bit = 1 << random.below(32);
             let rooms = store.rooms();
@@ -33,7 +37,7 @@ pub fn garble(random: &mut Random, store: &mut Both, length: u32) {
                 rooms.has.len(),
                 rooms.wants.len(),
             ];
-            let room = room as usize - 7;
+            let room = room as usize - 8;
             let at = random.place(lengths[room]);
             store.change(|_, rooms| word_rooms(rooms)[room][at] ^= bit);
         }

@@ -10,6 +10,7 @@ pub mod beside;
 pub mod calls;
 pub mod came;
 pub mod channels;
+pub mod composing;
 pub mod datagrams;
 pub mod garbling;
 pub mod lists;

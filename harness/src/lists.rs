@@ -1,10 +1,11 @@
 //! Random lists of calls on a store, from any state.
 
 use crate::arriving::{clock, Peer};
-use crate::calls::Call;
+use crate::calls::{Call, Told};
 use crate::channels::Both;
+use crate::composing::Composing;
 use crate::garbling::garble_row;
-use crate::packets::{datagram, fixed, handshake};
+use crate::packets::{datagram, fixed, handshake, sent_to};
 use crate::packs::Pack;
 use crate::proved::channel::{Rooms, STATE_WORDS};
 use crate::random::Random;
@@ -18,6 +19,7 @@ pub struct List<'a> {
     pub random: Random,
     pub peer: Peer<'a>,
     pub store: Both,
+    composing: Composing,
 }
 
 impl<'a> List<'a> {
@@ -40,6 +42,7 @@ impl<'a> List<'a> {
             random,
             peer,
             store,
+            composing: Composing::default(),
         }
     }
 
@@ -56,18 +59,72 @@ impl<'a> List<'a> {
         if !started && self.random.one_in(4) {
             return self.start();
         }
+        if self.composing.is_under_way() && !self.random.one_in(12) {
+            return self.go_on();
+        }
         match self.random.below(100) {
             0 => self.start(),
             1 => self.wrong_start(),
             2..10 => Call::Open { id: self.new_id() },
             10..22 => self.write(),
-            22..30 => Call::Ask,
-            _ => Call::Take {
-                clock: clock(&mut self.random),
-                id: self.new_id(),
-                datagram: self.peer.arriving(case, &mut self.random, &self.store),
-            },
+            22..28 => Call::Ask,
+            28..34 => self.compose(case),
+            34..38 => self.composing.any_add(&mut self.random),
+            _ => {
+                let datagram = self.peer.arriving(case, &mut self.random, &self.store);
+                self.take(datagram)
+            }
         }
+    }
+
+    /// Has the store make a call.
+    pub fn call(&mut self, case: &str, call: &Call) -> Told {
+        let told = self.store.call(case, call);
+        self.composing.keep(call, &told);
+        told
+    }
+
+    fn take(&mut self, datagram: Vec<u8>) -> Call {
+        Call::Take {
+            clock: clock(&mut self.random),
+            id: self.new_id(),
+            datagram,
+        }
+    }
+
+    /// Begins to compose a datagram for the store or the peer, or goes on behind
+    /// the last reply.
+    fn compose(&mut self, case: &str) -> Call {
+        let mut model = self.peer.arriving(case, &mut self.random, &self.store);
+        if self.random.one_in(4) {
+            model = sent_to(self.peer.channel, model);
+        }
+        if self.random.one_in(6) {
+            self.composing.behind_reply(model);
+            return self.go_on();
+        }
+        self.composing.begin(model)
+    }
+
+    /// Adds the next message to the datagram that is composed; at the end the
+    /// store takes it in.
+    fn go_on(&mut self) -> Call {
+        match self.composing.next_add(&mut self.random) {
+            Some(add) => add,
+            None => {
+                let reply = &self.store.rooms().reply;
+                let composed = reply[..self.composing.so_far()].to_vec();
+                self.take(composed)
+            }
+        }
+    }
+
+    /// A taking in by the peer's store of what a begin or an add left in the
+    /// reply room, if it is to the peer's channel.
+    pub fn taken_by_peer(&mut self, told: &Told) -> Option<Call> {
+        let datagram = self.store.reply(told);
+        let to_peer = datagram.starts_with(&self.peer.channel.to_be_bytes());
+        to_peer.then(|| self.take(datagram))
     }
 
     /// A start, or a building in one of three cases; now and then under another

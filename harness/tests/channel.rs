@@ -1,7 +1,7 @@
-//! The proved entry points of the channels against `second`'s, call by call, on
-//! random lists of calls in any state and in any rooms. No expected value comes
-//! from the proved code. A failure names the seed, which makes the same calls
-//! again, and the call.
+//! The proved entry points against `second`'s, call by call, on random lists of
+//! calls in any state and in any rooms. No expected value comes from the proved
+//! code. A failure names the seed, which makes the same calls again, and the
+//! call.
 
 use harness::calls::{Call, Told};
 use harness::channels::Both;
@@ -11,12 +11,17 @@ use harness::packs::{random_length, Pack};
 use harness::proved::channel::{self as proved, STATE_WORDS};
 use harness::random::Random;
 use second::channel::Sizes;
+use second::wire::MIN_SIZE;
 
 /// How many lists there are, how many calls a list has, and how often each
 /// number must come.
 const LISTS: u32 = 1_000;
-const CALLS: u32 = 160;
+const CALLS: u32 = 190;
 const OFTEN: usize = 200;
+
+/// How many rooms there are, and which of them is the reply room.
+const ROOMS: usize = 7;
+const REPLY: usize = 6;
 
 /// The numbers of chunks of which there is a list in any case.
 const COUNTS: [u32; 6] = [1, 32, 33, 257, 511, 512];
@@ -39,13 +44,24 @@ fn random_lists() {
         let times = counts.of(number);
         assert!(times >= OFTEN, "{number} is rare: {times} times");
     }
+    for (call, numbers) in OF_COMPOSING {
+        for &number in numbers {
+            let times = counts.numbers[call][number];
+            let name = NAMES[call];
+            assert!(times >= OFTEN, "{name}: {number} is rare: {times} times");
+        }
+    }
     let Counts {
         opened,
         stored,
         again,
+        own,
+        chunks,
+        by_peer,
         ..
     } = counts;
     assert!(opened.min(stored).min(again) >= OFTEN);
+    assert!(own.min(chunks).min(by_peer) >= OFTEN);
 }
 
 #[test]
@@ -69,7 +85,7 @@ fn run(seed: u32, mut random: Random, length: u32, counts: &mut Counts) {
         let case = format!("seed {seed}, length {length}, call {number}");
         if number == 0 && !list.random.one_in(8) {
             let start = list.start();
-            counts.add(&start, list.store.call(&case, &start).number);
+            counts.add(&start, list.call(&case, &start).number);
         }
         if list.random.one_in(40) {
             garble(&mut list.random, &mut list.store, length);
@@ -82,9 +98,33 @@ fn run(seed: u32, mut random: Random, length: u32, counts: &mut Counts) {
             few_words(&mut list.random, &list.store, &case, &call);
         }
         let held = list.held();
-        let told = list.store.call(&case, &call);
+        let own = is_in_reply_room(&list.store, &call);
+        let told = list.call(&case, &call);
         counts.add(&call, told.number);
-        counts.taken(&told, held != list.held());
+        if !call.composes() {
+            counts.taken(&told, held != list.held(), own);
+        } else if let Some(take) = list.taken_by_peer(&told) {
+            peer_takes(&list, &case, &take, counts);
+        }
+    }
+}
+
+/// A copy of the peer's store takes in what was composed for it.
+fn peer_takes(list: &List, case: &str, take: &Call, counts: &mut Counts) {
+    let case = format!("{case}, taken in by the peer");
+    let number = list.peer.sender.clone().call(&case, take).number;
+    counts.add(take, number);
+    counts.by_peer += usize::from(number == 0);
+}
+
+/// Whether a call takes in a datagram that stands in the store's own reply room
+/// and is more than its destination.
+fn is_in_reply_room(store: &Both, call: &Call) -> bool {
+    match call {
+        Call::Take { datagram, .. } => {
+            datagram.len() > MIN_SIZE && store.rooms().reply.starts_with(datagram)
+        }
+        _ => false,
     }
 }
 
@@ -92,7 +132,11 @@ fn run(seed: u32, mut random: Random, length: u32, counts: &mut Counts) {
 /// nothing in the list.
 fn small_room(list: &mut List, case: &str, call: &Call, counts: &mut Counts) {
     let least = Sizes::of(list.peer.pack.length());
-    let room = list.random.place(7);
+    let room = if call.composes() && list.random.one_in(2) {
+        REPLY
+    } else {
+        list.random.place(ROOMS)
+    };
     let mut shorter = |least: usize| match list.random.below(3) {
         0 => list.random.place(least + 1),
         _ => least - 1,
@@ -111,13 +155,16 @@ fn small_room(list: &mut List, case: &str, call: &Call, counts: &mut Counts) {
     counts.add(call, store.call(&case, call).number);
 }
 
-/// The same call with too few words for the state or for its results.
+/// The same call with too few words for its results or, if it is lent one, for
+/// the state.
 fn few_words(random: &mut Random, store: &Both, case: &str, call: &Call) {
-    let fewer = random.one_of(&[0, 1, 8, 9, 72]);
     let results = call.results();
-    store.refused(case, call, fewer, results);
     store.refused(case, call, STATE_WORDS, results - 1);
-    store.refused(case, call, fewer, 0);
+    if !call.composes() {
+        let fewer = random.one_of(&[0, 1, 8, 9, 72]);
+        store.refused(case, call, fewer, results);
+        store.refused(case, call, fewer, 0);
+    }
 }
 
 /// The bytes of our HANDSHAKE and of an ACK as datagrams.
@@ -128,15 +175,27 @@ const ACK_SIZE: u64 = 21;
 #[derive(Default)]
 struct Counts {
     /// How often each number, by the call.
-    numbers: [[usize; 15]; 6],
+    numbers: [[usize; 15]; 8],
     /// How often a channel was opened.
     opened: usize,
     /// How often a chunk was stored, and how often a held one came again.
     stored: usize,
     again: usize,
+    /// How many datagrams a store took in from its own reply room, how many of
+    /// them brought a chunk, and how many the peer's store took in from there.
+    own: usize,
+    chunks: usize,
+    by_peer: usize,
 }
 
-const NAMES: [&str; 6] = ["start", "build", "open", "take", "write", "ask"];
+const NAMES: [&str; 8] = [
+    "start", "build", "open", "take", "write", "ask", "begin", "add",
+];
+const BEGIN: usize = 6;
+const ADD: usize = 7;
+
+/// What beginning and adding can answer.
+const OF_COMPOSING: [(usize, &[usize]); 2] = [(BEGIN, &[0, 11]), (ADD, &[0, 1, 2, 3, 11])];
 
 impl Counts {
     fn add(&mut self, call: &Call, number: u32) {
@@ -147,12 +206,19 @@ impl Counts {
             Call::Take { .. } => 3,
             Call::Write { .. } => 4,
             Call::Ask => 5,
+            Call::Begin { .. } => BEGIN,
+            Call::Add { .. } => ADD,
         };
         self.numbers[name][number as usize] += 1;
     }
 
-    /// Counts a call by its reply, after which other chunks are held or not.
-    fn taken(&mut self, told: &Told, more: bool) {
+    /// Counts a call by its reply, after which other chunks are held or not, and
+    /// which may have taken in a datagram from the store's own reply room.
+    fn taken(&mut self, told: &Told, more: bool, own: bool) {
+        if own && told.number == 0 {
+            self.own += 1;
+            self.chunks += usize::from(told.words == [ACK_SIZE]);
+        }
         match told.words[..] {
             [HANDSHAKE_SIZE] => self.opened += 1,
             [ACK_SIZE] if more => self.stored += 1,
@@ -186,6 +252,9 @@ impl std::fmt::Display for Counts {
         }
         let (opened, stored, again) = (self.opened, self.stored, self.again);
         write!(f, "\n{opened} channels opened, {stored} chunks stored, ")?;
-        write!(f, "{again} held ones taken again")
+        writeln!(f, "{again} held ones taken again")?;
+        let (own, chunks, by_peer) = (self.own, self.chunks, self.by_peer);
+        write!(f, "{own} datagrams taken in from the own reply room, ")?;
+        write!(f, "{chunks} of them with a chunk; {by_peer} by the peer")
     }
 }

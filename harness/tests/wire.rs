@@ -2,13 +2,14 @@
 //! on random datagrams and messages, on cut ones and on those made by hand.
 //! No expected value comes from the proved code. A failure prints the datagram.
 
+use harness::composing::length_told;
 use harness::datagrams::{add, begin, layout, read};
 use harness::proved::wire::{self as proved, ENTRY_WORDS, FOUND_WORDS};
 use harness::random::Random;
 use second::answer;
 use second::by_hand::parse;
 use second::wire::{self, Message, Options, Step};
-use second::wire_cases::{cuts, datagrams, messages, LONGEST};
+use second::wire_cases::{cuts, datagrams, messages};
 
 /// How many random datagrams are read, and how many messages are added to one.
 const READ_SEEDS: u64 = 40;
@@ -242,19 +243,6 @@ fn filled(random: &mut Random, bytes: &[u8], size: usize) -> Vec<u8> {
     let len = bytes.len().min(size);
     room[..len].copy_from_slice(&bytes[..len]);
     room
-}
-
-/// The length of a datagram, or in 1 of 8 cases another one.
-fn length_told(random: &mut Random, len: usize) -> usize {
-    match random.below(64) {
-        0 => random.place(8),
-        1 => len.saturating_sub(1 + random.place(10)),
-        2 => len + 1 + random.place(10),
-        3 => 2_049 + random.place(1_000),
-        4 => usize::MAX - random.place(50),
-        5..8 => random.place(LONGEST),
-        _ => len,
-    }
 }
 
 /// Datagrams begun, and messages added until some are refused.

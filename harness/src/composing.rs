@@ -1,0 +1,128 @@
+//! Datagrams that are composed in a store's reply room: begun, then lengthened
+//! message by message.
+
+use crate::arriving::clock;
+use crate::calls::{Call, Told};
+use crate::random::Random;
+use second::wire::{self, Message, Step};
+use second::wire_cases::{messages, LONGEST};
+
+/// The bytes of DATA before its chunk.
+const DATA_HEAD: usize = 17;
+
+/// What is known of a reply room, and what is to be added there.
+#[derive(Default)]
+pub struct Composing {
+    /// The length of the datagram so far: what the last begin or add gave, or
+    /// the length of the reply that is to be lengthened. It is stale where a
+    /// reply was written since.
+    so_far: usize,
+    /// The length of the last reply of another call.
+    reply: usize,
+    /// A datagram whose messages are to be added, and the place of the next.
+    model: Option<(Vec<u8>, usize)>,
+}
+
+impl Composing {
+    /// Keeps the length of what a call wrote into the reply room.
+    pub fn keep(&mut self, call: &Call, told: &Told) {
+        let length = told.words[0] as usize;
+        if call.composes() && told.number == 0 {
+            self.so_far = length;
+        } else if !matches!(call, Call::Ask) && length > 0 {
+            self.reply = length;
+        }
+    }
+
+    /// The length of the datagram so far, perhaps stale.
+    pub fn so_far(&self) -> usize {
+        self.so_far
+    }
+
+    /// Begins a datagram to the destination of this one, whose messages are to
+    /// be added.
+    pub fn begin(&mut self, model: Vec<u8>) -> Call {
+        let destination = model.first_chunk().map_or(0, |at| u32::from_be_bytes(*at));
+        self.model = Some((model, wire::MIN_SIZE));
+        Call::Begin { destination }
+    }
+
+    /// The messages of this one are to be added behind the last reply.
+    pub fn behind_reply(&mut self, model: Vec<u8>) {
+        self.so_far = self.reply;
+        self.model = Some((model, wire::MIN_SIZE));
+    }
+
+    /// Whether there are messages to be added.
+    pub fn is_under_way(&self) -> bool {
+        self.model.is_some()
+    }
+
+    /// The next add, in some cases of another message, or of one that comes once
+    /// more; none at the end, or where the rest is given up.
+    pub fn next_add(&mut self, random: &mut Random) -> Option<Call> {
+        if random.one_in(20) {
+            return Some(self.any_add(random));
+        }
+        let (model, mut at) = self.model.take()?;
+        let Step::Read { message, next } = wire::step(&model, at) else {
+            return None;
+        };
+        if random.one_in(32) {
+            return None;
+        }
+        if !random.one_in(12) {
+            at = next;
+        }
+        let source = model.clone();
+        self.model = Some((model, at));
+        Some(Call::Add {
+            len: self.so_far,
+            message,
+            source,
+        })
+    }
+
+    /// An add of any message, sound or not: to the datagram so far, to the last
+    /// reply, or to any number of bytes.
+    pub fn any_add(&self, random: &mut Random) -> Call {
+        let (message, source) = match random.below(12) {
+            0 => filling(random, self.so_far),
+            _ => messages(random.number().into(), 1).remove(0),
+        };
+        let len = match random.below(3) {
+            0 => self.reply,
+            _ => self.so_far,
+        };
+        Call::Add {
+            len: length_told(random, len),
+            message,
+            source,
+        }
+    }
+}
+
+/// DATA that fills up a datagram of such a length, or is a byte too long for it.
+fn filling(random: &mut Random, so_far: usize) -> (Message, Vec<u8>) {
+    let size = (wire::MAX_SIZE + random.place(2)).saturating_sub(so_far + DATA_HEAD);
+    let data = Message::Data {
+        chunk: random.below(512),
+        time: clock(random),
+        start: 0,
+        len: size,
+    };
+    (data, random.bytes(size))
+}
+
+/// The length of a datagram, or in 1 of 8 cases another one.
+pub fn length_told(random: &mut Random, len: usize) -> usize {
+    match random.below(64) {
+        0 => random.place(8),
+        1 => len.saturating_sub(1 + random.place(10)),
+        2 => len + 1 + random.place(10),
+        3 => 2_049 + random.place(1_000),
+        4 => usize::MAX - random.place(50),
+        5..8 => random.place(LONGEST),
+        _ => len,
+    }
+}
