@@ -10,6 +10,9 @@ pub struct Lines<R> {
     front: Vec<u8>,
     /// The most bytes of the front.
     limit: usize,
+    /// Whether the end of the input was met. It is not read again: a terminal
+    /// would give more.
+    ended: bool,
 }
 
 impl<R: BufRead> Lines<R> {
@@ -20,6 +23,7 @@ impl<R: BufRead> Lines<R> {
             input,
             front: Vec::with_capacity(limit),
             limit,
+            ended: false,
         }
     }
 
@@ -28,6 +32,9 @@ impl<R: BufRead> Lines<R> {
     pub fn next(&mut self) -> io::Result<Option<&[u8]>> {
         self.front.clear();
         let mut began = false;
+        if self.ended {
+            return Ok(None);
+        }
         loop {
             let bytes = match self.input.fill_buf() {
                 Ok(bytes) => bytes,
@@ -35,6 +42,7 @@ impl<R: BufRead> Lines<R> {
                 Err(error) => return Err(error),
             };
             if bytes.is_empty() {
+                self.ended = true;
                 return Ok(began.then_some(&self.front[..]));
             }
             began = true;

@@ -222,6 +222,30 @@ fn how_the_input_comes_does_not_matter() {
     assert_eq!(String::from_utf8(output).unwrap(), wanted);
 }
 
+/// An input that ends between its parts, as a terminal may.
+struct Ending(Vec<&'static [u8]>);
+
+impl io::Read for Ending {
+    fn read(&mut self, buffer: &mut [u8]) -> io::Result<usize> {
+        match self.0.pop() {
+            Some(part) => part.take(part.len() as u64).read(buffer),
+            None => Ok(0),
+        }
+    }
+}
+
+#[test]
+fn nothing_is_read_behind_the_end() {
+    let more: &[u8] = b"ff\n";
+    for end in [b"00\n".as_slice(), b"00"] {
+        let input = Ending(vec![more, b"", end]);
+        let mut lines = Lines::new(io::BufReader::new(input), 10);
+        assert_eq!(lines.next().unwrap(), Some(&b"00"[..]));
+        assert_eq!(lines.next().unwrap(), None);
+        assert_eq!(lines.next().unwrap(), None);
+    }
+}
+
 #[test]
 fn errors_of_input_and_output_are_passed_on() {
     struct Broken;
