@@ -28,7 +28,7 @@ fn the_same_program_is_not_different() {
     assert_eq!(tally.traces, 200);
     assert_eq!(tally.of(0xff) + tally.of(0xf0) + tally.of(0x0c), 200);
     let numbers: u64 = (0..0xf0).map(|number| tally.of(number)).sum();
-    assert_eq!(numbers, tally.datagrams + tally.of(0x0c));
+    assert_eq!(numbers, tally.lines + tally.of(0x0c));
     for number in (0..=10).chain([12, 15, 0xf0, 0xff]) {
         assert!(tally.of(number) > 0, "{number}");
     }
