@@ -32,44 +32,8 @@ fn flush_full(out: &[u8], used: usize, reply: &[u8]) -> usize
     0
 }
 
-// Reads on in what is left of a block, in rooms for a line that is too long and for the line of an answer.
-fn read_on(
-    session: Session,
-    chunks: &mut [u8],
-    map: &mut [u32],
-    hashes: &mut [u32],
-    trusted: &mut [u32],
-    has: &mut [u32],
-    wants: &mut [u32],
-    reply: &mut [u8],
-    line: &mut [u8],
-    len: usize,
-    rest: &[u8],
-    out: &mut [u8],
-    used: usize,
-) -> Progress
-    requires { ⌜ 4112 < length (now line) ⌝ }
-    requires { ⌜ used + (3 + 2 * length (now reply)) ≤ length (now out) ⌝ }
-    ensures { λ r. ⌜ (r .read ≤ length (now (rest .entry))) × (0 < length (now (rest .entry)) → 0 < r .read) ⌝ }
-{
-    stream::advance(
-        session,
-        chunks,
-        map,
-        hashes,
-        trusted,
-        has,
-        wants,
-        reply,
-        line,
-        len,
-        rest,
-        out,
-        used,
-    )
-}
-
-// Answers the lines of a block; what is left is a line that has begun.
+// Answers the lines of a block; what is left is a line that has begun. Before each turn the line of an answer fits behind
+// what is to be written: the loop's invariant says so.
 fn feed(
     session: Session,
     chunks: &mut [u8],
@@ -92,7 +56,7 @@ fn feed(
     let mut used: usize = 0;
     let mut rest = block;
     while 0 < rest.len() {
-        let p = read_on(
+        let p = stream::advance(
             current,
             chunks,
             map,
