@@ -7,6 +7,7 @@ pub mod StartLaws
 pub mod OpenLaws
 pub mod HandshakeLaws
 pub mod TakeLaws
+pub mod KeepLaws
 pub mod StepLaws
 pub mod RunLaws
 pub mod DemandLaws

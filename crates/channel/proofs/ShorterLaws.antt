@@ -7,9 +7,9 @@ use lib.ListN.{length}
 use Rattle.bits.proofs.Promise.{rowWords}
 use Rattle.table.proofs.Promise.{rowCount}
 use Rattle.wire.proofs.Promise.{maxSize}
-use Rattle.store.proofs.Promise.{earlier, both-zero, countOf, roomsAnswer, orderAnswer, order-accepted, length-accepted, order-shorter, row-mono, count-mono}
+use Rattle.store.proofs.Promise.{both-zero, countOf, roomsAnswer, order-accepted, length-accepted, order-shorter, row-mono, count-mono}
 use Rattle.store.specs.declared.calls.Order.{Order}
-use Rattle.channel.specs.World.{World, Out, outOf, unless}
+use Rattle.channel.specs.World.{World, outOf, unless}
 use Rattle.channel.specs.Answers.{channelRoomsAnswer, channelsAnswer, allRoomsAnswer}
 use Rattle.channel.specs.Starting.{startSpec}
 use Rattle.channel.proofs.AcceptLaws.{channel-rooms-accepted}

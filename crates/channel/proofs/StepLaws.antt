@@ -8,22 +8,21 @@ use borrow.Author.Tests.{ne-eqb}
 use native.Mathlib.Omega.{arith}
 use lib.Dec.{eqb}
 use Rattle.tree.specs.Pick.{pick}
-use Rattle.wire.proofs.Promise.{layoutOf, be32}
+use Rattle.wire.proofs.Promise.{layoutOf}
 use Rattle.wire.specs.declared.layout.Layout.{Layout}
 use Rattle.wire.specs.declared.layout.Layout.the-variants.{Fault, HandshakeAlone, Messages, MessagesAndData}
-use Rattle.wire.specs.declared.message.Options.{Options}
 use Rattle.writer.proofs.Promise.{within}
 use Rattle.store.proofs.Promise.{Rooms, Integrity, takeSpec as storeTake}
 use Rattle.store.specs.declared.calls.Order.{Order}
 use Rattle.table.specs.declared.rows.Row.{Row}
-use Rattle.table.proofs.Promise.{handshakeAnswer}
-use Rattle.channel.specs.World.{Channels, World, Out, outOf, unless, beside, tableRows, orderRoot, orderLength}
+use Rattle.channel.specs.World.{Channels, World, Out, outOf, unless, beside, orderRoot, orderLength}
 use Rattle.channel.specs.Answers.{ownRoomsAnswer}
-use Rattle.channel.specs.Opening.{callingRow, openedRow, occupied, openNumber, openSpec}
-use Rattle.channel.specs.Take.{ours, handshakeTaken, messagesNumber, affected, messagesTaken, dataBy, storeOut, dataTaken, byLayout, takeSpec}
+use Rattle.channel.specs.Opening.{callingRow, occupied, openNumber, openSpec}
+use Rattle.channel.specs.Take.{handshakeTaken, messagesNumber, messagesTaken, dataBy, storeOut, dataTaken, byLayout, takeSpec}
 use Rattle.channel.specs.Write.{writeNumber, writeSpec}
 use Rattle.channel.specs.Run.{Call, opening, taking, writing, asking, lend, step, dataFor, brings}
 use Rattle.channel.proofs.OutLaws.{unless-keeps}
+use Rattle.channel.proofs.KeepLaws.{take-keeps}
 
 -- The order of a store's channels.
 abbrev pub orderIn : Channels → Order
@@ -44,40 +43,8 @@ open-order w id =
     unless-keeps orderOf (openNumber w id) w (beside (w .rooms) (occupied (w .channels) (callingRow id)))
     (occupied-order (w .channels) (callingRow id))
 
-pick-order : (b : Bool) (ch : Channels) (x y : Out Channels) → orderIn (x .after) ≡ orderIn ch → orderIn (y .after) ≡ orderIn ch → orderIn (pick b x y .after) ≡ orderIn ch
-pick-order true ch x y p q = p
-pick-order false ch x y p q = q
-
-handshake-order : (ch : Channels) (id : ℕ) (s : List ℕ) (a : ℕ) (o : Options) → orderIn (handshakeTaken ch id s a o .after) ≡ orderIn ch
-unfolding handshakeTaken
-handshake-order ch id s a o =
-    unless-keeps orderIn (handshakeAnswer (tableRows (ch .state)) (be32 s 0) a (ours (orderRoot (ch .state)) s o) id) ch _
-    (pick-order (eqb (be32 s 0) 0) ch (occupied ch (openedRow id a)) _ (occupied-order ch (openedRow id a)) refl)
-
-affected-order : (ch : Channels) (s : List ℕ) → orderIn (affected ch s) ≡ orderIn ch
-unfolding affected
-affected-order ch s = refl
-
-messages-order : (ch : Channels) (s : List ℕ) → orderIn (messagesTaken ch s .after) ≡ orderIn ch
-unfolding messagesTaken
-messages-order ch s = unless-keeps orderIn (messagesNumber (ch .state) s) ch (outOf 0 0 (affected ch s)) (affected-order ch s)
-
-data-order : (w : World) (clock : ℕ) (s es : List ℕ) (c x b n : ℕ) → orderOf (dataTaken w clock s es c x b n .after) ≡ orderOf w
-unfolding dataTaken dataBy
-data-order w clock s es c x b n =
-    unless-keeps orderOf (messagesNumber (w .channels .state) s) w _
-    (unless-keeps orderOf (storeOut w s es c b n .answer) w _ (affected-order (w .channels) s))
-
-layout-order : (w : World) (clock id : ℕ) (s : List ℕ) (l : Layout) → orderOf (byLayout w clock id s l .after) ≡ orderOf w
-unfolding byLayout
-layout-order w clock id s (Fault n) = refl
-layout-order w clock id s (HandshakeAlone a o) = handshake-order (w .channels) id s a o
-layout-order w clock id s (Messages k) = messages-order (w .channels) s
-layout-order w clock id s (MessagesAndData c x b n k) = data-order w clock s (layoutOf s .entries) c x b n
-
 take-order : (w : World) (clock id : ℕ) (s : List ℕ) → orderOf (takeSpec w clock id s .after) ≡ orderOf w
-unfolding takeSpec
-take-order w clock id s = unless-keeps orderOf (ownRoomsAnswer w) w (byLayout w clock id s (layoutOf s .layout)) (layout-order w clock id s (layoutOf s .layout))
+take-order = take-keeps orderIn occupied-order (λ ch i r has wants. refl) (λ ch s. refl)
 
 write-order : (w : World) (id c clock : ℕ) → orderOf (writeSpec w id c clock .after) ≡ orderOf w
 unfolding writeSpec

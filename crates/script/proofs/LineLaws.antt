@@ -10,7 +10,7 @@ use lib.Dec.{leb, eqb}
 use borrow.Author.Tests.{eq-eqb, ne-eqb, le-leb, lt-leb, leb-true, leb-false}
 use Rattle.tree.specs.Pick.{pick}
 use Rattle.script.specs.Hex.{encoded}
-use Rattle.script.specs.Lines.{beforeFeed, Filled, filled, fitting, kept}
+use Rattle.script.specs.Lines.{beforeFeed, filled, fitting, kept}
 use Rattle.script.specs.Answers.{answerLine, closingLine, fits, appended}
 
 -- ---- the first line feed

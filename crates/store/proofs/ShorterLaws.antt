@@ -6,7 +6,7 @@ use borrow.Author.Tests.{le-ltb, ltb-false}
 use lib.Dec.{ltb}
 use lib.Pow.{pow-mono}
 use Rattle.bits.proofs.Promise.{rowWords, row-least, row-words}
-use Rattle.tree.specs.Pack.{maxLength, levels, leafPlaces}
+use Rattle.tree.specs.Pack.{leafPlaces}
 use Rattle.tree.proofs.PackLaws.{levels-mono}
 use Rattle.verdict.specs.Rooms.{countOf}
 use Rattle.store.specs.Answers.{lengthAnswer, roomAnswer, orderAnswer}

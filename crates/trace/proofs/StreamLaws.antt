@@ -1,7 +1,7 @@
 -- Laws of the lines of blocks, step by step as the code has them. Assumes nothing.
 use Prim.Native.Nat.{ℕ, _+_, _<_, _≤_, min}
 use native.Mathlib.Omega.{arith}
-use mathlib.Core.Path.{_≡_, refl, sym, ap, _∙_}
+use mathlib.Core.Path.{_≡_, refl, sym}
 use mathlib.Core.List.{List, []}
 use mathlib.Core.Bool.{Bool, true, false}
 use lib.ListN.{length, take}
@@ -10,11 +10,11 @@ use lib.Dec.{eqb}
 use borrow.Author.Tests.{eq-eqb, ne-eqb, eqb-true, eqb-false}
 use Rattle.tree.specs.Pick.{pick}
 use Rattle.channel.specs.declared.state.State.{State}
-use Rattle.channel.proofs.Promise.{World, Asked, askedOf, askSpec}
+use Rattle.channel.proofs.Promise.{askedOf, askSpec}
 use Rattle.script.proofs.Promise.{Filled, filled, beforeFeed, kept, appended, answerLine, closingLine, feed-bound, length-kept, append-nothing}
 use Rattle.trace.specs.declared.session.Stage.{Stage}
 use Rattle.trace.specs.declared.session.Stage.the-variants.{First, Later, Over}
-use Rattle.trace.specs.Session.{Replay, Answer, answerOf, lineAnswer, spoken, endAt}
+use Rattle.trace.specs.Session.{Replay, answerOf, lineAnswer, spoken, endAt}
 use Rattle.trace.proofs.SessionLaws.{counted}
 use Rattle.trace.specs.Stream.{Stream, streamOf, lineDone, advanced}
 

@@ -7,7 +7,6 @@ ghost use Rattle.script.proofs.Promise.{filled, appended};
 ghost use Rattle.trace.specs.Session.{replayOf, spoken, endAt};
 ghost use Rattle.trace.specs.Stream.{streamOf, lineDone, advanced};
 use crate::session;
-use crate::session::Answered;
 use crate::session::Session;
 use crate::session::Stage;
 use channel::asking;

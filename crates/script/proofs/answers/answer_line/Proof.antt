@@ -1,5 +1,4 @@
-use native.Mathlib.Omega.{arith}
-use mathlib.Core.Path.{_≡_, refl, sym, _∙_}
+use mathlib.Core.Path.{sym, _∙_}
 use Rattle.script.proofs.LineLaws.{counted, fits-bound, line-fits, line-not}
 use borrow.Author.Needs.{needs}
 use Rattle.script.proofs.answers.answer_line.Statement.{statement}

@@ -1,6 +1,5 @@
 use Rattle.script.proofs.LineLaws.{closing-whole, closing-part}
-use native.Mathlib.Omega.{arith}
-use mathlib.Core.Path.{_≡_, refl, sym, _∙_}
+use mathlib.Core.Path.{_∙_}
 use borrow.Author.Needs.{needs}
 use Rattle.script.proofs.answers.closing_line.Statement.{statement}
 use Rattle.script.proofs.answers.closing_line.Tie as tie

@@ -1,7 +1,5 @@
 use native.Mathlib.Omega.{arith}
-use mathlib.Core.Path.{_≡_, refl, sym, _∙_}
 use Rattle.script.proofs.LineLaws.{fits-not, fits-left}
-use borrow.Author.Needs.{needs}
 use Rattle.script.proofs.answers.fits.Statement.{statement}
 use Rattle.script.proofs.answers.fits.Tie as tie
 

@@ -1,8 +1,7 @@
 use lib.ListN.{length}
 use lib.Seq.{length-sets}
 use Rattle.script.specs.Answers.{answerLine}
-use native.Mathlib.Omega.{arith}
-use mathlib.Core.Path.{_≡_, refl, sym, ap, _∙_}
+use mathlib.Core.Path.{ap, _∙_}
 use Rattle.script.proofs.LineLaws.{put-answer}
 use borrow.Author.Needs.{needs}
 use Rattle.script.proofs.answers.put_line.Statement.{statement}

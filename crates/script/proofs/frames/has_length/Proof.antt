@@ -1,6 +1,5 @@
 use native.Mathlib.Omega.{arith}
 use Rattle.script.proofs.FrameLaws.{too-short, too-long, in-limits}
-use borrow.Author.Needs.{needs}
 use Rattle.script.proofs.frames.has_length.Statement.{statement}
 use Rattle.script.proofs.frames.has_length.Tie as tie
 

@@ -1,4 +1,4 @@
-use mathlib.Core.Path.{_≡_, refl, sym, _∙_}
+use mathlib.Core.Path.{sym, _∙_}
 use Rattle.script.proofs.FrameLaws.{by-characters, other-length}
 use borrow.Author.Needs.{needs}
 use Rattle.script.proofs.frames.is_frame.Statement.{statement}

@@ -1,5 +1,5 @@
 use native.Mathlib.Omega.{arith}
-use mathlib.Core.Path.{_≡_, refl, sym, _∙_}
+use mathlib.Core.Path.{sym, _∙_}
 use Rattle.script.proofs.FrameLaws.{frame-digits, no-frame, no-room, a-frame}
 use borrow.Author.Needs.{needs}
 use Rattle.script.proofs.frames.read.Statement.{statement}

@@ -1,5 +1,5 @@
 use native.Mathlib.Omega.{arith}
-use mathlib.Core.Path.{_≡_, refl, sym, _∙_}
+use mathlib.Core.Path.{_≡_, refl, _∙_}
 use lib.ListN.{length, length-drop, length-set}
 use Rattle.script.specs.Lines.{kept}
 use Rattle.script.proofs.HexLaws.{part as slice-part}

@@ -1,4 +1,4 @@
-use mathlib.Core.Path.{_≡_, refl, sym, ap, _∙_}
+use mathlib.Core.Path.{_∙_}
 use Rattle.trace.proofs.SessionLaws.{at-first, at-later, at-over}
 use borrow.Author.Needs.{needs}
 use Rattle.trace.proofs.session.answer.Statement.{statement}

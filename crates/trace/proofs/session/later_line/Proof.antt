@@ -1,4 +1,4 @@
-use mathlib.Core.Path.{_≡_, refl, sym, ap, _∙_}
+use mathlib.Core.Path.{_∙_}
 use Rattle.trace.proofs.SessionLaws.{frame-fits, frame-length, frame-clock, frame-taken, no-frame}
 use borrow.Author.Needs.{needs}
 use Rattle.trace.proofs.session.later_line.Statement.{statement}

@@ -1,5 +1,5 @@
 use native.Mathlib.Omega.{arith}
-use mathlib.Core.Path.{_≡_, refl, sym, ap, _∙_}
+use mathlib.Core.Path.{_∙_}
 use Rattle.trace.proofs.SessionLaws.{id-refused, id-short, id-other, id-opened}
 use borrow.Author.Needs.{needs}
 use Rattle.trace.proofs.session.next_id.Statement.{statement}

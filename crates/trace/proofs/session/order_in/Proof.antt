@@ -1,5 +1,4 @@
 use native.Mathlib.Omega.{arith}
-use mathlib.Core.Path.{_≡_, refl, sym, ap, _∙_}
 use Rattle.trace.proofs.SessionLaws.{order-short, order-long}
 use borrow.Author.Needs.{needs}
 use Rattle.trace.proofs.session.order_in.Statement.{statement}

@@ -1,4 +1,4 @@
-use mathlib.Core.Path.{_≡_, refl, sym, ap, _∙_}
+use mathlib.Core.Path.{_∙_}
 use Rattle.trace.proofs.StreamLaws.{before-length, before-less, kept-length, advance-on, advance-line}
 use borrow.Author.Needs.{needs}
 use Rattle.trace.proofs.stream.advance.Statement.{statement}
