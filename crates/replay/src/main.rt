@@ -1,8 +1,12 @@
 // The replay program (01, "The replay program"): reads lines of hexadecimal from standard input, and writes the answer to
-// each to standard output. Its memory is the same for any input. A read that fails counts as the end of input; a write that
-// fails loses its bytes, and nothing tells it, since a program has no exit status here.
-ghost use Prim.Native.Nat.{_+_, _*_, _≤_, _<_};
+// each to standard output. Its memory is the same for any input. A read that fails counts as the end of input. A write that
+// fails loses its bytes, and that is not told: a program has no exit status here.
+ghost use mathlib.Core.Path.{_≡_};
+ghost use Prim.Native.Nat.{_≤_, _<_};
 ghost use lib.ListN.{length};
+ghost use Rattle.tree.specs.Pick.{pick};
+ghost use Rattle.script.proofs.Promise.{lineSize, fits};
+ghost use Rattle.trace.proofs.Promise.{digitsMax};
 use libc::STDIN_FILENO;
 use libc::STDOUT_FILENO;
 use script::answers;
@@ -22,8 +26,7 @@ fn flush(out: &[u8], used: usize) {
 
 // Writes them where the line of an answer with any reply might not fit behind them; how much of the room is in use then.
 fn flush_full(out: &[u8], used: usize, reply: &[u8]) -> usize
-    requires { ⌜ 3 + 2 * length (now reply) ≤ length (now out) ⌝ }
-    ensures { λ r. ⌜ r + (3 + 2 * length (now (reply .entry))) ≤ length (now (out .entry)) ⌝ }
+    ensures { λ r. ⌜ r ≡ pick (fits (length (now (out .entry))) used (length (now (reply .entry)))) used 0 ⌝ }
 {
     if answers::fits(out.len(), used, reply.len()) {
         return used;
@@ -48,8 +51,8 @@ fn feed(
     block: &[u8],
     out: &mut [u8],
 ) -> Progress
-    requires { ⌜ 4112 < length (now line) ⌝ }
-    requires { ⌜ 3 + 2 * length (now reply) ≤ length (now out) ⌝ }
+    requires { ⌜ digitsMax < length (now line) ⌝ }
+    requires { ⌜ lineSize (length (now reply)) ≤ length (now out) ⌝ }
 {
     let mut current = session;
     let mut kept = len;
@@ -128,8 +131,8 @@ fn run(
     block: &mut [u8],
     out: &mut [u8],
 )
-    requires { ⌜ 4112 < length (now line) ⌝ }
-    requires { ⌜ 3 + 2 * length (now reply) ≤ length (now out) ⌝ }
+    requires { ⌜ digitsMax < length (now line) ⌝ }
+    requires { ⌜ lineSize (length (now reply)) ≤ length (now out) ⌝ }
 {
     let mut current = session::fresh();
     let mut len: usize = 0;

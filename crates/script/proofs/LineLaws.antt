@@ -11,7 +11,7 @@ use borrow.Author.Tests.{eq-eqb, ne-eqb, le-leb, lt-leb, leb-true, leb-false}
 use Rattle.tree.specs.Pick.{pick}
 use Rattle.script.specs.Hex.{encoded}
 use Rattle.script.specs.Lines.{beforeFeed, filled, fitting, kept}
-use Rattle.script.specs.Answers.{answerLine, closingLine, fits, appended}
+use Rattle.script.specs.Answers.{answerLine, closingLine, lineSize, fits, appended}
 
 -- ---- the first line feed
 
@@ -113,7 +113,7 @@ unfolding encoded
 length-encoded [] = refl
 length-encoded (b ∷ s) = rw (length-encoded s) (omega arith)
 
-pub length-line : (n : ℕ) (reply : List ℕ) → length (answerLine n reply) ≡ 3 + 2 * length reply
+pub length-line : (n : ℕ) (reply : List ℕ) → length (answerLine n reply) ≡ lineSize (length reply)
 unfolding answerLine
 length-line n reply = length-append (encoded (n ∷ reply)) (10 ∷ []) ∙ rw (length-encoded (n ∷ reply)) (omega arith)
 
@@ -121,15 +121,15 @@ length-line n reply = length-append (encoded (n ∷ reply)) (10 ∷ []) ∙ rw (
 module _ (room at n : ℕ) where
   pub fits-not : room < at + 3 → false ≡ fits room at n
   unfolding fits
-  fits-not h = rw (lt-leb (at + (3 + 2 * n)) room (omega arith))
+  fits-not h = rw (lt-leb (at + lineSize n) room (omega arith))
 
   pub fits-left : at + 3 ≤ room → leb n ((room - at - 3) / 2) ≡ fits room at n
   unfolding fits
-  fits-left h = go (leb (at + (3 + 2 * n)) room) refl
+  fits-left h = go (leb (at + lineSize n) room) refl
     where
-      go : (b : Bool) → leb (at + (3 + 2 * n)) room ≡ b → leb n ((room - at - 3) / 2) ≡ b
-      go true e = let k = leb-true (at + (3 + 2 * n)) room e in le-leb n ((room - at - 3) / 2) (omega arith)
-      go false e = let k = leb-false (at + (3 + 2 * n)) room e in lt-leb n ((room - at - 3) / 2) (omega arith)
+      go : (b : Bool) → leb (at + lineSize n) room ≡ b → leb n ((room - at - 3) / 2) ≡ b
+      go true e = let k = leb-true (at + lineSize n) room e in le-leb n ((room - at - 3) / 2) (omega arith)
+      go false e = let k = leb-false (at + lineSize n) room e in lt-leb n ((room - at - 3) / 2) (omega arith)
 
 -- One element more behind a run of stores.
 pub sets-behind : (room : List ℕ) (at : ℕ) (s : List ℕ) (x : ℕ) → set (sets room at s) (at + length s) x ≡ sets room at (s ++ x ∷ [])
@@ -164,14 +164,22 @@ take-least (suc n) (x ∷ l) = rw (suc-min n (length l)) (ap (λ (r : List ℕ).
 pub counted : (n len : ℕ) (l : List ℕ) → n ≡ min len (length l) → n ≡ length (take n l)
 counted n len l e = sym (length-take-le n l (omega arith))
 
-pub fits-bound : (room at n : ℕ) → fits room at n ≡ true → at + (3 + 2 * n) ≤ room
+pub fits-bound : (room at n : ℕ) → fits room at n ≡ true → at + lineSize n ≤ room
 unfolding fits
-fits-bound room at n e = leb-true (at + (3 + 2 * n)) room e
+fits-bound room at n e = leb-true (at + lineSize n) room e
+
+-- Where it does not fit, it fits at the front of a room that is large enough.
+pub fits-or-front : (size at n : ℕ) {r : ℕ} → r ≡ pick (fits size at n) at 0 → lineSize n ≤ size → r + lineSize n ≤ size
+fits-or-front size at n f h = rw f (go (fits size at n) refl)
+  where
+    go : (b : Bool) → fits size at n ≡ b → pick b at 0 + lineSize n ≤ size
+    go true e = fits-bound size at n e
+    go false e = omega arith
 
 module _ (room : List ℕ) (at number n len : ℕ) (reply : List ℕ) (e : n ≡ min len (length reply)) where
   -- A line that fits, and one that does not.
   pub line-fits : fits (length room) at n ≡ true
-      → filled (sets room at (answerLine number (take n reply))) (at + (3 + 2 * n)) ≡ appended room at (answerLine number (take len reply))
+      → filled (sets room at (answerLine number (take n reply))) (at + lineSize n) ≡ appended room at (answerLine number (take len reply))
   unfolding appended fits
   line-fits f = rw (length-line number (take len reply), length-take len reply, ← e, f, ← take-least len reply, ← e)
 

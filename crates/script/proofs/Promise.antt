@@ -3,7 +3,7 @@
 use mathlib.Core.Path.{_≡_}
 use mathlib.Core.Bool.{Bool, true, false}
 use mathlib.Core.List.{List, [], _∷_}
-use Prim.Native.Nat.{ℕ, suc, _+_, _*_, _/_, _<_, _≤_, min}
+use Prim.Native.Nat.{ℕ, suc, _+_, _/_, _<_, _≤_, min}
 use lib.Dec.{eqb}
 use lib.ListN.{length, take}
 use Rattle.tree.specs.Pick.{pick}
@@ -13,7 +13,7 @@ use Rattle.script.proofs.LineLaws as lines
 pub use Rattle.script.specs.Hex.{digitOf, digitFor, allDigits, decoded, encoded}
 pub use Rattle.script.specs.Lines.{Filled, filled, front, beforeFeed, kept}
 pub use Rattle.script.specs.Frames.{hasLength, isFrame, Framed, framed, frameSpec}
-pub use Rattle.script.specs.Answers.{answerLine, closingLine, fits, appended}
+pub use Rattle.script.specs.Answers.{answerLine, closingLine, lineSize, fits, appended}
 pub use Rattle.script.proofs.RoomLaws.{added, Keeps, keeps-nothing, keeps-part}
 
 -- In a room for the longest line, bytes are those of a frame, at the front of the room; else the room is as it was.
@@ -30,15 +30,15 @@ pub long-no-frame : (least most : ℕ) (line : List ℕ) → most < length line 
 long-no-frame = frames.long-no-frame
 
 -- An answer's line: two digits a byte, and a line feed.
-pub length-line : (number : ℕ) (reply : List ℕ) → length (answerLine number reply) ≡ 3 + 2 * length reply
+pub length-line : (number : ℕ) (reply : List ℕ) → length (answerLine number reply) ≡ lineSize (length reply)
 length-line = lines.length-line
 
 pub length-closing : (whole : Bool) (held : ℕ) → length (closingLine whole held) ≤ 7
 length-closing = lines.length-closing
 
--- Whether one fits: not, or so much is left.
-pub fits-bound : (size at n : ℕ) → fits size at n ≡ true → at + (3 + 2 * n) ≤ size
-fits-bound = lines.fits-bound
+-- Where one does not fit, it fits at the front of a room that is large enough.
+pub fits-or-front : (size at n : ℕ) {r : ℕ} → r ≡ pick (fits size at n) at 0 → lineSize n ≤ size → r + lineSize n ≤ size
+fits-or-front = lines.fits-or-front
 
 -- The first elements of a list, counted.
 pub take-least : (len : ℕ) (l : List ℕ) → take (min len (length l)) l ≡ take len l

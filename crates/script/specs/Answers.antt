@@ -18,9 +18,13 @@ answerLine number reply = encoded (number ∷ reply) ++ 10 ∷ []
 unfoldable pub closingLine : Bool → ℕ → List ℕ
 closingLine whole held = answerLine (pick whole 255 240) (held / 256 % 256 ∷ held % 256 ∷ [])
 
--- Whether a line of a number and n bytes fits behind the first `at` bytes of a room of this size.
+-- The bytes of an answer's line with a reply of n bytes: two digits a byte, and the line feed.
+abbrev pub lineSize : ℕ → ℕ
+lineSize n = 3 + 2 * n
+
+-- Whether it fits behind the first `at` bytes of a room of this size.
 unfoldable pub fits : (size at n : ℕ) → Bool
-fits size at n = leb (at + (3 + 2 * n)) size
+fits size at n = leb (at + lineSize n) size
 
 -- Bytes added behind the first `at` of a room; a room that is too small for them stays.
 unfoldable pub appended : List ℕ → ℕ → List ℕ → Filled

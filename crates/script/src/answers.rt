@@ -1,10 +1,10 @@
 // Lines that are written: to the end of what an output room holds, or not at all where the room is too small.
 ghost use mathlib.Core.Path.{_≡_};
-ghost use Prim.Native.Nat.{_+_, _*_, _≤_};
+ghost use Prim.Native.Nat.{_+_, _≤_};
 ghost use lib.ListN.{length, take};
 ghost use lib.Seq.{sets};
 ghost use Rattle.script.specs.Lines.{filled};
-ghost use Rattle.script.specs.Answers.{fits, appended, answerLine, closingLine};
+ghost use Rattle.script.specs.Answers.{lineSize, fits, appended, answerLine, closingLine};
 use crate::hex;
 use crate::lines;
 
@@ -24,7 +24,7 @@ pub fn fits(size: usize, at: usize, n: usize) -> bool
 
 // Puts an answer's line at a place of a room.
 fn put_line(room: &mut [u8], at: usize, number: u8, reply: &[u8])
-    requires { ⌜ at + (3 + 2 * length (now reply)) ≤ length (now room) ⌝ }
+    requires { ⌜ at + lineSize (length (now reply)) ≤ length (now room) ⌝ }
     ensures { λ _. ⌜ now (room .exit) ≡ sets (now (room .entry)) at (answerLine number (now (reply .entry))) ⌝ }
 {
     hex::encode_byte(number, room, at);

@@ -44,7 +44,7 @@ orderIn f = record { root = record { words = words 8 f }; length = be32 f 32 }
 unfoldable pub limited : Order → Order
 limited o = record { root = o .root; length = pick (leb (o .length) lengthMax) (o .length) 0 }
 
--- A line that is "not 72 hexadecimal digits" has length 0 too.
+-- The order of a line that is "not 72 hexadecimal digits": its length is 0 too.
 abbrev pub noOrder : Order
 noOrder = record { root = record { words = words 8 (replicate orderSize 0) }; length = 0 }
 
