@@ -1,0 +1,220 @@
+/*
+ * Route packs by RFC 7574 (PPSPP), yard profile: the calls of the proved library libloader.a.
+ *
+ * A store is a pack under an order, a root hash and a length. It lives in eight rooms that you lend with every call:
+ * its state, and seven rooms more. Nothing is kept between calls but what stands in them, so as many stores may exist
+ * as you have rooms. No call allocates, blocks, keeps a pointer, or uses a global; one store is for one thread at a
+ * time, two stores are for any two.
+ *
+ *   1. Link libloader.a and compare the header with it once: ppspp_header_matches().
+ *   2. Lend rooms of the sizes below: struct ppspp_store has them all, and ppspp_store_...() are the calls over it.
+ *   3. ppspp_store_start() or ppspp_store_build(); then any calls in any order, with any numbers and any bytes.
+ *
+ * Each call answers with a number of enum ppspp_answer. With any other than PPSPP_DONE the reply's length is 0 and every
+ * room is as it was.
+ *
+ * What you own: all rooms, always. The library writes to them only during a call, and only to those that the call takes
+ * without const.
+ *
+ * What you must never do:
+ *   - lend rooms that overlap each other, or the datagram, the content or the bytes that the same call is given;
+ *   - give NULL, even with a length of 0: any valid address will do then;
+ *   - give a length that is more than the room has, or an address that is not aligned for its type;
+ *   - change a room between two calls on one store, but for the reply room, whose bytes are yours between calls.
+ *     The library answers even so, and every room stays in its bounds; but the pack is then no longer what the theorems
+ *     speak of;
+ *   - lend one store's rooms to two calls at a time.
+ */
+#ifndef PPSPP_H
+#define PPSPP_H
+
+#include <stddef.h>
+#include <stdint.h>
+
+#ifdef __cplusplus
+extern "C" {
+#endif
+
+/* ---- limits */
+
+#define PPSPP_CHUNK_SIZE 1024u    /* bytes of a chunk; the last one has 1 to 1,024 */
+#define PPSPP_MAX_LENGTH 524288u  /* bytes of a pack, at most */
+#define PPSPP_MAX_CHUNKS 512u     /* chunks of a pack, at most */
+#define PPSPP_CHANNELS 16u        /* rows of the channel table */
+#define PPSPP_ROOT_BYTES 32u      /* bytes of a root hash */
+#define PPSPP_MIN_DATAGRAM 4u     /* bytes of a datagram, at least */
+#define PPSPP_MAX_DATAGRAM 2048u  /* bytes of a datagram, at most */
+
+/* ---- sizes of the rooms, for a pack of n chunks */
+
+/* The chunks of a pack of this length, and the leaf places of the least tree over n chunks, n from 1 to 512. */
+#define PPSPP_CHUNK_COUNT(length) (((length) / PPSPP_CHUNK_SIZE) + ((length) % PPSPP_CHUNK_SIZE != 0u ? 1u : 0u))
+#define PPSPP_LEAF_PLACES(n) \
+    ((n) <= 1u ? 1u : (n) <= 2u ? 2u : (n) <= 4u ? 4u : (n) <= 8u ? 8u : (n) <= 16u ? 16u : (n) <= 32u ? 32u : \
+     (n) <= 64u ? 64u : (n) <= 128u ? 128u : (n) <= 256u ? 256u : 512u)
+
+#define PPSPP_STATE_WORDS 74u                                             /* uint32_t, the store's state */
+#define PPSPP_MAP_WORDS(n) (((n) + 31u) / 32u)                            /* uint32_t, a bit for each chunk held */
+#define PPSPP_HASH_WORDS(n) (16u * PPSPP_LEAF_PLACES(n))                  /* uint32_t, eight for each node */
+#define PPSPP_TRUSTED_WORDS(n) ((2u * PPSPP_LEAF_PLACES(n) + 31u) / 32u)  /* uint32_t, a bit for each node */
+#define PPSPP_PEER_WORDS(n) (PPSPP_CHANNELS * PPSPP_MAP_WORDS(n))         /* uint32_t, what peers have; what they want */
+#define PPSPP_REPLY_BYTES PPSPP_MAX_DATAGRAM                              /* uint8_t, the reply */
+
+/* The same, proved, for any number: rooms of these sizes and PPSPP_REPLY_BYTES are never answered with 11. */
+uint32_t ppspp_chunk_count(uint32_t length);
+size_t ppspp_map_words(uint32_t n);
+size_t ppspp_hash_words(uint32_t n);
+size_t ppspp_trusted_words(uint32_t n);
+size_t ppspp_peer_words(uint32_t n);
+
+/* ---- the state's words, layout version 1 */
+
+#define PPSPP_LAYOUT_VERSION 1u
+
+/*
+ *   word 0            the layout's version. A room with another version in it has no order: calls on it are answered
+ *                     with 12, until it is started or built.
+ *   words 1 to 8      the root, its bytes in groups of four, the first of them in the high bits
+ *   word 9            the length
+ *   words 10 to 73    16 rows of four: phase, our channel's ID, the peer's, and 1 where the peer has choked us
+ */
+#define PPSPP_WORD_VERSION 0u
+#define PPSPP_WORD_ROOT 1u
+#define PPSPP_WORD_LENGTH 9u
+#define PPSPP_WORD_ROWS 10u
+#define PPSPP_ROW_WORDS 4u
+#define PPSPP_ROW_PHASE 0u
+#define PPSPP_ROW_ID 1u
+#define PPSPP_ROW_PEER 2u
+#define PPSPP_ROW_CHOKED 3u
+
+enum ppspp_phase {
+    PPSPP_FREE = 0,    /* the row is free; any number but 1 and 2 is read so */
+    PPSPP_CALLING = 1, /* we have sent a HANDSHAKE and wait for the peer's */
+    PPSPP_OPEN = 2     /* the channel is open */
+};
+
+uint32_t ppspp_layout_version(void);
+size_t ppspp_state_words(void);
+
+/* ---- the numbers given back */
+
+enum ppspp_answer {
+    PPSPP_DONE = 0,            /* done */
+    PPSPP_SIZE = 1,            /* the datagram has under 4 or over 2,048 bytes */
+    PPSPP_MALFORMED = 2,       /* a message cannot be read, or the one to be added cannot be written */
+    PPSPP_UNEXPECTED = 3,      /* a HANDSHAKE that is not alone or not sound, or a message that the channel's phase forbids */
+    PPSPP_OPTIONS = 4,         /* the HANDSHAKE's options are not the order's */
+    PPSPP_NO_CHANNEL = 5,      /* no channel of ours has the datagram's destination */
+    PPSPP_CHANNELS_FULL = 6,   /* all 16 rows are in use */
+    PPSPP_RANGE = 7,           /* a range runs past the last chunk */
+    PPSPP_CHUNK_SIZE_WRONG = 8, /* the chunk has not the size that its number has */
+    PPSPP_HASH_MISSING = 9,    /* a hash that is needed to check the chunk has not come */
+    PPSPP_HASH_MISMATCH = 10,  /* the hashes do not lead to the root, or the chunk not to a trusted hash */
+    PPSPP_ROOM = 11,           /* a room is too small */
+    PPSPP_LENGTH = 12,         /* the order's length is 0 or over the limit, or the content has another length */
+    PPSPP_NOT_HELD = 13,       /* the chunk to be written is not held */
+    PPSPP_ID = 14              /* a channel is to be opened under ID 0 or one in use */
+};
+
+/* ---- the calls, on pointers and lengths */
+
+/*
+ * The rooms stand in one order in every call: state, chunks, map, hashes, trusted, has, wants, reply, each a pointer and
+ * how many elements of its type it has. *reply_len gets the reply's length, 0 after a refusal.
+ */
+
+/* Starts an empty store under an order. Whatever stood in the rooms before counts for nothing. */
+uint32_t ppspp_start(uint32_t *state, size_t state_n, const uint8_t *chunks, size_t chunks_n, uint32_t *map, size_t map_n,
+                     uint32_t *hashes, size_t hashes_n, uint32_t *trusted, size_t trusted_n, uint32_t *has, size_t has_n,
+                     uint32_t *wants, size_t wants_n, const uint8_t *reply, size_t reply_n,
+                     const uint8_t root[PPSPP_ROOT_BYTES], uint32_t length);
+
+/* Builds a whole store of a length from its content; the root found is in the state's words 1 to 8. */
+uint32_t ppspp_build(uint32_t *state, size_t state_n, uint8_t *chunks, size_t chunks_n, uint32_t *map, size_t map_n,
+                     uint32_t *hashes, size_t hashes_n, uint32_t *trusted, size_t trusted_n, uint32_t *has, size_t has_n,
+                     uint32_t *wants, size_t wants_n, const uint8_t *reply, size_t reply_n,
+                     uint32_t length, const uint8_t *content, size_t content_n);
+
+/* Opens a channel under an ID; the reply is our HANDSHAKE. */
+uint32_t ppspp_open(uint32_t *state, size_t state_n, const uint8_t *chunks, size_t chunks_n, const uint32_t *map,
+                    size_t map_n, const uint32_t *hashes, size_t hashes_n, const uint32_t *trusted, size_t trusted_n,
+                    uint32_t *has, size_t has_n, uint32_t *wants, size_t wants_n, uint8_t *reply, size_t reply_n,
+                    uint32_t id, size_t *reply_len);
+
+/*
+ * Takes in a datagram at a clock in microseconds; the ID is for a channel that the datagram may open. A stored chunk is
+ * answered by an ACK, a HANDSHAKE that opens a channel by ours; other datagrams have no reply.
+ */
+uint32_t ppspp_take(uint32_t *state, size_t state_n, uint8_t *chunks, size_t chunks_n, uint32_t *map, size_t map_n,
+                    uint32_t *hashes, size_t hashes_n, uint32_t *trusted, size_t trusted_n, uint32_t *has, size_t has_n,
+                    uint32_t *wants, size_t wants_n, uint8_t *reply, size_t reply_n, uint64_t clock, uint32_t id,
+                    const uint8_t *datagram, size_t datagram_n, size_t *reply_len);
+
+/* Writes the datagram of one chunk, with all hashes that a new peer needs, for the channel open under an ID. */
+uint32_t ppspp_write(const uint32_t *state, size_t state_n, const uint8_t *chunks, size_t chunks_n, const uint32_t *map,
+                     size_t map_n, const uint32_t *hashes, size_t hashes_n, const uint32_t *trusted, size_t trusted_n,
+                     const uint32_t *has, size_t has_n, const uint32_t *wants, size_t wants_n, uint8_t *reply,
+                     size_t reply_n, uint32_t id, uint32_t chunk, uint64_t clock, size_t *reply_len);
+
+/* How many chunks are held, and 1 where that is all of them, else 0; after a refusal both are 0. */
+uint32_t ppspp_ask(const uint32_t *state, size_t state_n, const uint32_t *map, size_t map_n, uint32_t *held,
+                   uint32_t *whole);
+
+/* ---- a datagram of any messages */
+
+enum ppspp_type {
+    PPSPP_HANDSHAKE = 0,
+    PPSPP_DATA = 1,
+    PPSPP_ACK = 2,
+    PPSPP_HAVE = 3,
+    PPSPP_INTEGRITY = 4,
+    PPSPP_REQUEST = 8,
+    PPSPP_CANCEL = 9,
+    PPSPP_CHOKE = 10,
+    PPSPP_UNCHOKE = 11
+};
+
+/*
+ * A message in numbers: its type; first and last chunk; one more number; and bytes.
+ *
+ *   type                      first    last              number     bytes
+ *   HANDSHAKE                 source   options (below)   0          the root, with the fixed options
+ *   DATA                      chunk    the same chunk    timestamp  the chunk
+ *   ACK                       first    last              delay      none
+ *   HAVE, REQUEST, CANCEL     first    last              0          none
+ *   INTEGRITY                 first    last              0          the hash
+ *   CHOKE, UNCHOKE            0        0                 0          none
+ */
+enum ppspp_options {
+    PPSPP_OPTIONS_END = 0,   /* End alone, as a closing HANDSHAKE has */
+    PPSPP_OPTIONS_FIXED = 1, /* those of the yard profile, around a root */
+    PPSPP_OPTIONS_OTHER = 2  /* others: they are read, and never written */
+};
+
+/* Begins a datagram in the reply room: its destination is the peer's channel. */
+uint32_t ppspp_begin(uint8_t *reply, size_t reply_n, uint32_t destination, size_t *reply_len);
+
+/*
+ * Adds a message to the datagram in the first `len` bytes of the reply room; *reply_len gets its new length. Of the bytes
+ * the first 32 count for a root or a hash, all for a chunk. Numbers that the type has no use for are not looked at.
+ */
+uint32_t ppspp_add(uint8_t *reply, size_t reply_n, size_t len, uint32_t type, uint32_t first, uint32_t last, uint64_t number,
+                   const uint8_t *bytes, size_t bytes_n, size_t *reply_len);
+
+/* What stands at a place of a datagram; its messages begin at place 4. */
+enum ppspp_step {
+    PPSPP_STEP_END = 0,     /* its end */
+    PPSPP_STEP_MESSAGE = 1, /* a message */
+    PPSPP_STEP_REFUSED = 2  /* what is refused with 2 */
+};
+
+/* Of a message, `found` gets: type, first, last, number, the place and the count of its bytes, and the place behind it. */
+#define PPSPP_FOUND_WORDS 7u
+uint32_t ppspp_read(const uint8_t *datagram, size_t datagram_n, size_t at, uint64_t found[PPSPP_FOUND_WORDS]);
+
+#ifdef __cplusplus
+}
+#endif
+
+#endif
