@@ -1,0 +1,161 @@
+//! The calls of the library on slices: the only unsafe code of this crate.
+//!
+//! Each call hands over pointers and lengths of slices. A slice's pointer is never null and is aligned, its length is
+//! what it has; mutable slices overlap nothing; and the library keeps no pointer. So the header's rules hold, whatever
+//! the slices contain.
+
+use crate::rooms::Rooms;
+use crate::sys;
+
+/// A number given back, and the reply's length.
+pub type Answered = (u32, usize);
+
+/// The chunks of a pack of a length.
+pub fn chunk_count(length: u32) -> u32 {
+    // SAFETY: it takes and gives a number.
+    unsafe { sys::ppspp_chunk_count(length) }
+}
+
+/// The words of the map, of the hashes, of the trusted bits, and of what peers have, for n chunks.
+pub fn words(n: u32) -> [usize; 4] {
+    // SAFETY: they take and give numbers.
+    unsafe {
+        [
+            sys::ppspp_map_words(n),
+            sys::ppspp_hash_words(n),
+            sys::ppspp_trusted_words(n),
+            sys::ppspp_peer_words(n),
+        ]
+    }
+}
+
+/// The library's layout version and words of a state.
+pub fn layout() -> (u32, usize) {
+    // SAFETY: they give numbers.
+    unsafe { (sys::ppspp_layout_version(), sys::ppspp_state_words()) }
+}
+
+/// Hands the eight rooms and further arguments to a function of the library.
+macro_rules! on_rooms {
+    ($call:ident, $rooms:ident, $($more:expr),*) => {
+        // SAFETY: the rooms and what else is lent are slices or places of this crate, so they are valid for their
+        // lengths during the call, and the mutable ones overlap nothing.
+        unsafe {
+            sys::$call(
+                $rooms.state.as_mut_ptr(),
+                $rooms.state.len(),
+                $rooms.chunks.as_mut_ptr(),
+                $rooms.chunks.len(),
+                $rooms.map.as_mut_ptr(),
+                $rooms.map.len(),
+                $rooms.hashes.as_mut_ptr(),
+                $rooms.hashes.len(),
+                $rooms.trusted.as_mut_ptr(),
+                $rooms.trusted.len(),
+                $rooms.has.as_mut_ptr(),
+                $rooms.has.len(),
+                $rooms.wants.as_mut_ptr(),
+                $rooms.wants.len(),
+                $rooms.reply.as_mut_ptr(),
+                $rooms.reply.len(),
+                $($more),*
+            )
+        }
+    };
+}
+
+/// Starts an empty store.
+pub fn start(rooms: Rooms<'_>, root: &[u8; sys::PPSPP_ROOT_BYTES], length: u32) -> u32 {
+    on_rooms!(ppspp_start, rooms, root.as_ptr(), length)
+}
+
+/// Builds a whole store.
+pub fn build(rooms: Rooms<'_>, length: u32, content: &[u8]) -> u32 {
+    on_rooms!(ppspp_build, rooms, length, content.as_ptr(), content.len())
+}
+
+/// Opens a channel.
+pub fn open(rooms: Rooms<'_>, id: u32) -> Answered {
+    let mut len = 0;
+    (on_rooms!(ppspp_open, rooms, id, &mut len), len)
+}
+
+/// Takes in a datagram.
+pub fn take(rooms: Rooms<'_>, clock: u64, id: u32, datagram: &[u8]) -> Answered {
+    let mut len = 0;
+    let (bytes, count) = (datagram.as_ptr(), datagram.len());
+    let number = on_rooms!(ppspp_take, rooms, clock, id, bytes, count, &mut len);
+    (number, len)
+}
+
+/// Writes the datagram of a chunk.
+pub fn write(rooms: Rooms<'_>, id: u32, chunk: u32, clock: u64) -> Answered {
+    let mut len = 0;
+    let number = on_rooms!(ppspp_write, rooms, id, chunk, clock, &mut len);
+    (number, len)
+}
+
+/// The number given back, how many chunks are held, and 1 where that is all.
+pub fn ask(state: &[u32], map: &[u32]) -> (u32, u32, u32) {
+    let (mut held, mut whole) = (0, 0);
+    // SAFETY: slices, valid for their lengths, and two places of this function.
+    let number = unsafe {
+        sys::ppspp_ask(
+            state.as_ptr(),
+            state.len(),
+            map.as_ptr(),
+            map.len(),
+            &mut held,
+            &mut whole,
+        )
+    };
+    (number, held, whole)
+}
+
+/// Begins a datagram in a room.
+pub fn begin(room: &mut [u8], destination: u32) -> Answered {
+    let mut len = 0;
+    // SAFETY: a slice, valid for its length, and a place of this function.
+    let number = unsafe { sys::ppspp_begin(room.as_mut_ptr(), room.len(), destination, &mut len) };
+    (number, len)
+}
+
+/// A message in the numbers of the library: type, first, last, number, and bytes.
+#[derive(Clone, Copy)]
+pub struct Numbers<'a> {
+    pub kind: u32,
+    pub first: u32,
+    pub last: u32,
+    pub number: u64,
+    pub bytes: &'a [u8],
+}
+
+/// Adds a message to the datagram in the first `so_far` bytes of a room.
+pub fn add(room: &mut [u8], so_far: usize, message: Numbers<'_>) -> Answered {
+    let mut len = 0;
+    // SAFETY: two slices, valid for their lengths, the mutable one overlaps nothing, and a place of this function.
+    let number = unsafe {
+        sys::ppspp_add(
+            room.as_mut_ptr(),
+            room.len(),
+            so_far,
+            message.kind,
+            message.first,
+            message.last,
+            message.number,
+            message.bytes.as_ptr(),
+            message.bytes.len(),
+            &mut len,
+        )
+    };
+    (number, len)
+}
+
+/// What stands at a place of a datagram, and the words of a message.
+pub fn read(datagram: &[u8], at: usize) -> (u32, [u64; sys::PPSPP_FOUND_WORDS]) {
+    let mut found = [0; sys::PPSPP_FOUND_WORDS];
+    // SAFETY: a slice, valid for its length, and an array of as many words as the library writes.
+    let step =
+        unsafe { sys::ppspp_read(datagram.as_ptr(), datagram.len(), at, found.as_mut_ptr()) };
+    (step, found)
+}

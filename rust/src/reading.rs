@@ -1,0 +1,84 @@
+//! Reading a datagram, message by message.
+
+use crate::calls::{self, Numbers};
+use crate::message::Message;
+use crate::sizes::MIN_DATAGRAM;
+use crate::sys;
+use core::error::Error;
+use core::fmt;
+use core::iter::FusedIterator;
+
+/// The destination channel of a datagram; none of one under 4 bytes.
+pub fn destination(datagram: &[u8]) -> Option<u32> {
+    datagram.first_chunk().copied().map(u32::from_be_bytes)
+}
+
+/// The messages of a datagram from left to right, each with its place. They stop behind the first one that cannot be
+/// read, which is an error.
+///
+/// Each message is judged alone. A store also refuses a datagram for its size, for a node that has two INTEGRITY
+/// messages, and for a HANDSHAKE that is not alone or not sound.
+pub fn messages(datagram: &[u8]) -> Messages<'_> {
+    Messages {
+        datagram,
+        at: Some(MIN_DATAGRAM),
+    }
+}
+
+/// Iterator over the messages of a datagram and their places; see [`messages`].
+#[derive(Clone, Debug)]
+pub struct Messages<'a> {
+    datagram: &'a [u8],
+    /// The place of the next message, unless the last one could not be read.
+    at: Option<usize>,
+}
+
+impl<'a> Iterator for Messages<'a> {
+    type Item = Result<(usize, Message<'a>), Malformed>;
+
+    fn next(&mut self) -> Option<Self::Item> {
+        let place = self.at.take()?;
+        let (step, found) = calls::read(self.datagram, place);
+        match step {
+            sys::PPSPP_STEP_END => None,
+            sys::PPSPP_STEP_MESSAGE => {
+                let (message, next) = message(self.datagram, found);
+                self.at = Some(next);
+                Some(Ok((place, message)))
+            }
+            _ => Some(Err(Malformed { place })),
+        }
+    }
+}
+
+impl FusedIterator for Messages<'_> {}
+
+/// The message of the library's words, and the place behind it. They fit their types, and the bytes the datagram.
+fn message(datagram: &[u8], found: [u64; sys::PPSPP_FOUND_WORDS]) -> (Message<'_>, usize) {
+    let [kind, first, last, number, at, count, next] = found;
+    let (at, count) = (at as usize, count as usize);
+    let numbers = Numbers {
+        kind: kind as u32,
+        first: first as u32,
+        last: last as u32,
+        number,
+        bytes: &datagram[at..at + count],
+    };
+    (Message::of(numbers), next as usize)
+}
+
+/// What stands at a place of a datagram cannot be read as a message: a store refuses it with
+/// [`Refusal::Malformed`](crate::Refusal::Malformed).
+#[derive(Clone, Copy, Debug, PartialEq, Eq, Hash)]
+pub struct Malformed {
+    /// The place of its type byte.
+    pub place: usize,
+}
+
+impl fmt::Display for Malformed {
+    fn fmt(&self, f: &mut fmt::Formatter<'_>) -> fmt::Result {
+        write!(f, "no message can be read at byte {}", self.place)
+    }
+}
+
+impl Error for Malformed {}
