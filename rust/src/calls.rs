@@ -4,6 +4,7 @@
 //! what it has; mutable slices overlap nothing; and the library keeps no pointer. So the header's rules hold, whatever
 //! the slices contain.
 
+use crate::numbers::Numbers;
 use crate::rooms::Rooms;
 use crate::sys;
 
@@ -118,16 +119,6 @@ pub fn begin(room: &mut [u8], destination: u32) -> Answered {
     // SAFETY: a slice, valid for its length, and a place of this function.
     let number = unsafe { sys::ppspp_begin(room.as_mut_ptr(), room.len(), destination, &mut len) };
     (number, len)
-}
-
-/// A message in the numbers of the library: type, first, last, number, and bytes.
-#[derive(Clone, Copy)]
-pub struct Numbers<'a> {
-    pub kind: u32,
-    pub first: u32,
-    pub last: u32,
-    pub number: u64,
-    pub bytes: &'a [u8],
 }
 
 /// Adds a message to the datagram in the first `so_far` bytes of a room.

@@ -55,8 +55,10 @@ extern crate alloc;
 #[allow(unsafe_code)]
 mod calls;
 mod composer;
+mod display;
 mod look;
 mod message;
+mod numbers;
 mod order;
 #[cfg(feature = "alloc")]
 mod owned;

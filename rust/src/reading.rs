@@ -1,7 +1,8 @@
 //! Reading a datagram, message by message.
 
-use crate::calls::{self, Numbers};
+use crate::calls;
 use crate::message::Message;
+use crate::numbers::Numbers;
 use crate::sizes::MIN_DATAGRAM;
 use crate::sys;
 use core::error::Error;
@@ -53,7 +54,7 @@ impl<'a> Iterator for Messages<'a> {
 
 impl FusedIterator for Messages<'_> {}
 
-/// The message of the library's words, and the place behind it. They fit their types, and the bytes the datagram.
+/// The message of the library's words, which fit their types, and the place behind it.
 fn message(datagram: &[u8], found: [u64; sys::PPSPP_FOUND_WORDS]) -> (Message<'_>, usize) {
     let [kind, first, last, number, at, count, next] = found;
     let (at, count) = (at as usize, count as usize);
@@ -62,7 +63,8 @@ fn message(datagram: &[u8], found: [u64; sys::PPSPP_FOUND_WORDS]) -> (Message<'_
         first: first as u32,
         last: last as u32,
         number,
-        bytes: &datagram[at..at + count],
+        // The place of no bytes may be any.
+        bytes: datagram.get(at..at + count).unwrap_or_default(),
     };
     (Message::of(numbers), next as usize)
 }

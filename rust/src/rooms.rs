@@ -2,6 +2,27 @@
 
 /// The eight rooms of a store, lent for writing. A room may have any length: one that is too small for the order is
 /// answered with [`Refusal::Room`](crate::Refusal::Room). The sizes are in [`sizes`](crate::sizes).
+///
+/// ```
+/// use ppspp::sizes::{fixed, REPLY_BYTES, STATE_WORDS};
+/// use ppspp::{Order, Rooms, Store};
+///
+/// const LENGTH: u32 = 4_500;
+/// const N: u32 = fixed::chunk_count(LENGTH);
+/// let rooms = Rooms {
+///     state: &mut [0; STATE_WORDS],
+///     chunks: &mut [0; LENGTH as usize],
+///     map: &mut [0; fixed::map_words(N)],
+///     hashes: &mut [0; fixed::hash_words(N)],
+///     trusted: &mut [0; fixed::trusted_words(N)],
+///     has: &mut [0; fixed::peer_words(N)],
+///     wants: &mut [0; fixed::peer_words(N)],
+///     reply: &mut [0; REPLY_BYTES],
+/// };
+/// let store = Store::start_in(rooms, Order { root: [7; 32], length: LENGTH })?;
+/// assert_eq!(store.missing().count(), 5);
+/// # Ok::<(), ppspp::Refusal>(())
+/// ```
 #[derive(Debug, PartialEq, Eq)]
 pub struct Rooms<'a> {
     /// The order and the channel table.

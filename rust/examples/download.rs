@@ -1,0 +1,166 @@
+//! A van downloads a pack from the server, over a link in memory on which a liar sends too. Each line says who sent
+//! what, and what the answer was; the program asserts what it shows.
+//!
+//! Run it with `cargo run --example download`.
+
+use ppspp::{destination, messages, Composer, Held, Order, Refusal, Store};
+
+/// The van's channel, and the server's for it.
+const VAN: u32 = 17;
+const SERVER: u32 = 5;
+
+/// The bytes of the pack: four whole chunks, and one of 404 bytes.
+const LENGTH: usize = 4_500;
+
+fn main() -> Result<(), Refusal> {
+    let content: Vec<u8> = (0..=250).cycle().take(LENGTH).collect();
+    let mut server = Store::build(&content)?;
+    let order = server.order().expect("a built store has an order");
+    let mut van = Store::start(order)?;
+    println!("The order: {LENGTH} bytes, {} chunks.", order.chunk_count());
+
+    exchange_handshakes(&mut van, &mut server)?;
+    ask_for_all(&mut van, &mut server, order.chunk_count())?;
+    let written = server.write(SERVER, 0, 1_000)?.to_vec();
+    for forged in forgeries(&written, &order)? {
+        send_forged(&mut van, &forged);
+    }
+    for chunk in 0..order.chunk_count() {
+        send_chunk(&mut van, &mut server, chunk)?;
+    }
+
+    let Held { count, whole } = van.ask()?;
+    println!("\nThe van holds {count} chunks; whole: {whole}.");
+    assert_eq!((count, whole), (5, true));
+    assert_eq!(van.bytes(), content);
+    println!("Its bytes are those of the server.");
+    Ok(())
+}
+
+/// The van calls and the server answers: a channel is open between them.
+fn exchange_handshakes(van: &mut Store, server: &mut Store) -> Result<(), Refusal> {
+    let calling = van.open(VAN)?;
+    show("van", "server", calling);
+    let answering = server.take(0, SERVER, calling)?;
+    answered("server", Ok(answering));
+    show("server", "van", answering);
+    let nothing = van.take(0, 0, answering)?;
+    answered("van", Ok(nothing));
+    assert!(nothing.is_empty());
+    Ok(())
+}
+
+/// The server says what it has, and the van asks for it.
+fn ask_for_all(van: &mut Store, server: &mut Store, n: u32) -> Result<(), Refusal> {
+    let have = server.compose(VAN)?.have(0, n - 1)?.finish();
+    show("server", "van", have);
+    answered("van", van.take(100, 0, have));
+    assert!((0..n).all(|chunk| van.peer_has(0, chunk)));
+    let request = van.compose(SERVER)?.request(0, n - 1)?.finish();
+    show("van", "server", request);
+    answered("server", server.take(200, 0, request));
+    assert!((0..n).all(|chunk| server.peer_wants(0, chunk)));
+    Ok(())
+}
+
+/// A forged datagram: what is wrong with it, and how the van must refuse it.
+struct Forged {
+    what: &'static str,
+    datagram: Vec<u8>,
+    wanted: Refusal,
+}
+
+/// What the liar sends, most of it made of a datagram of the server.
+fn forgeries(written: &[u8], order: &Order) -> Result<Vec<Forged>, Refusal> {
+    let flipped = |place: usize| {
+        let mut datagram = written.to_vec();
+        datagram[place] ^= 1;
+        datagram
+    };
+    let forged = |what, datagram, wanted| Forged {
+        what,
+        datagram,
+        wanted,
+    };
+    let end = written.len();
+    let garbage = [0, 0, 0, 17, 0xfe, 0xed, 0xfa, 0xce].to_vec();
+    // The first hash stands behind the destination, a type and a range.
+    let hash = 4 + 1 + 8;
+    Ok(vec![
+        forged(
+            "a byte of the chunk flipped",
+            flipped(end - 1),
+            Refusal::HashMismatch,
+        ),
+        forged("a hash forged", flipped(hash), Refusal::HashMismatch),
+        forged(
+            "cut short in a hash",
+            written[..60].to_vec(),
+            Refusal::Malformed,
+        ),
+        forged("garbage", garbage, Refusal::Malformed),
+        forged(
+            "a byte of the chunk left out",
+            written[..end - 1].to_vec(),
+            Refusal::ChunkSize,
+        ),
+        forged(
+            "the root as a peak of eight chunks",
+            lone_peak(order)?,
+            Refusal::Range,
+        ),
+    ])
+}
+
+/// A lone peak that is the root, over eight chunks, and a chunk. The order says five.
+fn lone_peak(order: &Order) -> Result<Vec<u8>, Refusal> {
+    let mut room = [0; ppspp::sizes::REPLY_BYTES];
+    let composer = Composer::begin(&mut room, VAN)?.integrity(0, 7, &order.root)?;
+    Ok(composer.data(7, 1_000, &[0; 1_024])?.finish().to_vec())
+}
+
+/// The liar sends, and the van refuses: nothing of it has changed.
+fn send_forged(van: &mut Store, forged: &Forged) {
+    println!("\nForged: {}.", forged.what);
+    show("liar", "van", &forged.datagram);
+    let before = van.clone();
+    let answer = van.take(1_100, 0, &forged.datagram);
+    answered("van", answer);
+    assert_eq!(answer, Err(forged.wanted));
+    assert_eq!(*van, before);
+}
+
+/// The server sends a chunk, and the van acknowledges it.
+fn send_chunk(van: &mut Store, server: &mut Store, chunk: u32) -> Result<(), Refusal> {
+    println!("\nChunk {chunk}.");
+    let datagram = server.write(SERVER, chunk, 2_000)?;
+    show("server", "van", datagram);
+    let ack = van.take(2_250, 0, datagram)?;
+    answered("van", Ok(ack));
+    show("van", "server", ack);
+    answered("server", server.take(2_500, 0, ack));
+    assert!(van.holds(chunk) && server.peer_has(0, chunk));
+    Ok(())
+}
+
+/// Says who sends what: the datagram's messages, up to the first that cannot be read.
+fn show(from: &str, to: &str, datagram: &[u8]) {
+    let count = datagram.len();
+    let channel = destination(datagram).expect("four bytes");
+    println!("{from} to {to}, channel {channel}, {count} bytes:");
+    for found in messages(datagram) {
+        match found {
+            Ok((_, message)) => println!("  {message}"),
+            Err(malformed) => println!("  {malformed}"),
+        }
+    }
+}
+
+/// Says what the answer was.
+fn answered(who: &str, answer: Result<&[u8], Refusal>) {
+    match answer {
+        Ok([]) => println!("{who}: done"),
+        Ok(reply) => println!("{who}: done, and replies with {} bytes", reply.len()),
+        Err(refusal) => println!("{who}: refused with {}, {refusal}", refusal.number()),
+    }
+}

@@ -1,0 +1,105 @@
+//! Messages in the numbers of the library.
+
+use crate::message::{Message, Options};
+use crate::sys;
+
+/// A message in numbers: type, first, last, number, and bytes, as the header's table has them.
+#[derive(Clone, Copy)]
+pub struct Numbers<'a> {
+    pub kind: u32,
+    pub first: u32,
+    pub last: u32,
+    pub number: u64,
+    pub bytes: &'a [u8],
+}
+
+impl<'a> Message<'a> {
+    /// In the numbers of the library.
+    pub(crate) fn numbers(&self) -> Numbers<'a> {
+        let of = |kind, first, last, number, bytes| Numbers {
+            kind,
+            first,
+            last,
+            number,
+            bytes,
+        };
+        match *self {
+            Message::Handshake { source, options } => {
+                let (options, root) = options.numbers();
+                of(sys::PPSPP_HANDSHAKE, source, options, 0, root)
+            }
+            Message::Data {
+                chunk,
+                timestamp,
+                bytes,
+            } => of(sys::PPSPP_DATA, chunk, chunk, timestamp, bytes),
+            Message::Ack { first, last, delay } => of(sys::PPSPP_ACK, first, last, delay, &[]),
+            Message::Have { first, last } => of(sys::PPSPP_HAVE, first, last, 0, &[]),
+            Message::Integrity { first, last, hash } => {
+                of(sys::PPSPP_INTEGRITY, first, last, 0, hash)
+            }
+            Message::Request { first, last } => of(sys::PPSPP_REQUEST, first, last, 0, &[]),
+            Message::Cancel { first, last } => of(sys::PPSPP_CANCEL, first, last, 0, &[]),
+            Message::Choke => of(sys::PPSPP_CHOKE, 0, 0, 0, &[]),
+            Message::Unchoke => of(sys::PPSPP_UNCHOKE, 0, 0, 0, &[]),
+        }
+    }
+
+    /// Of the numbers of the library, which has no other types than these.
+    pub(crate) fn of(numbers: Numbers<'a>) -> Message<'a> {
+        let Numbers {
+            kind,
+            first,
+            last,
+            number,
+            bytes,
+        } = numbers;
+        match kind {
+            sys::PPSPP_HANDSHAKE => Message::Handshake {
+                source: first,
+                options: Options::of(last, bytes),
+            },
+            sys::PPSPP_DATA => Message::Data {
+                chunk: first,
+                timestamp: number,
+                bytes,
+            },
+            sys::PPSPP_ACK => Message::Ack {
+                first,
+                last,
+                delay: number,
+            },
+            sys::PPSPP_HAVE => Message::Have { first, last },
+            sys::PPSPP_INTEGRITY => Message::Integrity {
+                first,
+                last,
+                hash: bytes,
+            },
+            sys::PPSPP_REQUEST => Message::Request { first, last },
+            sys::PPSPP_CANCEL => Message::Cancel { first, last },
+            sys::PPSPP_CHOKE => Message::Choke,
+            sys::PPSPP_UNCHOKE => Message::Unchoke,
+            _ => unreachable!("the library read a message of type {kind}, which there is none of"),
+        }
+    }
+}
+
+impl<'a> Options<'a> {
+    /// The number of the library, and the root.
+    fn numbers(&self) -> (u32, &'a [u8]) {
+        match *self {
+            Options::Fixed { root } => (sys::PPSPP_OPTIONS_FIXED, root),
+            Options::End => (sys::PPSPP_OPTIONS_END, &[]),
+            Options::Other => (sys::PPSPP_OPTIONS_OTHER, &[]),
+        }
+    }
+
+    /// Of the number of the library, and the root.
+    fn of(number: u32, root: &'a [u8]) -> Options<'a> {
+        match number {
+            sys::PPSPP_OPTIONS_FIXED => Options::Fixed { root },
+            sys::PPSPP_OPTIONS_END => Options::End,
+            _ => Options::Other,
+        }
+    }
+}

@@ -1,0 +1,204 @@
+//! Composing datagrams, and reading them back.
+
+use crate::support::{bytes, Pair, SEVEN, VAN};
+use ppspp::{destination, messages, Composer, Malformed, Message, Options, Refusal};
+
+/// A root or hash.
+const HASH: [u8; 32] = [7; 32];
+
+/// One message of each type but HANDSHAKE, DATA last, as DATA must be.
+fn one_of_each() -> [Message<'static>; 8] {
+    let (first, last) = (4, 5);
+    [
+        Message::Have { first, last },
+        Message::Ack {
+            first,
+            last,
+            delay: u64::MAX,
+        },
+        Message::Integrity {
+            first,
+            last,
+            hash: &HASH,
+        },
+        Message::Request { first, last },
+        Message::Cancel { first, last },
+        Message::Choke,
+        Message::Unchoke,
+        Message::Data {
+            chunk: 6,
+            timestamp: 1 << 40,
+            bytes: b"chunk",
+        },
+    ]
+}
+
+/// The messages of a datagram that has no other.
+fn read(datagram: &[u8]) -> Vec<Message<'_>> {
+    let all: Result<Vec<_>, Malformed> = messages(datagram).collect();
+    all.expect("sound").into_iter().map(|(_, m)| m).collect()
+}
+
+#[test]
+fn messages_read_back_as_composed() {
+    let mut room = [0xc5; 2_048];
+    let mut composer = Composer::begin(&mut room, 9).expect("room");
+    for message in one_of_each() {
+        composer.add(message).expect("a sound message");
+    }
+    let datagram = composer.finish();
+    assert_eq!(destination(datagram), Some(9));
+    assert_eq!(read(datagram), one_of_each());
+}
+
+#[test]
+fn composed_bytes_are_those_of_01() {
+    let mut room = [0xc5; 2_048];
+    let composed = Composer::begin(&mut room, 0x0102_0304)
+        .and_then(|c| c.have(1, 2))
+        .and_then(|c| c.ack(3, 3, 100))
+        .and_then(|c| c.integrity(4, 5, &HASH))
+        .and_then(|c| c.request(6, 7))
+        .and_then(|c| c.cancel(8, 9))
+        .and_then(|c| c.choke())
+        .and_then(|c| c.unchoke())
+        .and_then(|c| c.data(10, 0x0b, b"abc"));
+    let wanted = bytes(
+        "01020304 03 00000001 00000002 02 00000003 00000003 0000000000000064 04 00000004 00000005 07*32 \
+         08 00000006 00000007 09 00000008 00000009 0a 0b 01 0000000a 0000000a 000000000000000b 616263",
+    );
+    assert_eq!(composed.expect("sound messages").finish(), wanted);
+    assert!(room[wanted.len()..].iter().all(|&byte| byte == 0xc5));
+}
+
+#[test]
+fn handshakes_read_back_as_composed() {
+    let mut room = [0; 2_048];
+    let opening = Composer::begin(&mut room, 0).and_then(|c| c.handshake(17, &HASH));
+    let opening = opening.expect("a sound message").finish();
+    let fixed = "00010101020020 07*32 0301040206020900000400ff";
+    assert_eq!(opening, bytes(&format!("00000000 00 00000011 {fixed}")));
+    let options = Options::Fixed { root: &HASH };
+    assert_eq!(
+        read(opening),
+        [Message::Handshake {
+            source: 17,
+            options
+        }]
+    );
+    let closing = Composer::begin(&mut room, 17).and_then(|c| c.close());
+    let closing = closing.expect("a sound message").finish();
+    assert_eq!(closing, bytes("00000011 00 00000000 ff"));
+    assert_eq!(read(closing), [Message::CLOSING]);
+}
+
+/// A message behind another one must be refused so, and leave the datagram; then one more fits.
+fn refused_behind(so_far: Option<Message<'_>>, message: Message<'_>, wanted: Refusal) {
+    let mut room = [0xc5; 2_048];
+    let mut composer = Composer::begin(&mut room, 9).expect("room");
+    if let Some(so_far) = so_far {
+        composer.add(so_far).expect("a sound message");
+    }
+    let before = composer.datagram().to_vec();
+    assert_eq!(composer.add(message), Err(wanted), "{message}");
+    assert_eq!(composer.datagram(), before, "{message}");
+    assert_eq!(composer.finish(), before);
+    assert!(room[before.len()..].iter().all(|&byte| byte == 0xc5));
+}
+
+#[test]
+fn refused_message_leaves_the_datagram() {
+    let (first, last) = (5, 4);
+    let short = &HASH[..31];
+    let root = Options::Fixed { root: short };
+    let node = Message::Integrity {
+        first: 0,
+        last: 3,
+        hash: &HASH,
+    };
+    let data = Message::Data {
+        chunk: 0,
+        timestamp: 0,
+        bytes: b"a",
+    };
+    let long = Message::Data {
+        chunk: 0,
+        timestamp: 0,
+        bytes: &[0; 2_048],
+    };
+    let malformed = [
+        (None, Message::Have { first, last }),
+        (
+            None,
+            Message::Integrity {
+                first: 1,
+                last: 2,
+                hash: &HASH,
+            },
+        ),
+        (
+            None,
+            Message::Handshake {
+                source: 1,
+                options: Options::Other,
+            },
+        ),
+        (Some(node), node),
+        (Some(data), Message::Choke),
+    ];
+    for (so_far, message) in malformed {
+        refused_behind(so_far, message, Refusal::Malformed);
+    }
+    let closing = Message::CLOSING;
+    refused_behind(Some(Message::Choke), closing, Refusal::Unexpected);
+    refused_behind(Some(closing), Message::Choke, Refusal::Unexpected);
+    refused_behind(None, long, Refusal::Size);
+    // A hash and a root of 31 bytes cannot be written.
+    for message in [
+        Message::Integrity {
+            first: 0,
+            last: 3,
+            hash: short,
+        },
+        Message::Handshake {
+            source: 1,
+            options: root,
+        },
+    ] {
+        refused_behind(None, message, Refusal::Malformed);
+    }
+}
+
+#[test]
+fn message_fits_after_a_refused_one() {
+    let mut room = [0; 2_048];
+    let mut composer = Composer::begin(&mut room, 9).expect("room");
+    assert!(composer.add(Message::Have { first: 1, last: 0 }).is_err());
+    assert!(composer.add(Message::Have { first: 0, last: 1 }).is_ok());
+    assert_eq!(composer.finish(), bytes("00000009 03 00000000 00000001"));
+}
+
+#[test]
+fn room_under_2048_bytes_is_too_small() {
+    assert_eq!(
+        Composer::begin(&mut [0; 2_047], 9).err(),
+        Some(Refusal::Room)
+    );
+    assert_eq!(Composer::begin(&mut [], 9).err(), Some(Refusal::Room));
+}
+
+#[test]
+fn store_composes_in_its_reply_room() {
+    let Pair {
+        mut van,
+        mut server,
+        ..
+    } = Pair::new(SEVEN);
+    let peer = van.channel(VAN).expect("it is open").peer;
+    let composer = van.compose(peer).and_then(|c| c.request(2, 3));
+    let datagram = composer.expect("a sound message").finish();
+    assert_eq!(datagram, bytes("00000005 08 00000002 00000003"));
+    server.take(0, 0, datagram).expect("sound");
+    let wanted: Vec<u32> = (0..7).filter(|&c| server.peer_wants(0, c)).collect();
+    assert_eq!(wanted, [2, 3]);
+}

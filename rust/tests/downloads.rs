@@ -1,0 +1,104 @@
+//! Whole downloads.
+
+use crate::support::{content, Pair, SERVER};
+use ppspp::{Held, Message, Refusal, Store};
+use second::store::Store as Second;
+
+/// Downloads a pack of a length, its chunks in some order.
+fn download(length: u32, order_of: impl FnOnce(u32) -> Vec<u32>) {
+    let mut pair = Pair::new(length);
+    let n = pair.order.chunk_count();
+    let chunks = order_of(n);
+    let row = pair.server.channel(SERVER).expect("it is open").row;
+    for (count, &chunk) in (1..).zip(&chunks) {
+        let datagram = pair.written(chunk, 1_000);
+        let ack = pair.van.take(1_250, 0, &datagram).expect("a true chunk");
+        let wanted = Message::Ack {
+            first: chunk,
+            last: chunk,
+            delay: 250,
+        };
+        assert_eq!(ppspp::destination(ack), Some(SERVER));
+        assert!(ppspp::messages(ack).eq([Ok((4, wanted))]));
+        assert_eq!(pair.server.take(0, 0, ack), Ok(&[][..]));
+        assert!(pair.server.peer_has(row, chunk));
+        let held = Held {
+            count,
+            whole: count == n,
+        };
+        assert_eq!(pair.van.ask(), Ok(held));
+    }
+    assert_eq!(pair.van.bytes(), content(length));
+    assert_eq!(pair.van.missing().next(), None);
+}
+
+#[test]
+fn chunks_in_rising_order() {
+    for length in [1, 1_023, 1_024, 1_025, 7_162, 33 * 1_024, 524_288] {
+        download(length, |n| (0..n).collect());
+    }
+}
+
+#[test]
+fn chunks_in_falling_order() {
+    for length in [1_025, 7_162, 8_192, 500_000] {
+        download(length, |n| (0..n).rev().collect());
+    }
+}
+
+#[test]
+fn roots_are_those_of_the_second_program() {
+    for length in [1, 1_024, 1_025, 3_072, 7_162, 8_192, 17_000, 524_288] {
+        let content = content(length);
+        let order = Store::build(&content).expect("a pack's length").order();
+        let second = Second::build(&content).expect("a pack's length");
+        assert_eq!(order.expect("it was built").root, *second.root());
+    }
+}
+
+#[test]
+fn root_of_three_bytes_is_their_hash() {
+    // FIPS 180-4's vector for "abc".
+    let root = crate::support::bytes(
+        "ba7816bf 8f01cfea 414140de 5dae2223 b00361a3 96177a9c b410ff61 f20015ad",
+    );
+    let store = Store::build(b"abc").expect("a pack's length");
+    assert_eq!(store.order().expect("it was built").root[..], root);
+}
+
+#[test]
+fn chunk_that_is_held_is_checked_again() {
+    let mut pair = Pair::new(7_162);
+    let datagram = pair.written(3, 0);
+    pair.van.take(0, 0, &datagram).expect("a true chunk");
+    let mut garbled = datagram.clone();
+    *garbled.last_mut().expect("a chunk") ^= 1;
+    assert_eq!(pair.van.take(0, 0, &garbled), Err(Refusal::HashMismatch));
+    assert!(pair.van.take(9, 0, &datagram).is_ok());
+    assert_eq!(pair.van.ask().map(|held| held.count), Ok(1));
+}
+
+#[test]
+fn store_starts_anew_in_its_rooms() {
+    let mut pair = Pair::new(7_162);
+    let mut van = pair.server.clone();
+    van.restart(pair.order).expect("the same length");
+    assert_eq!(van.order(), Some(pair.order));
+    assert_eq!(
+        van.ask(),
+        Ok(Held {
+            count: 0,
+            whole: false
+        })
+    );
+    assert_eq!(van.channels().next(), None);
+    pair.van.rebuild(3, b"abc").expect("rooms that are larger");
+    assert_eq!(
+        pair.van.ask(),
+        Ok(Held {
+            count: 1,
+            whole: true
+        })
+    );
+    assert_eq!(pair.van.bytes(), b"abc");
+}

@@ -1,0 +1,184 @@
+//! The declarations of `sys` against the header: every constant, every function and every parameter.
+
+use std::collections::BTreeMap;
+
+const HEADER: &str = include_str!("../../include/ppspp.h");
+const SYS: &str = include_str!("../src/sys.rs");
+
+/// The header without its comments.
+fn header() -> String {
+    let mut parts = HEADER.split("/*");
+    let first = parts.next().unwrap_or_default().to_string();
+    parts.fold(first, |text, part| {
+        text + part.split_once("*/").expect("a comment's end").1
+    })
+}
+
+/// A number in C or Rust.
+fn number(text: &str) -> Option<u64> {
+    text.trim()
+        .trim_end_matches('u')
+        .replace('_', "")
+        .parse()
+        .ok()
+}
+
+/// The constants of the header whose value is a number: macros, and the names of enums.
+fn header_numbers() -> BTreeMap<String, u64> {
+    let text = header();
+    let macros = text.lines().filter_map(|line| {
+        let (name, value) = line.strip_prefix("#define ")?.split_once(' ')?;
+        Some((name.to_string(), number(value)?))
+    });
+    let enums = text.lines().filter_map(|line| {
+        let (name, value) = line.trim().trim_end_matches(',').split_once(" = ")?;
+        Some((name.to_string(), number(value)?))
+    });
+    macros.chain(enums).collect()
+}
+
+/// The constants of `sys` whose value is a number.
+fn sys_numbers() -> BTreeMap<String, u64> {
+    let constants = SYS.lines().filter_map(|line| {
+        let (name, rest) = line.strip_prefix("pub const ")?.split_once(": ")?;
+        let value = rest.trim_end_matches(';').split_once(" = ")?.1;
+        Some((name.to_string(), number(value)?))
+    });
+    constants.collect()
+}
+
+/// The refusals of the header, which `sys` has as an enum beside it: the names of `enum ppspp_answer` but for done.
+fn is_refusal(name: &str) -> bool {
+    let answers = header();
+    let answers = answers
+        .split("enum ppspp_answer {")
+        .nth(1)
+        .expect("the enum");
+    let answers = answers.split('}').next().expect("its end");
+    name != "PPSPP_DONE" && answers.split_whitespace().any(|word| word == name)
+}
+
+#[test]
+fn constants_are_those_of_the_header() {
+    let mut wanted = header_numbers();
+    let before = wanted.len();
+    wanted.retain(|name, _| !is_refusal(name));
+    assert_eq!(before - wanted.len(), 14);
+    assert_eq!(sys_numbers(), wanted);
+    // The one constant that the header gives by another one.
+    assert!(HEADER.contains("#define PPSPP_REPLY_BYTES PPSPP_MAX_DATAGRAM "));
+}
+
+#[test]
+fn refusals_are_those_of_the_header() {
+    let numbers = header_numbers();
+    for refusal in ppspp::Refusal::ALL {
+        // `NoChannel` is `PPSPP_NO_CHANNEL`; `ChunkSize` alone has a longer name there, beside the size of a chunk.
+        let mut name = "PPSPP".to_string();
+        for letter in format!("{refusal:?}").chars() {
+            if letter.is_uppercase() {
+                name.push('_');
+            }
+            name.push(letter.to_ascii_uppercase());
+        }
+        if refusal == ppspp::Refusal::ChunkSize {
+            name += "_WRONG";
+        }
+        assert!(is_refusal(&name), "{name}");
+        assert_eq!(numbers[&name], refusal.number().into(), "{name}");
+    }
+}
+
+/// A function: the types and names of its parameters, and its result.
+type Functions = BTreeMap<String, (Vec<(String, String)>, String)>;
+
+/// A type of the header in Rust.
+fn rust_type(c: &str) -> String {
+    let (base, pointer) = match c.trim_end().strip_suffix('*') {
+        Some(base) => (base.trim_end(), true),
+        None => (c.trim_end(), false),
+    };
+    let (base, constant) = match base.strip_prefix("const ") {
+        Some(base) => (base, true),
+        None => (base, false),
+    };
+    let name = match base {
+        "uint8_t" => "u8",
+        "uint32_t" => "u32",
+        "uint64_t" => "u64",
+        "size_t" => "usize",
+        _ => panic!("the header has the type {c}"),
+    };
+    match (pointer, constant) {
+        (false, _) => name.to_string(),
+        (true, true) => format!("*const {name}"),
+        (true, false) => format!("*mut {name}"),
+    }
+}
+
+/// A parameter of the header; an array is a pointer. `type` is a word of Rust, so it is `kind`.
+fn header_parameter(text: &str) -> (String, String) {
+    let (text, array) = match text.split_once('[') {
+        Some((text, _)) => (text, "*"),
+        None => (text, ""),
+    };
+    let at = text.rfind([' ', '*']).expect("a type") + 1;
+    let name = text[at..].replace("type", "kind");
+    (
+        name,
+        rust_type(&format!("{}{array}", &text[..at].trim_end())),
+    )
+}
+
+/// The functions of the header.
+fn header_functions() -> Functions {
+    let text = header().split_whitespace().collect::<Vec<_>>().join(" ");
+    let mut functions = Functions::new();
+    for declaration in text.split(';') {
+        let Some((head, parameters)) = declaration
+            .strip_suffix(')')
+            .and_then(|d| d.rsplit_once('('))
+        else {
+            continue;
+        };
+        let mut words = head.rsplit(' ');
+        let name = words.next().expect("a name").to_string();
+        let result = rust_type(words.next().expect("a result"));
+        let parameters = parameters.split(", ").filter(|&p| p != "void");
+        functions.insert(name, (parameters.map(header_parameter).collect(), result));
+    }
+    functions
+}
+
+/// The functions of `sys`.
+fn sys_functions() -> Functions {
+    let code: Vec<&str> = SYS
+        .lines()
+        .map(str::trim)
+        .filter(|line| !line.starts_with("//"))
+        .collect();
+    let text = code.join(" ");
+    let mut functions = Functions::new();
+    for declaration in text.split("pub fn ").skip(1) {
+        let (name, rest) = declaration.split_once('(').expect("parameters");
+        let (parameters, rest) = rest.split_once(')').expect("their end");
+        let result = rest
+            .trim_start_matches(" -> ")
+            .split(';')
+            .next()
+            .expect("its end");
+        let parameters = parameters
+            .split(',')
+            .filter_map(|p| p.trim().split_once(": "));
+        let parameters = parameters.map(|(name, of)| (name.to_string(), of.to_string()));
+        functions.insert(name.to_string(), (parameters.collect(), result.to_string()));
+    }
+    functions
+}
+
+#[test]
+fn functions_are_those_of_the_header() {
+    let wanted = header_functions();
+    assert_eq!(wanted.len(), 16);
+    assert_eq!(sys_functions(), wanted);
+}

@@ -1,0 +1,15 @@
+//! The crate's tests. What is wanted is worked out by hand from the papers, or comes from the independent second
+//! program.
+
+mod borrowed;
+mod composing;
+mod downloads;
+mod garbled;
+mod header;
+mod looking;
+mod reading;
+mod refusals;
+mod sizes;
+mod support;
+mod values;
+mod words;
