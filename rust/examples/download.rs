@@ -71,44 +71,30 @@ struct Forged {
 }
 
 /// What the liar sends, most of it made of a datagram of the server.
-fn forgeries(written: &[u8], order: &Order) -> Result<Vec<Forged>, Refusal> {
+fn forgeries(written: &[u8], order: &Order) -> Result<[Forged; 6], Refusal> {
     let flipped = |place: usize| {
         let mut datagram = written.to_vec();
         datagram[place] ^= 1;
         datagram
     };
-    let forged = |what, datagram, wanted| Forged {
+    let of = |what, wanted, datagram| Forged {
         what,
         datagram,
         wanted,
     };
-    let end = written.len();
-    let garbage = [0, 0, 0, 17, 0xfe, 0xed, 0xfa, 0xce].to_vec();
     // The first hash stands behind the destination, a type and a range.
-    let hash = 4 + 1 + 8;
-    Ok(vec![
-        forged(
-            "a byte of the chunk flipped",
-            flipped(end - 1),
-            Refusal::HashMismatch,
-        ),
-        forged("a hash forged", flipped(hash), Refusal::HashMismatch),
-        forged(
-            "cut short in a hash",
-            written[..60].to_vec(),
-            Refusal::Malformed,
-        ),
-        forged("garbage", garbage, Refusal::Malformed),
-        forged(
-            "a byte of the chunk left out",
-            written[..end - 1].to_vec(),
-            Refusal::ChunkSize,
-        ),
-        forged(
-            "the root as a peak of eight chunks",
-            lone_peak(order)?,
-            Refusal::Range,
-        ),
+    let (hash, last) = (4 + 1 + 8, written.len() - 1);
+    let garbage = vec![0, 0, 0, 17, 0xfe, 0xed, 0xfa, 0xce];
+    let (cut, shorter) = (written[..60].to_vec(), written[..last].to_vec());
+    let (mismatch, malformed) = (Refusal::HashMismatch, Refusal::Malformed);
+    let (size, range) = (Refusal::ChunkSize, Refusal::Range);
+    Ok([
+        of("a byte of the chunk is flipped", mismatch, flipped(last)),
+        of("a hash is another", mismatch, flipped(hash)),
+        of("it is cut short in a hash", malformed, cut),
+        of("it is garbage", malformed, garbage),
+        of("the chunk lacks a byte", size, shorter),
+        of("the root is given as a peak", range, lone_peak(order)?),
     ])
 }
 

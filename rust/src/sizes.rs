@@ -60,7 +60,7 @@ pub(crate) fn demand_match() {
     let (version, words) = calls::layout();
     assert!(
         library_matches(),
-        "the linked library has version {version} of the state's layout and {words} words, this crate version {} and {}",
+        "the linked library has version {version} of the layout and {words} state words, this crate {} and {}",
         sys::PPSPP_LAYOUT_VERSION,
         sys::PPSPP_STATE_WORDS
     );

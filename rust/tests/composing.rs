@@ -106,67 +106,63 @@ fn refused_behind(so_far: Option<Message<'_>>, message: Message<'_>, wanted: Ref
     assert!(room[before.len()..].iter().all(|&byte| byte == 0xc5));
 }
 
+/// DATA of chunk 0.
+fn data(bytes: &[u8]) -> Message<'_> {
+    let (chunk, timestamp) = (0, 0);
+    Message::Data {
+        chunk,
+        timestamp,
+        bytes,
+    }
+}
+
+/// INTEGRITY of a range.
+fn integrity(first: u32, last: u32, hash: &[u8]) -> Message<'_> {
+    Message::Integrity { first, last, hash }
+}
+
+/// HANDSHAKE from channel 1.
+fn handshake(options: Options<'_>) -> Message<'_> {
+    Message::Handshake { source: 1, options }
+}
+
 #[test]
-fn refused_message_leaves_the_datagram() {
-    let (first, last) = (5, 4);
-    let short = &HASH[..31];
-    let root = Options::Fixed { root: short };
-    let node = Message::Integrity {
-        first: 0,
-        last: 3,
-        hash: &HASH,
-    };
-    let data = Message::Data {
-        chunk: 0,
-        timestamp: 0,
-        bytes: b"a",
-    };
-    let long = Message::Data {
-        chunk: 0,
-        timestamp: 0,
-        bytes: &[0; 2_048],
-    };
-    let malformed = [
-        (None, Message::Have { first, last }),
-        (
-            None,
-            Message::Integrity {
-                first: 1,
-                last: 2,
-                hash: &HASH,
-            },
-        ),
-        (
-            None,
-            Message::Handshake {
-                source: 1,
-                options: Options::Other,
-            },
-        ),
-        (Some(node), node),
-        (Some(data), Message::Choke),
-    ];
-    for (so_far, message) in malformed {
-        refused_behind(so_far, message, Refusal::Malformed);
-    }
-    let closing = Message::CLOSING;
-    refused_behind(Some(Message::Choke), closing, Refusal::Unexpected);
-    refused_behind(Some(closing), Message::Choke, Refusal::Unexpected);
-    refused_behind(None, long, Refusal::Size);
-    // A hash and a root of 31 bytes cannot be written.
-    for message in [
-        Message::Integrity {
-            first: 0,
-            last: 3,
-            hash: short,
-        },
-        Message::Handshake {
-            source: 1,
-            options: root,
-        },
-    ] {
-        refused_behind(None, message, Refusal::Malformed);
-    }
+fn message_that_cannot_be_read_is_refused() {
+    let malformed = Refusal::Malformed;
+    refused_behind(None, Message::Have { first: 5, last: 4 }, malformed);
+    refused_behind(None, integrity(1, 2, &HASH), malformed);
+    refused_behind(None, handshake(Options::Other), malformed);
+    let node = integrity(0, 3, &HASH);
+    refused_behind(Some(node), node, malformed);
+    refused_behind(Some(data(b"a")), Message::Choke, malformed);
+}
+
+#[test]
+fn hash_or_root_of_31_bytes_is_refused() {
+    let root = &HASH[..31];
+    refused_behind(None, integrity(0, 3, root), Refusal::Malformed);
+    let options = Options::Fixed { root };
+    refused_behind(None, handshake(options), Refusal::Malformed);
+}
+
+#[test]
+fn handshake_that_is_not_alone_or_not_sound_is_refused() {
+    let (closing, choke) = (Message::CLOSING, Message::Choke);
+    refused_behind(Some(choke), closing, Refusal::Unexpected);
+    refused_behind(Some(closing), choke, Refusal::Unexpected);
+    let options = Options::Fixed { root: &HASH };
+    let closing = Message::Handshake { source: 0, options };
+    refused_behind(None, closing, Refusal::Unexpected);
+}
+
+#[test]
+fn datagram_over_2048_bytes_is_refused() {
+    // Destination, type, range and timestamp leave 2,027 bytes.
+    refused_behind(None, data(&[0; 2_028]), Refusal::Size);
+    let mut room = [0; 2_048];
+    let mut composer = Composer::begin(&mut room, 9).expect("room");
+    assert_eq!(composer.add(data(&[0; 2_027])), Ok(()));
+    assert_eq!(composer.finish().len(), 2_048);
 }
 
 #[test]

@@ -42,67 +42,53 @@ fn refusals_are_told_apart_in_words() {
 }
 
 #[test]
-fn messages_in_words() {
-    let hash = &[0xab; 32];
-    let digits = "ab".repeat(32);
-    let fixed = Options::Fixed { root: hash };
+fn messages_of_ranges_in_words() {
+    let (first, last) = (0, 6);
     let tried = [
-        (Message::Have { first: 0, last: 6 }, "HAVE of chunks 0 to 6"),
+        (Message::Have { first, last }, "HAVE of chunks 0 to 6"),
+        (Message::Cancel { first, last }, "CANCEL of chunks 0 to 6"),
         (Message::Request { first: 3, last: 3 }, "REQUEST of chunk 3"),
-        (
-            Message::Cancel { first: 1, last: 2 },
-            "CANCEL of chunks 1 to 2",
-        ),
-        (
-            Message::Ack {
-                first: 3,
-                last: 3,
-                delay: 250,
-            },
-            "ACK of chunk 3, delay 250",
-        ),
         (Message::Choke, "CHOKE"),
         (Message::Unchoke, "UNCHOKE"),
-        (Message::CLOSING, "HANDSHAKE that closes the channel"),
-        (
-            Message::Data {
-                chunk: 2,
-                timestamp: 9,
-                bytes: b"abc",
-            },
-            "DATA of chunk 2, 3 bytes, sent at 9",
-        ),
-        (
-            Message::Handshake {
-                source: 8,
-                options: Options::Other,
-            },
-            "HANDSHAKE from channel 8 with other options",
-        ),
-        (
-            Message::Handshake {
-                source: 8,
-                options: Options::End,
-            },
-            "HANDSHAKE from channel 8 with no options",
-        ),
-        (
-            Message::Integrity {
-                first: 0,
-                last: 3,
-                hash,
-            },
-            &format!("INTEGRITY of chunks 0 to 3, hash {digits}"),
-        ),
-        (
-            Message::Handshake {
-                source: 8,
-                options: fixed,
-            },
-            &format!("HANDSHAKE from channel 8 with the profile's options, root {digits}"),
-        ),
     ];
     for (message, words) in tried {
         assert_eq!(message.to_string(), words);
     }
+    let (first, last, delay) = (3, 3, 250);
+    let ack = Message::Ack { first, last, delay };
+    assert_eq!(ack.to_string(), "ACK of chunk 3, delay 250");
+}
+
+#[test]
+fn messages_with_bytes_in_words() {
+    let (first, last, hash) = (0, 3, &[0xab; 32][..]);
+    let integrity = Message::Integrity { first, last, hash };
+    let words = format!("INTEGRITY of chunks 0 to 3, hash {}", "ab".repeat(32));
+    assert_eq!(integrity.to_string(), words);
+    let (chunk, timestamp, bytes) = (2, 9, &b"abc"[..]);
+    let data = Message::Data {
+        chunk,
+        timestamp,
+        bytes,
+    };
+    assert_eq!(data.to_string(), "DATA of chunk 2, 3 bytes, sent at 9");
+}
+
+#[test]
+fn handshakes_in_words() {
+    let root = &[0xab; 32];
+    let fixed = format!("the profile's options, root {}", "ab".repeat(32));
+    let tried = [
+        (Options::Fixed { root }, &fixed[..]),
+        (Options::Other, "other options"),
+        (Options::End, "no options"),
+    ];
+    for (options, words) in tried {
+        let wanted = format!("HANDSHAKE from channel 8 with {words}");
+        let source = 8;
+        let message = Message::Handshake { source, options };
+        assert_eq!(message.to_string(), wanted);
+    }
+    let closing = Message::CLOSING.to_string();
+    assert_eq!(closing, "HANDSHAKE that closes the channel");
 }
