@@ -6,18 +6,22 @@
  * as you have rooms. No call allocates, blocks, keeps a pointer, or uses a global; one store is for one thread at a
  * time, two stores are for any two.
  *
- *   1. Link libloader.a and compare the header with it once: ppspp_header_matches().
- *   2. Lend rooms of the sizes below: struct ppspp_store has them all, and ppspp_store_...() are the calls over it.
- *   3. ppspp_store_start() or ppspp_store_build(); then any calls in any order, with any numbers and any bytes.
+ *   1. Link libloader.a and compare the header with it once: ppspp_header_matches() of ppspp_store.h.
+ *   2. Lend rooms of the sizes below. In ppspp_store.h, struct ppspp_store has them all, PPSPP_DEFINE_STORE() defines
+ *      them, and ppspp_store_...() are the calls over it, with a handful of arguments each.
+ *   3. ppspp_start() or ppspp_build(); then any calls in any order, with any numbers and any bytes.
  *
- * Each call answers with a number of enum ppspp_answer. With any other than PPSPP_DONE the reply's length is 0 and every
- * room is as it was.
+ * examples/download.c shows all of it.
  *
- * What you own: all rooms, always. The library writes to them only during a call, and only to those that the call takes
- * without const.
+ * Each call on rooms answers with a number of enum ppspp_answer. With any other than PPSPP_DONE the reply has length 0,
+ * and every room is as it was.
+ *
+ * What you own: all rooms, always. The library writes to them only during a call, and only to those that the call
+ * takes without const.
  *
  * What you must never do:
- *   - lend rooms that overlap each other, or the datagram, the content or the bytes that the same call is given;
+ *   - lend rooms that overlap each other or anything else that the same call is given: to take in what stands in a
+ *     store's own reply room, copy it first;
  *   - give NULL, even with a length of 0: any valid address will do then;
  *   - give a length that is more than the room has, or an address that is not aligned for its type;
  *   - change a room between two calls on one store, but for the reply room, whose bytes are yours between calls.
@@ -57,10 +61,13 @@ extern "C" {
 #define PPSPP_MAP_WORDS(n) (((n) + 31u) / 32u)                            /* uint32_t, a bit for each chunk held */
 #define PPSPP_HASH_WORDS(n) (16u * PPSPP_LEAF_PLACES(n))                  /* uint32_t, eight for each node */
 #define PPSPP_TRUSTED_WORDS(n) ((2u * PPSPP_LEAF_PLACES(n) + 31u) / 32u)  /* uint32_t, a bit for each node */
-#define PPSPP_PEER_WORDS(n) (PPSPP_CHANNELS * PPSPP_MAP_WORDS(n))         /* uint32_t, what peers have; what they want */
+#define PPSPP_PEER_WORDS(n) (PPSPP_CHANNELS * PPSPP_MAP_WORDS(n))         /* uint32_t, what peers have, or want */
 #define PPSPP_REPLY_BYTES PPSPP_MAX_DATAGRAM                              /* uint8_t, the reply */
 
-/* The same, proved, for any number: rooms of these sizes and PPSPP_REPLY_BYTES are never answered with 11. */
+/*
+ * The same, proved, for any number. The chunk room has at least as many bytes as the pack. Rooms that have all of this
+ * are never answered with 11; larger ones will do, and those for a pack will do for a shorter one.
+ */
 uint32_t ppspp_chunk_count(uint32_t length);
 size_t ppspp_map_words(uint32_t n);
 size_t ppspp_hash_words(uint32_t n);
@@ -77,6 +84,9 @@ size_t ppspp_peer_words(uint32_t n);
  *   words 1 to 8      the root, its bytes in groups of four, the first of them in the high bits
  *   word 9            the length
  *   words 10 to 73    16 rows of four: phase, our channel's ID, the peer's, and 1 where the peer has choked us
+ *
+ * In every bit row, bit i is bit i % 32 of word i / 32, the low bit first. The rooms has and wants are 16 rows of
+ * PPSPP_MAP_WORDS(n) words each, one for each row of the table.
  */
 #define PPSPP_WORD_VERSION 0u
 #define PPSPP_WORD_ROOT 1u
@@ -99,63 +109,67 @@ size_t ppspp_state_words(void);
 
 /* ---- the numbers given back */
 
+/* The order in which they are looked for is 12, 11, 1, 2 and 3 message by message, 5, 3, 4, 14, 6, 7, 8, 9, 10, 13. */
 enum ppspp_answer {
-    PPSPP_DONE = 0,            /* done */
-    PPSPP_SIZE = 1,            /* the datagram has under 4 or over 2,048 bytes */
-    PPSPP_MALFORMED = 2,       /* a message cannot be read, or the one to be added cannot be written */
-    PPSPP_UNEXPECTED = 3,      /* a HANDSHAKE that is not alone or not sound, or a message that the channel's phase forbids */
-    PPSPP_OPTIONS = 4,         /* the HANDSHAKE's options are not the order's */
-    PPSPP_NO_CHANNEL = 5,      /* no channel of ours has the datagram's destination */
-    PPSPP_CHANNELS_FULL = 6,   /* all 16 rows are in use */
-    PPSPP_RANGE = 7,           /* a range runs past the last chunk */
-    PPSPP_CHUNK_SIZE_WRONG = 8, /* the chunk has not the size that its number has */
-    PPSPP_HASH_MISSING = 9,    /* a hash that is needed to check the chunk has not come */
-    PPSPP_HASH_MISMATCH = 10,  /* the hashes do not lead to the root, or the chunk not to a trusted hash */
-    PPSPP_ROOM = 11,           /* a room is too small */
-    PPSPP_LENGTH = 12,         /* the order's length is 0 or over the limit, or the content has another length */
-    PPSPP_NOT_HELD = 13,       /* the chunk to be written is not held */
-    PPSPP_ID = 14              /* a channel is to be opened under ID 0 or one in use */
+    PPSPP_DONE = 0,              /* done */
+    PPSPP_SIZE = 1,              /* the datagram has under 4 or over 2,048 bytes */
+    PPSPP_MALFORMED = 2,         /* a message is malformed (type, length, range, options), or added behind DATA */
+    PPSPP_UNEXPECTED = 3,        /* the channel is not open, or a HANDSHAKE is not alone, not sound or not due */
+    PPSPP_OPTIONS = 4,           /* the HANDSHAKE has other options than the yard profile's, or another root */
+    PPSPP_NO_CHANNEL = 5,        /* no channel of ours has the datagram's destination */
+    PPSPP_CHANNELS_FULL = 6,     /* all 16 channels are in use */
+    PPSPP_RANGE = 7,             /* a range or a chunk's number runs past the last chunk */
+    PPSPP_CHUNK_SIZE_WRONG = 8,  /* the chunk's size is not the one that its number has */
+    PPSPP_HASH_MISSING = 9,      /* a hash that is needed to check the chunk did not come with it */
+    PPSPP_HASH_MISMATCH = 10,    /* the peaks do not give the root, or the chunk does not lead to a trusted hash */
+    PPSPP_ROOM = 11,             /* a room is too small */
+    PPSPP_LENGTH = 12,           /* no order, its length is 0 or over 524,288, or the content has another length */
+    PPSPP_NOT_HELD = 13,         /* the chunk to be written is not held */
+    PPSPP_ID = 14                /* a channel is to be opened under ID 0 or one in use */
 };
 
 /* ---- the calls, on pointers and lengths */
 
 /*
- * The rooms stand in one order in every call: state, chunks, map, hashes, trusted, has, wants, reply, each a pointer and
- * how many elements of its type it has. *reply_len gets the reply's length, 0 after a refusal.
+ * The rooms stand in one order in every call: state, chunks, map, hashes, trusted, has, wants, reply, each a pointer
+ * and how many elements of its type it has. *reply_len gets the reply's length, 0 after a refusal.
  */
 
-/* Starts an empty store under an order. Whatever stood in the rooms before counts for nothing. */
-uint32_t ppspp_start(uint32_t *state, size_t state_n, const uint8_t *chunks, size_t chunks_n, uint32_t *map, size_t map_n,
-                     uint32_t *hashes, size_t hashes_n, uint32_t *trusted, size_t trusted_n, uint32_t *has, size_t has_n,
-                     uint32_t *wants, size_t wants_n, const uint8_t *reply, size_t reply_n,
-                     const uint8_t root[PPSPP_ROOT_BYTES], uint32_t length);
+/* Starts an empty store under an order, a root and a length. What stood in the rooms before counts for nothing. */
+uint32_t ppspp_start(uint32_t *state, size_t state_n, const uint8_t *chunks, size_t chunks_n, uint32_t *map,
+                     size_t map_n, uint32_t *hashes, size_t hashes_n, uint32_t *trusted, size_t trusted_n,
+                     uint32_t *has, size_t has_n, uint32_t *wants, size_t wants_n, const uint8_t *reply,
+                     size_t reply_n, const uint8_t root[PPSPP_ROOT_BYTES], uint32_t length);
 
 /* Builds a whole store of a length from its content; the root found is in the state's words 1 to 8. */
 uint32_t ppspp_build(uint32_t *state, size_t state_n, uint8_t *chunks, size_t chunks_n, uint32_t *map, size_t map_n,
-                     uint32_t *hashes, size_t hashes_n, uint32_t *trusted, size_t trusted_n, uint32_t *has, size_t has_n,
-                     uint32_t *wants, size_t wants_n, const uint8_t *reply, size_t reply_n,
+                     uint32_t *hashes, size_t hashes_n, uint32_t *trusted, size_t trusted_n, uint32_t *has,
+                     size_t has_n, uint32_t *wants, size_t wants_n, const uint8_t *reply, size_t reply_n,
                      uint32_t length, const uint8_t *content, size_t content_n);
 
-/* Opens a channel under an ID; the reply is our HANDSHAKE. */
+/* Opens a channel under an ID of ours: it calls until the peer answers. The reply is our HANDSHAKE, to channel 0. */
 uint32_t ppspp_open(uint32_t *state, size_t state_n, const uint8_t *chunks, size_t chunks_n, const uint32_t *map,
                     size_t map_n, const uint32_t *hashes, size_t hashes_n, const uint32_t *trusted, size_t trusted_n,
                     uint32_t *has, size_t has_n, uint32_t *wants, size_t wants_n, uint8_t *reply, size_t reply_n,
                     uint32_t id, size_t *reply_len);
 
 /*
- * Takes in a datagram at a clock in microseconds; the ID is for a channel that the datagram may open. A stored chunk is
- * answered by an ACK, a HANDSHAKE that opens a channel by ours; other datagrams have no reply.
+ * Takes in a datagram at a clock in microseconds; the ID is for a channel that the datagram may open. A chunk that is
+ * stored, or was held and is the same, is answered by an ACK, a HANDSHAKE to channel 0 by ours; no other has a reply.
  */
 uint32_t ppspp_take(uint32_t *state, size_t state_n, uint8_t *chunks, size_t chunks_n, uint32_t *map, size_t map_n,
                     uint32_t *hashes, size_t hashes_n, uint32_t *trusted, size_t trusted_n, uint32_t *has, size_t has_n,
                     uint32_t *wants, size_t wants_n, uint8_t *reply, size_t reply_n, uint64_t clock, uint32_t id,
                     const uint8_t *datagram, size_t datagram_n, size_t *reply_len);
 
-/* Writes the datagram of one chunk, with all hashes that a new peer needs, for the channel open under an ID. */
+/*
+ * Writes the datagram of one chunk, with all hashes that a new peer needs and the clock as its timestamp, to the peer
+ * of the channel that is open under an ID of ours.
+ */
 uint32_t ppspp_write(const uint32_t *state, size_t state_n, const uint8_t *chunks, size_t chunks_n, const uint32_t *map,
-                     size_t map_n, const uint32_t *hashes, size_t hashes_n, const uint32_t *trusted, size_t trusted_n,
-                     const uint32_t *has, size_t has_n, const uint32_t *wants, size_t wants_n, uint8_t *reply,
-                     size_t reply_n, uint32_t id, uint32_t chunk, uint64_t clock, size_t *reply_len);
+                     size_t map_n, const uint32_t *hashes, size_t hashes_n, const uint32_t *trusted,
+                     size_t trusted_n, const uint32_t *has, size_t has_n, const uint32_t *wants, size_t wants_n,
+                     uint8_t *reply, size_t reply_n, uint32_t id, uint32_t chunk, uint64_t clock, size_t *reply_len);
 
 /* How many chunks are held, and 1 where that is all of them, else 0; after a refusal both are 0. */
 uint32_t ppspp_ask(const uint32_t *state, size_t state_n, const uint32_t *map, size_t map_n, uint32_t *held,
@@ -192,25 +206,33 @@ enum ppspp_options {
     PPSPP_OPTIONS_OTHER = 2  /* others: they are read, and never written */
 };
 
-/* Begins a datagram in the reply room: its destination is the peer's channel. */
+/* Begins a datagram in the reply room: its destination is the peer's channel. So far it is a keepalive, of 4 bytes. */
 uint32_t ppspp_begin(uint8_t *reply, size_t reply_n, uint32_t destination, size_t *reply_len);
 
 /*
- * Adds a message to the datagram in the first `len` bytes of the reply room; *reply_len gets its new length. Of the bytes
- * the first 32 count for a root or a hash, all for a chunk. Numbers that the type has no use for are not looked at.
+ * Adds a message to the datagram in the first `len` bytes of the reply room; *reply_len gets its new length, or 0
+ * after a refusal, which leaves the datagram so far as it was. Of the bytes the first 32 count for a root or a hash,
+ * all for a chunk. Numbers that the type has no use for are not looked at. DATA comes last, a HANDSHAKE alone.
  */
-uint32_t ppspp_add(uint8_t *reply, size_t reply_n, size_t len, uint32_t type, uint32_t first, uint32_t last, uint64_t number,
-                   const uint8_t *bytes, size_t bytes_n, size_t *reply_len);
+uint32_t ppspp_add(uint8_t *reply, size_t reply_n, size_t len, uint32_t type, uint32_t first, uint32_t last,
+                   uint64_t number, const uint8_t *bytes, size_t bytes_n, size_t *reply_len);
 
-/* What stands at a place of a datagram; its messages begin at place 4. */
+/* What stands at a place of a datagram; its messages begin at place 4. It is read alone; nothing else is checked. */
 enum ppspp_step {
     PPSPP_STEP_END = 0,     /* its end */
     PPSPP_STEP_MESSAGE = 1, /* a message */
     PPSPP_STEP_REFUSED = 2  /* what is refused with 2 */
 };
 
-/* Of a message, `found` gets: type, first, last, number, the place and the count of its bytes, and the place behind it. */
+/* Of a message, `found` gets its type and numbers as in the table, and where its bytes and the next message stand. */
 #define PPSPP_FOUND_WORDS 7u
+#define PPSPP_FOUND_TYPE 0u
+#define PPSPP_FOUND_FIRST 1u
+#define PPSPP_FOUND_LAST 2u
+#define PPSPP_FOUND_NUMBER 3u
+#define PPSPP_FOUND_BYTES 4u   /* the place of its first byte */
+#define PPSPP_FOUND_BYTES_N 5u /* 0 where it has none */
+#define PPSPP_FOUND_NEXT 6u    /* the place behind the message */
 uint32_t ppspp_read(const uint8_t *datagram, size_t datagram_n, size_t at, uint64_t found[PPSPP_FOUND_WORDS]);
 
 #ifdef __cplusplus
