@@ -1,0 +1,247 @@
+/*
+ * A van downloads a pack from its depot over a link in memory, and a liar on the link sends what he likes. Every line
+ * printed is one datagram: who sent it to whom, what it is, and what the receiving store answered.
+ *
+ *     cc -std=c11 -I include examples/download.c libloader.a -o download
+ *
+ * Nothing is allocated. The program checks what it shows, and its status is 1 if anything is not as it says.
+ */
+#include <stdio.h>
+#include <string.h>
+
+#include "ppspp_store.h"
+
+#define LENGTH 7162u
+#define CHUNKS PPSPP_CHUNK_COUNT(LENGTH)
+
+/* Channels have an ID at each end, which its owner chooses. */
+#define DEPOT_ID 7u
+#define VAN_ID 5u
+
+PPSPP_DEFINE_STORE(depot, CHUNKS);
+PPSPP_DEFINE_STORE(van, CHUNKS);
+PPSPP_DEFINE_STORE(liar, 1); /* he has no pack, only a room to make datagrams in */
+
+/* What is on the link. A reply is copied out of its store's room before another store takes it in. */
+struct datagram {
+    uint8_t bytes[PPSPP_MAX_DATAGRAM];
+    size_t n;
+};
+
+static uint8_t content[LENGTH];
+static uint64_t now; /* microseconds; a loader reads its clock here */
+static int differences;
+
+/* Everything that the program shows, it also checks. */
+static void expect(bool holds, const char *what)
+{
+    if (!holds) {
+        differences++;
+        printf("NOT SO: %s\n", what);
+    }
+}
+
+/* The first len bytes of a store's reply room, as a datagram on the link. */
+static struct datagram sent(const struct ppspp_store *from, size_t len)
+{
+    struct datagram d;
+    memcpy(d.bytes, from->reply, len);
+    d.n = len;
+    return d;
+}
+
+/* Brings a datagram to a store, with an ID for a channel that it may open. Gives the reply, which may have 0 bytes. */
+static struct datagram deliver(const struct datagram *d, const struct ppspp_store *to, uint32_t id, const char *way,
+                               const char *what, uint32_t wanted)
+{
+    size_t len = 0;
+    now += 1000;
+    const uint32_t answer = ppspp_store_take(to, now, id, d->bytes, d->n, &len);
+    printf("%-14s %-44s %2u: %s\n", way, what, (unsigned)answer, ppspp_answer_text(answer));
+    expect(answer == wanted, "the answer");
+    return sent(to, len);
+}
+
+static uint32_t held(const struct ppspp_store *store)
+{
+    uint32_t count = 0;
+    uint32_t whole = 0;
+    expect(ppspp_store_ask(store, &count, &whole) == PPSPP_DONE, "a store that was started can be asked");
+    return count;
+}
+
+/* ---- the liar, who sees what the depot sends; each lie gets the number that tells what is wrong with it */
+
+static void lie(const struct datagram *d, const char *what, uint32_t wanted)
+{
+    const uint32_t before = held(&van);
+    const struct datagram reply = deliver(d, &van, 0, "liar -> van", what, wanted);
+    expect(reply.n == 0, "a refusal has no reply");
+    expect(held(&van) == before, "a refusal stores nothing");
+}
+
+static void flip(const struct datagram *genuine, const char *what)
+{
+    struct datagram d = *genuine;
+    d.bytes[d.n - 1] ^= 1;
+    lie(&d, what, PPSPP_HASH_MISMATCH);
+}
+
+/* Lies made of the depot's datagram: from byte 4 on it has hashes, 41 bytes each, and at its end the chunk. */
+static void alter(const struct datagram *genuine)
+{
+    struct datagram d = *genuine;
+    memset(d.bytes + 4 + 9, 0xee, 32);
+    lie(&d, "the chunk with a forged hash", PPSPP_HASH_MISMATCH);
+
+    d = *genuine;
+    memmove(d.bytes + 4, d.bytes + 4 + 41, d.n - 4 - 41);
+    d.n -= 41;
+    lie(&d, "the chunk without its first hash", PPSPP_HASH_MISSING);
+
+    d = *genuine;
+    d.n = 60;
+    lie(&d, "the datagram cut off in its second hash", PPSPP_MALFORMED);
+
+    d = *genuine;
+    d.bytes[d.n] = 0;
+    d.n++;
+    lie(&d, "the chunk with a byte too many", PPSPP_CHUNK_SIZE_WRONG);
+}
+
+/* Lies of his own. */
+static void invent(void)
+{
+    struct datagram d;
+    uint8_t root[PPSPP_ROOT_BYTES];
+    size_t len = 0;
+    for (size_t i = 0; i < 200; i++) {
+        d.bytes[i] = (uint8_t)(i * i * 37u + 201u);
+    }
+    d.n = 200;
+    lie(&d, "garbage of 200 bytes", PPSPP_MALFORMED);
+    d.n = 3;
+    lie(&d, "garbage of 3 bytes", PPSPP_SIZE);
+
+    /* The root as the one peak of eight chunks: it would prove a chunk that the order has not. */
+    expect(ppspp_store_root(&van, root), "the van has an order");
+    expect(ppspp_store_begin(&liar, VAN_ID, &len) == PPSPP_DONE, "a datagram can be begun");
+    expect(ppspp_store_add_integrity(&liar, &len, 0, CHUNKS, root) == PPSPP_DONE, "INTEGRITY can be added");
+    expect(ppspp_store_add_data(&liar, &len, CHUNKS, now, content, PPSPP_CHUNK_SIZE) == PPSPP_DONE, "so can DATA");
+    d = sent(&liar, len);
+    lie(&d, "an eighth chunk, the root as its peak", PPSPP_RANGE);
+}
+
+/* ---- the download */
+
+/* The depot builds its pack; the van gets the order, the root and the length, from someone it trusts. */
+static void begin(void)
+{
+    uint8_t root[PPSPP_ROOT_BYTES];
+    for (uint32_t i = 0; i < LENGTH; i++) {
+        content[i] = (uint8_t)(i * 2654435761u >> 24);
+    }
+    expect(ppspp_store_build(&depot, LENGTH, content, sizeof content) == PPSPP_DONE, "the depot builds its pack");
+    expect(ppspp_store_root(&depot, root), "the depot's pack has a root");
+    expect(ppspp_store_start(&van, root, LENGTH) == PPSPP_DONE, "the van starts under the order");
+    printf("a pack of %u bytes, %u chunks, root ", (unsigned)LENGTH, (unsigned)CHUNKS);
+    for (size_t i = 0; i < sizeof root; i++) {
+        printf("%02x", (unsigned)root[i]);
+    }
+    printf("\n");
+}
+
+/* The van calls, the depot answers, and both ends are open. */
+static void connect_both(void)
+{
+    size_t len = 0;
+    expect(ppspp_store_open(&van, VAN_ID, &len) == PPSPP_DONE, "the van opens a channel");
+    const struct datagram call = sent(&van, len);
+    const struct datagram answer =
+        deliver(&call, &depot, DEPOT_ID, "van -> depot", "HANDSHAKE to channel 0", PPSPP_DONE);
+    deliver(&answer, &van, 0, "depot -> van", "HANDSHAKE that answers", PPSPP_DONE);
+    expect(ppspp_store_row(&van, 0).phase == PPSPP_OPEN, "the van's channel is open");
+    expect(ppspp_store_row(&depot, 0).phase == PPSPP_OPEN, "the depot's channel is open");
+}
+
+/* The depot tells what it has, and the van asks for what it lacks. The channel is in row 0 of both. */
+static void ask_for_all(void)
+{
+    size_t len = 0;
+    expect(ppspp_store_begin(&depot, ppspp_store_row(&depot, 0).peer, &len) == PPSPP_DONE, "the depot begins");
+    expect(ppspp_store_add_have(&depot, &len, 0, CHUNKS - 1) == PPSPP_DONE, "HAVE is added");
+    const struct datagram have = sent(&depot, len);
+    deliver(&have, &van, 0, "depot -> van", "HAVE of all chunks", PPSPP_DONE);
+
+    expect(ppspp_store_begin(&van, ppspp_store_row(&van, 0).peer, &len) == PPSPP_DONE, "the van begins");
+    for (uint32_t chunk = 0; chunk < CHUNKS; chunk++) {
+        if (ppspp_store_peer_has(&van, 0, chunk) && !ppspp_store_holds(&van, chunk)) {
+            expect(ppspp_store_add_request(&van, &len, chunk, chunk) == PPSPP_DONE, "REQUEST is added");
+        }
+    }
+    const struct datagram requests = sent(&van, len);
+    deliver(&requests, &depot, 0, "van -> depot", "REQUEST of each chunk not held", PPSPP_DONE);
+}
+
+/* A chunk and its ACK; with the first one, lies before and after it. */
+static void send_chunk(uint32_t chunk)
+{
+    size_t len = 0;
+    char what[32];
+    expect(ppspp_store_peer_wants(&depot, 0, chunk), "the van wants the chunk");
+    expect(ppspp_store_write(&depot, DEPOT_ID, chunk, now, &len) == PPSPP_DONE, "the depot writes the chunk");
+    const struct datagram genuine = sent(&depot, len);
+    if (chunk == 0) {
+        flip(&genuine, "the chunk with its last byte flipped");
+        alter(&genuine);
+        invent();
+    }
+    snprintf(what, sizeof what, "chunk %u", (unsigned)chunk);
+    const struct datagram ack = deliver(&genuine, &van, 0, "depot -> van", what, PPSPP_DONE);
+    expect(held(&van) == chunk + 1, "the chunk is held");
+    if (chunk == 0) {
+        flip(&genuine, "the same chunk again, its last byte flipped");
+    }
+    snprintf(what, sizeof what, "ACK of chunk %u", (unsigned)chunk);
+    deliver(&ack, &depot, 0, "van -> depot", what, PPSPP_DONE);
+    expect(!ppspp_store_peer_wants(&depot, 0, chunk), "the van wants it no longer");
+}
+
+/* The van closes: a closing HANDSHAKE frees the depot's row, and one to its own ID the van's. */
+static void close_both(void)
+{
+    size_t len = 0;
+    expect(ppspp_store_begin(&van, ppspp_store_row(&van, 0).peer, &len) == PPSPP_DONE, "the van begins");
+    expect(ppspp_store_add_close(&van, &len) == PPSPP_DONE, "closing is added");
+    const struct datagram closing = sent(&van, len);
+    deliver(&closing, &depot, 0, "van -> depot", "HANDSHAKE that closes", PPSPP_DONE);
+    expect(ppspp_store_begin(&van, VAN_ID, &len) == PPSPP_DONE, "the van begins");
+    expect(ppspp_store_add_close(&van, &len) == PPSPP_DONE, "closing is added");
+    const struct datagram own = sent(&van, len);
+    deliver(&own, &van, 0, "van -> van", "HANDSHAKE that closes", PPSPP_DONE);
+    expect(ppspp_store_row(&depot, 0).phase == PPSPP_FREE, "the depot's row is free");
+    expect(ppspp_store_row(&van, 0).phase == PPSPP_FREE, "the van's row is free");
+}
+
+int main(void)
+{
+    uint32_t count = 0;
+    uint32_t whole = 0;
+    if (!ppspp_header_matches()) {
+        printf("the library has another layout than the header\n");
+        return 1;
+    }
+    begin();
+    connect_both();
+    ask_for_all();
+    for (uint32_t chunk = 0; chunk < CHUNKS; chunk++) {
+        send_chunk(chunk);
+    }
+    close_both();
+    expect(ppspp_store_ask(&van, &count, &whole) == PPSPP_DONE, "the van can be asked");
+    const bool equal = memcmp(van.chunks, content, LENGTH) == 0;
+    printf("the van holds %u of %u chunks, the pack is %s, its bytes are %s\n", (unsigned)count, (unsigned)CHUNKS,
+           whole == 1 ? "whole" : "not whole", equal ? "the depot's" : "others");
+    expect(count == CHUNKS && whole == 1 && equal, "the van has the whole pack");
+    return differences == 0 ? 0 : 1;
+}
