@@ -1,0 +1,35 @@
+/* The groups of checks, one or more a file. */
+#ifndef GROUPS_H
+#define GROUPS_H
+
+/* sizes.c */
+void group_counts(void);
+void group_room_sizes(void);
+void group_exact_rooms(void);
+
+/* layout.c */
+void group_layout(void);
+void group_rows(void);
+void group_no_order(void);
+
+/* messages.c */
+void group_messages(void);
+void group_effects(void);
+void group_read_back(void);
+
+/* numbers_reading.c: 1 to 7; numbers_storing.c: 8 to 14 */
+void group_numbers_reading(void);
+void group_numbers_storing(void);
+
+/* values.c */
+void group_roots(void);
+void group_sending(void);
+void group_download(void);
+void group_limits(void);
+void group_expected_errors(void);
+
+/* random.c, garbled.c */
+void group_random(void);
+void group_garbled(void);
+
+#endif

@@ -1,0 +1,45 @@
+/* Tests of the C interface: each group prints a line, and the last line is 'N passed, M failed'. */
+#include <stdio.h>
+#include <string.h>
+
+#include "check.h"
+#include "groups.h"
+#include "ppspp_store.h"
+
+/* Every number has a sentence of its own. */
+static void group_texts(void)
+{
+    for (uint32_t a = 0; a <= 15; a++) {
+        CHECK(strlen(ppspp_answer_text(a)) > 3);
+        for (uint32_t b = 0; b < a; b++) {
+            CHECK(strcmp(ppspp_answer_text(a), ppspp_answer_text(b)) != 0);
+        }
+    }
+    CHECK(strcmp(ppspp_answer_text(0), "done") == 0);
+    CHECK(strcmp(ppspp_answer_text(13), "the chunk to be written is not held") == 0);
+    CHECK(strcmp(ppspp_answer_text(15), ppspp_answer_text(4294967295u)) == 0);
+}
+
+int main(void)
+{
+    run_group("a sentence for each number", group_texts);
+    run_group("chunks of a length", group_counts);
+    run_group("sizes of rooms, macros and functions", group_room_sizes);
+    run_group("rooms of exactly those sizes", group_exact_rooms);
+    run_group("words of the state", group_layout);
+    run_group("rows of the channel table", group_rows);
+    run_group("a state without an order, or too short", group_no_order);
+    run_group("each message, as added", group_messages);
+    run_group("each message, as read", group_read_back);
+    run_group("what messages do to a channel", group_effects);
+    run_group("numbers 1 to 7", group_numbers_reading);
+    run_group("numbers 8 to 14", group_numbers_storing);
+    run_group("roots of built packs", group_roots);
+    run_group("each chunk of seven, as sent", group_sending);
+    run_group("seven chunks taken in order, least hashes", group_download);
+    run_group("01's limits and its example", group_limits);
+    run_group("errors that 01 expects", group_expected_errors);
+    run_group("random datagrams and calls", group_random);
+    run_group("rooms with anything in them", group_garbled);
+    return report();
+}

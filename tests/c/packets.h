@@ -1,0 +1,30 @@
+/* Datagrams laid out by hand after 01's table, without the library. Longer ones than 01 allows fit too. */
+#ifndef PACKETS_H
+#define PACKETS_H
+
+#include "ppspp.h"
+
+#define PACKET_ROOM 2304u
+
+struct packet {
+    uint8_t bytes[PACKET_ROOM];
+    size_t n;
+};
+
+/* A datagram to a channel; so far a keepalive. */
+struct packet packet_to(uint32_t destination);
+
+/* Behind what is there. What does not fit is left out. */
+void put8(struct packet *p, uint32_t value);
+void put32(struct packet *p, uint32_t value);
+void put64(struct packet *p, uint64_t value);
+void put_bytes(struct packet *p, const uint8_t *bytes, size_t n);
+
+void put_range(struct packet *p, uint32_t type, uint32_t first, uint32_t last);
+void put_ack(struct packet *p, uint32_t first, uint32_t last, uint64_t delay);
+void put_integrity(struct packet *p, uint32_t first, uint32_t last, const uint8_t *hash);
+void put_data(struct packet *p, uint32_t chunk, uint64_t timestamp, const uint8_t *bytes, size_t n);
+void put_handshake(struct packet *p, uint32_t source, const uint8_t *root);
+void put_closing(struct packet *p);
+
+#endif

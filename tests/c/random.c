@@ -1,0 +1,199 @@
+/*
+ * 100,000 turns from a fixed seed: genuine, damaged and made-up datagrams and calls with any numbers, on a store that
+ * is built and one that downloads from it, both in rooms of exactly the sizes needed.
+ */
+#include <string.h>
+
+#include "chance.h"
+#include "check.h"
+#include "groups.h"
+#include "packs.h"
+
+#define TURNS 12500u
+
+/* Two stores of one pack, each with a channel OURS whose peer is OURS: what one writes, both can take in. */
+struct yard {
+    struct guarded built;
+    struct guarded fresh;
+    uint8_t root[PPSPP_ROOT_BYTES];
+    uint32_t length;
+    uint32_t count;
+};
+
+/* How often each number was given. */
+static unsigned long seen[PPSPP_ID + 1];
+
+static void saw(uint32_t answer)
+{
+    if (answer <= PPSPP_ID) {
+        seen[answer]++;
+    }
+}
+
+static void begin_built(struct yard *yard)
+{
+    CHECK(guarded_build(&yard->built, yard->length, content(), yard->length) == PPSPP_DONE);
+    CHECK(ppspp_store_root(&yard->built.store, yard->root));
+    CHECK(open_from(&yard->built, OURS, OURS, yard->root) == PPSPP_DONE);
+}
+
+static void begin_fresh(struct yard *yard)
+{
+    CHECK(guarded_start(&yard->fresh, yard->root, yard->length) == PPSPP_DONE);
+    CHECK(open_from(&yard->fresh, OURS, OURS, yard->root) == PPSPP_DONE);
+}
+
+/* Whether a store still has its channel OURS. */
+static bool connected(const struct guarded *g)
+{
+    const struct ppspp_row row = ppspp_store_row(&g->store, ppspp_store_row_of(&g->store, OURS));
+    return row.phase == PPSPP_OPEN && row.peer == OURS;
+}
+
+/* Every chunk in the map has the pack's bytes, asking counts the map's bits, and the built store is whole. */
+static void check_held(struct yard *yard, struct guarded *g)
+{
+    uint32_t bits = 0;
+    for (uint32_t chunk = 0; chunk < yard->count; chunk++) {
+        const size_t from = 1024 * (size_t)chunk;
+        const size_t left = yard->length - from;
+        if (ppspp_store_holds(&g->store, chunk)) {
+            bits++;
+            CHECK(memcmp(g->store.chunks + from, content() + from, left < 1024 ? left : 1024) == 0);
+        }
+    }
+    CHECK(held_of(g) == bits);
+    CHECK(g != &yard->built || bits == yard->count);
+}
+
+/* A datagram as a peer would send it, to channel OURS. */
+static struct packet genuine(struct yard *yard)
+{
+    struct packet p = packet_to(OURS);
+    switch (below(8)) {
+    case 0:
+        put_handshake(&p, OURS, yard->root);
+        break;
+    case 1:
+        p = packet_to(below(24));
+        put_closing(&p);
+        break;
+    case 2:
+        p = packet_to(0);
+        put_handshake(&p, 1 + below(40), yard->root);
+        break;
+    case 3:
+        return any_messages(OURS, yard->count);
+    default:
+        CHECK(guarded_write(&yard->built, OURS, below(yard->count), chance()) == PPSPP_DONE);
+        p.n = 0;
+        put_bytes(&p, yard->built.store.reply, yard->built.len);
+        break;
+    }
+    return p;
+}
+
+static struct packet any_datagram(struct yard *yard)
+{
+    if (one_in(6)) {
+        return any_bytes(one_in(4) ? below(20) : OURS);
+    }
+    struct packet p = genuine(yard);
+    if (!one_in(3)) {
+        damage(&p, yard->count);
+    }
+    return p;
+}
+
+/* Any other call, with numbers near those that count. */
+static uint32_t any_call(struct yard *yard, struct guarded *g)
+{
+    uint32_t held;
+    uint32_t whole;
+    switch (below(6)) {
+    case 0:
+        return guarded_open(g, below(24));
+    case 1:
+        return guarded_write(g, one_in(4) ? below(24) : OURS, any_chunk(yard->count), chance());
+    case 2:
+        return guarded_ask(g, &held, &whole);
+    case 3:
+        return guarded_start(g, yard->root, one_in(2) ? 0 : PPSPP_MAX_LENGTH + 1 + below(1000));
+    case 4:
+        return guarded_build(g, yard->length, content(), below(yard->length));
+    default:
+        saw(guarded_begin(g, below(24)));
+        return guarded_add(g, one_in(8) ? below(2100) : g->len, below(14), any_chunk(yard->count),
+                           any_chunk(yard->count), chance(), content(), below(2100));
+    }
+}
+
+/* With one element less of any room the same is 11 at once. */
+static void check_short(struct yard *yard, struct guarded *g)
+{
+    const enum room room = (enum room)below(ROOMS);
+    const struct packet p = any_datagram(yard);
+    guarded_shorten(g, room);
+    CHECK(guarded_take(g, chance(), below(24), p.bytes, p.n) == PPSPP_ROOM);
+    CHECK(guarded_open(g, below(24)) == PPSPP_ROOM);
+    guarded_lengthen(g, room);
+    saw(PPSPP_ROOM);
+}
+
+static void turn(struct yard *yard)
+{
+    struct guarded *g = one_in(4) ? &yard->built : &yard->fresh;
+    if (one_in(8)) {
+        saw(any_call(yard, g));
+    } else if (one_in(50)) {
+        check_short(yard, g);
+    } else {
+        const struct packet p = any_datagram(yard);
+        const uint32_t answer = guarded_take(g, chance(), below(24), p.bytes, p.n);
+        saw(answer);
+        if (answer == PPSPP_DONE) {
+            check_held(yard, g);
+        }
+    }
+}
+
+/* A store without its channel begins again; how often the download became whole. */
+static uint32_t play(uint32_t length)
+{
+    struct yard yard;
+    uint32_t wholes = 0;
+    yard.length = length;
+    yard.count = PPSPP_CHUNK_COUNT(length);
+    guarded_new(&yard.built, length);
+    guarded_new(&yard.fresh, length);
+    begin_built(&yard);
+    begin_fresh(&yard);
+    for (uint32_t i = 0; i < TURNS; i++) {
+        turn(&yard);
+        if (!connected(&yard.built)) {
+            begin_built(&yard);
+        }
+        const bool whole = held_of(&yard.fresh) == yard.count;
+        wholes += whole ? 1 : 0;
+        if (!connected(&yard.fresh) || (whole && one_in(20))) {
+            begin_fresh(&yard);
+        }
+    }
+    guarded_end(&yard.built);
+    guarded_end(&yard.fresh);
+    return wholes;
+}
+
+/* Each pack becomes whole at times, and each number is given at times: so the turns reach all of the library. */
+void group_random(void)
+{
+    static const uint32_t lengths[] = {1, 1024, 1025, 3000, 7162, 8192, 17000, 40000};
+    chance_seed(7574);
+    memset(seen, 0, sizeof seen);
+    for (size_t i = 0; i < sizeof lengths / sizeof lengths[0]; i++) {
+        CHECK(play(lengths[i]) > 0);
+    }
+    for (uint32_t number = 0; number <= PPSPP_ID; number++) {
+        CHECK(seen[number] > 0);
+    }
+}
