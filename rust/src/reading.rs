@@ -56,17 +56,18 @@ impl FusedIterator for Messages<'_> {}
 
 /// The message of the library's words, which fit their types, and the place behind it.
 fn message(datagram: &[u8], found: [u64; sys::PPSPP_FOUND_WORDS]) -> (Message<'_>, usize) {
-    let [kind, first, last, number, at, count, next] = found;
-    let (at, count) = (at as usize, count as usize);
+    let at = found[sys::PPSPP_FOUND_BYTES] as usize;
+    let count = found[sys::PPSPP_FOUND_BYTES_N] as usize;
     let numbers = Numbers {
-        kind: kind as u32,
-        first: first as u32,
-        last: last as u32,
-        number,
+        kind: found[sys::PPSPP_FOUND_TYPE] as u32,
+        first: found[sys::PPSPP_FOUND_FIRST] as u32,
+        last: found[sys::PPSPP_FOUND_LAST] as u32,
+        number: found[sys::PPSPP_FOUND_NUMBER],
         // The place of no bytes may be any.
         bytes: datagram.get(at..at + count).unwrap_or_default(),
     };
-    (Message::of(numbers), next as usize)
+    let next = found[sys::PPSPP_FOUND_NEXT] as usize;
+    (Message::of(numbers), next)
 }
 
 /// What stands at a place of a datagram cannot be read as a message: a store refuses it with

@@ -86,9 +86,22 @@ pub const PPSPP_STEP_MESSAGE: u32 = 1;
 /// At a place of a datagram: what is refused with 2.
 pub const PPSPP_STEP_REFUSED: u32 = 2;
 
-/// Words that [`ppspp_read`] gives of a message: type, first, last, number, the place and the count of its bytes, and
-/// the place behind it.
+/// Words that [`ppspp_read`] gives of a message.
 pub const PPSPP_FOUND_WORDS: usize = 7;
+/// The word of the type.
+pub const PPSPP_FOUND_TYPE: usize = 0;
+/// The word of the first chunk, or of a HANDSHAKE's source.
+pub const PPSPP_FOUND_FIRST: usize = 1;
+/// The word of the last chunk, or of a HANDSHAKE's options.
+pub const PPSPP_FOUND_LAST: usize = 2;
+/// The word of the timestamp or delay.
+pub const PPSPP_FOUND_NUMBER: usize = 3;
+/// The word of the place of its first byte.
+pub const PPSPP_FOUND_BYTES: usize = 4;
+/// The word of the count of its bytes.
+pub const PPSPP_FOUND_BYTES_N: usize = 5;
+/// The word of the place behind the message.
+pub const PPSPP_FOUND_NEXT: usize = 6;
 
 // The parameters are the header's: pointers and lengths of eight rooms stand in one order in every call.
 #[allow(clippy::too_many_arguments)]

@@ -1,0 +1,76 @@
+-- Laws of the calls: too few words for a state, and what the call below gave. Assumes nothing.
+use Prim.Native.Nat.{ℕ, zero, suc, _<_, _≤_}
+use mathlib.Core.Path.{_≡_, refl, ap, _∙_}
+use mathlib.Core.Logic.{_≢_}
+use mathlib.Core.Bool.{Bool}
+use mathlib.Core.List.{List}
+use lib.ListN.{length}
+use lib.Dec.{ltb}
+use borrow.Author.Tests.{lt-ltb, le-ltb}
+use Rattle.hash.proofs.Promise.{words}
+use Rattle.hash.specs.declared.value.HashValue.{HashValue}
+use Rattle.channel.specs.declared.state.State.{State}
+use Rattle.channel.proofs.Promise.{World, channelsOf, worldOf, Out, outOf, startSpec, askedOf, askSpec}
+use Rattle.loader.specs.State.{stateWords, stateIn, flag, statePut}
+use Rattle.loader.specs.Calls.{Lent, lentOf, worldIn, leaving, wordsAfter, encoded, callOn, callBeside, begun, begunOf, startOn, countedOf, counted, askOn}
+
+-- ---- what a call leaves
+
+module _ (n : ℕ) (w : List ℕ) (st : State) where
+  pub words-kept : n ≢ 0 → w ≡ wordsAfter n w st
+  words-kept d = go n d where
+    go : (m : ℕ) → m ≢ 0 → w ≡ wordsAfter m w st
+    go zero d = absurd (d refl)
+    go (suc m) d = refl
+
+  pub words-put : n ≡ 0 → {after : List ℕ} → after ≡ statePut w st → after ≡ wordsAfter n w st
+  words-put z e = rw z e
+
+-- the store, with this state
+abbrev with-state : Lent → State → World
+with-state l st = record { rooms = l .rooms; channels = channelsOf st (l .has) (l .wants) (l .reply) }
+
+module _ (l : Lent) (call : World → Out World) where
+  pub call-short : length (l .words) < stateWords → outOf 11 0 l ≡ callOn l call
+  unfolding callOn
+  call-short h = rw (lt-ltb (length (l .words)) stateWords h)
+
+  pub beside-short : length (l .words) < stateWords → outOf 11 0 l ≡ callBeside l call
+  unfolding callBeside
+  beside-short h = rw (lt-ltb (length (l .words)) stateWords h)
+
+  module _ (h : stateWords ≤ length (l .words)) {st st′ : State} {n len : ℕ} {chunks map hashes trusted has wants reply : List ℕ}
+      (s : st ≡ stateIn (l .words)) (d : outOf n len (worldOf st′ chunks map hashes trusted has wants reply) ≡ call (with-state l st)) where
+    given : outOf n len (worldOf st′ chunks map hashes trusted has wants reply) ≡ call (worldIn l)
+    given = d ∙ ap (λ (x : State). call (with-state l x)) s
+
+    pub call-made : {r : ℕ} {after : List ℕ} → (r ≡ n) × (after ≡ wordsAfter n (l .words) st′)
+        → outOf r len (lentOf after chunks map hashes trusted has wants reply) ≡ callOn l call
+    unfolding callOn
+    call-made p = rw (le-ltb (length (l .words)) stateWords h, p .0, p .1) (ap (encoded l) given)
+
+    pub beside-made : outOf n len (lentOf (l .words) chunks map hashes trusted has wants reply) ≡ callBeside l call
+    unfolding callBeside
+    beside-made = rw (le-ltb (length (l .words)) stateWords h) (ap (leaving (l .words)) given)
+
+-- ---- beginning a store
+
+pub begun-same : {n len : ℕ} {l : Lent} {o : Out Lent} → outOf n len l ≡ o → begunOf n l ≡ begun o
+begun-same e = ap begun e
+
+-- as the call with the root h, which the bytes have
+pub start-under : (l : Lent) (root : List ℕ) (L : ℕ) {h : HashValue} → h .words ≡ words 8 root
+    → {n len : ℕ} {after : Lent} → outOf n len after ≡ callOn l (λ w. startSpec w (record { root = h; length = L })) → begunOf n after ≡ startOn l root L
+start-under l root L e d = begun-same d ∙ ap (λ (u : List ℕ). begun (callOn l (λ w. startSpec w (record { root = record { words = u }; length = L })))) e
+
+-- ---- asking
+
+module _ (words map : List ℕ) where
+  pub ask-short : length words < stateWords → countedOf 11 0 0 ≡ askOn words map
+  unfolding askOn
+  ask-short h = rw (lt-ltb (length words) stateWords h)
+
+  pub ask-made : stateWords ≤ length words → {st : State} {n held k : ℕ} {whole : Bool}
+      → st ≡ stateIn words → askedOf n held whole ≡ askSpec st map → k ≡ flag whole → countedOf n held k ≡ askOn words map
+  unfolding askOn
+  ask-made h s d e = rw (le-ltb (length words) stateWords h, e) (ap counted (d ∙ ap (λ (x : State). askSpec x map) s))

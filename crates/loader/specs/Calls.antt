@@ -1,0 +1,95 @@
+-- What the calls answer and leave: the entry point's equation of the crate channel, through decode and encode; before all
+-- else 11 where the room for the state is too short. Assumes nothing.
+use Prim.Native.Nat.{ℕ, zero, suc}
+use mathlib.Core.List.{List}
+use lib.Dec.{ltb}
+use lib.ListN.{length}
+use Rattle.tree.specs.Pick.{pick}
+use Rattle.hash.proofs.Promise.{words}
+use Rattle.store.proofs.Promise.{Rooms, roomsOf}
+use Rattle.store.specs.declared.calls.Order.{Order}
+use Rattle.channel.specs.declared.state.State.{State}
+use Rattle.channel.proofs.Promise.{World, channelsOf, Out, outOf, startSpec, buildSpec, Asked, askSpec}
+use Rattle.loader.specs.State.{stateWords, stateIn, flag, statePut}
+
+-- The eight rooms that a call is lent: the words of the state, and the seven of the scope paper.
+pub record Lent : Type 0 where
+  pub words : List ℕ
+  pub rooms : Rooms
+  pub has : List ℕ
+  pub wants : List ℕ
+  pub reply : List ℕ
+
+abbrev pub lentOf : List ℕ → List ℕ → List ℕ → List ℕ → List ℕ → List ℕ → List ℕ → List ℕ → Lent
+lentOf words chunks map hashes trusted has wants reply =
+    record { words = words; rooms = roomsOf chunks map hashes trusted; has = has; wants = wants; reply = reply }
+
+-- The store in them.
+abbrev pub worldIn : Lent → World
+worldIn l = record { rooms = l .rooms; channels = channelsOf (stateIn (l .words)) (l .has) (l .wants) (l .reply) }
+
+-- What a call on that store gave and left, with these words for its state.
+abbrev pub leaving : List ℕ → Out World → Out Lent
+leaving words o =
+    outOf (o .answer) (o .len)
+    (record {
+      words = words;
+      rooms = o .after .rooms;
+      has = o .after .channels .has;
+      wants = o .after .channels .wants;
+      reply = o .after .channels .reply;
+    })
+
+-- The words after a call with this number: those of the state that it left; a refusal leaves them as they were.
+abbrev pub wordsAfter : ℕ → List ℕ → State → List ℕ
+wordsAfter zero w st = statePut w st
+wordsAfter (suc n) w st = w
+
+abbrev pub encoded : Lent → Out World → Out Lent
+encoded l o = leaving (wordsAfter (o .answer) (l .words) (o .after .channels .state)) o
+
+-- A call that may change the state, and one that leaves it.
+unfoldable pub callOn : Lent → (World → Out World) → Out Lent
+callOn l call = pick (ltb (length (l .words)) stateWords) (outOf 11 0 l) (encoded l (call (worldIn l)))
+
+unfoldable pub callBeside : Lent → (World → Out World) → Out Lent
+callBeside l call = pick (ltb (length (l .words)) stateWords) (outOf 11 0 l) (leaving (l .words) (call (worldIn l)))
+
+-- ---- beginning a store, which has no reply
+
+pub record Begun : Type 0 where
+  pub answer : ℕ
+  pub left : Lent
+
+abbrev pub begunOf : ℕ → Lent → Begun
+begunOf n l = record { answer = n; left = l }
+
+abbrev pub begun : Out Lent → Begun
+begun o = begunOf (o .answer) (o .after)
+
+-- The order of a root's 32 bytes and a length.
+abbrev pub orderOf : List ℕ → ℕ → Order
+orderOf root L = record { root = record { words = words 8 root }; length = L }
+
+abbrev pub startOn : Lent → List ℕ → ℕ → Begun
+startOn l root L = begun (callOn l (λ w. startSpec w (orderOf root L)))
+
+abbrev pub buildOn : Lent → ℕ → List ℕ → Begun
+buildOn l L content = begun (callOn l (λ w. buildSpec w L content))
+
+-- ---- asking
+
+-- The number, the held count, and 1 where the pack is whole.
+pub record Counted : Type 0 where
+  pub answer : ℕ
+  pub held : ℕ
+  pub whole : ℕ
+
+abbrev pub countedOf : ℕ → ℕ → ℕ → Counted
+countedOf n held whole = record { answer = n; held = held; whole = whole }
+
+abbrev pub counted : Asked → Counted
+counted a = countedOf (a .answer) (a .held) (flag (a .whole))
+
+unfoldable pub askOn : List ℕ → List ℕ → Counted
+askOn words map = pick (ltb (length words) stateWords) (countedOf 11 0 0) (counted (askSpec (stateIn words) map))

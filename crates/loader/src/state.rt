@@ -1,0 +1,187 @@
+// A store's state as words: the layout's version, the root's eight, the length, and four for each of the 16 rows.
+ghost use mathlib.Core.Path.{_≡_};
+ghost use Prim.Native.Nat.{_+_, _≤_};
+ghost use lib.ListN.{length};
+ghost use lib.Seq.{sets};
+ghost use Rattle.table.proofs.Promise.{rowCount};
+ghost use Rattle.loader.specs.State.{stateWords, layoutVersion, rowsPlace, phaseOf, phaseWord, flag, noState, rowIn, rowWords, orderIn, rowsIn, stateIn, orderWords, tableWords, statePut};
+use channel::state::State;
+use hash::value::HashValue;
+use store::calls::Order;
+use table::rows;
+use table::rows::Phase;
+use table::rows::ROWS;
+use table::rows::Row;
+use table::rows::Table;
+
+// The layout's version, its number of words, and where the rows begin.
+pub const LAYOUT_VERSION: u32 = 1;
+
+pub const STATE_WORDS: usize = 74;
+
+const ROWS_PLACE: usize = 10;
+
+// ---- read
+
+fn phase_of(word: u32) -> Phase
+    ensures { λ r. ⌜ r ≡ phaseOf word ⌝ }
+{
+    match word {
+        1 => Phase::Calling,
+        2 => Phase::Open,
+        _ => Phase::Free,
+    }
+}
+
+// The row of the four words at a place.
+fn row_in(ws: &[u32], at: usize) -> Row
+    requires { ⌜ at + 4 ≤ length (now ws) ⌝ }
+    ensures { λ r. ⌜ r ≡ rowIn (now (ws .entry)) at ⌝ }
+{
+    Row {
+        phase: phase_of(ws[at]),
+        id: ws[at + 1],
+        peer: ws[at + 2],
+        choked: ws[at + 3] == 1,
+    }
+}
+
+// The root of words 1 to 8, and the length.
+fn order_in(ws: &[u32]) -> Order
+    requires { ⌜ rowsPlace ≤ length (now ws) ⌝ }
+    ensures { λ r. ⌜ r ≡ orderIn (now (ws .entry)) ⌝ }
+{
+    Order {
+        root: HashValue {
+            words: [ws[1], ws[2], ws[3], ws[4], ws[5], ws[6], ws[7], ws[8]],
+        },
+        length: ws[9],
+    }
+}
+
+fn table_in(ws: &[u32]) -> Table
+    requires { ⌜ stateWords ≤ length (now ws) ⌝ }
+    ensures { λ r. ⌜ r .rows ≡ rowsIn rowCount (now (ws .entry)) rowsPlace ⌝ }
+{
+    Table {
+        rows: [
+            row_in(ws, 10),
+            row_in(ws, 14),
+            row_in(ws, 18),
+            row_in(ws, 22),
+            row_in(ws, 26),
+            row_in(ws, 30),
+            row_in(ws, 34),
+            row_in(ws, 38),
+            row_in(ws, 42),
+            row_in(ws, 46),
+            row_in(ws, 50),
+            row_in(ws, 54),
+            row_in(ws, 58),
+            row_in(ws, 62),
+            row_in(ws, 66),
+            row_in(ws, 70),
+        ],
+    }
+}
+
+// A state without an order.
+fn no_state() -> State
+    ensures { λ r. ⌜ r ≡ noState ⌝ }
+{
+    State {
+        order: Order {
+            root: HashValue {
+                words: [0, 0, 0, 0, 0, 0, 0, 0],
+            },
+            length: 0,
+        },
+        table: rows::free_table(),
+    }
+}
+
+// The state of the first 74 words; none where they have another version.
+pub fn state_in(ws: &[u32]) -> State
+    requires { ⌜ stateWords ≤ length (now ws) ⌝ }
+    ensures { λ r. ⌜ r ≡ stateIn (now (ws .entry)) ⌝ }
+{
+    if ws[0] != LAYOUT_VERSION {
+        return no_state();
+    }
+    State {
+        order: order_in(ws),
+        table: table_in(ws),
+    }
+}
+
+// ---- written
+
+fn phase_word(phase: Phase) -> u32
+    ensures { λ r. ⌜ r ≡ phaseWord phase ⌝ }
+{
+    match phase {
+        Phase::Free => 0,
+        Phase::Calling => 1,
+        Phase::Open => 2,
+    }
+}
+
+pub fn flag(set: bool) -> u32
+    ensures { λ r. ⌜ r ≡ flag set ⌝ }
+{
+    if set { 1 } else { 0 }
+}
+
+// Writes a row's four words at a place.
+fn put_row(ws: &mut [u32], at: usize, row: Row)
+    requires { ⌜ at + 4 ≤ length (now ws) ⌝ }
+    ensures { λ _. ⌜ now (ws .exit) ≡ sets (now (ws .entry)) at (rowWords row) ⌝ }
+{
+    let phase = row.phase;
+    ws[at] = phase_word(phase);
+    ws[at + 1] = row.id;
+    ws[at + 2] = row.peer;
+    ws[at + 3] = flag(row.choked);
+}
+
+// Writes the version, the root's words and the length.
+fn put_order(ws: &mut [u32], order: Order)
+    requires { ⌜ rowsPlace ≤ length (now ws) ⌝ }
+    ensures { λ _. ⌜ now (ws .exit) ≡ sets (now (ws .entry)) 0 (orderWords order) ⌝ }
+{
+    let root = order.root;
+    ws[0] = LAYOUT_VERSION;
+    ws[1] = root.words[0];
+    ws[2] = root.words[1];
+    ws[3] = root.words[2];
+    ws[4] = root.words[3];
+    ws[5] = root.words[4];
+    ws[6] = root.words[5];
+    ws[7] = root.words[6];
+    ws[8] = root.words[7];
+    ws[9] = order.length;
+}
+
+// Writes the rows' words behind the order's.
+fn put_table(ws: &mut [u32], table: Table)
+    requires { ⌜ stateWords ≤ length (now ws) ⌝ }
+    ensures { λ _. ⌜ now (ws .exit) ≡ sets (now (ws .entry)) rowsPlace (tableWords (table .rows)) ⌝ }
+{
+    let mut i: usize = 0;
+    while i < ROWS {
+        let row = table.rows[i];
+        put_row(ws, ROWS_PLACE + 4 * i, row);
+        i += 1;
+    }
+}
+
+// Writes a state over the first 74 words.
+pub fn put_state(ws: &mut [u32], state: State)
+    requires { ⌜ stateWords ≤ length (now ws) ⌝ }
+    ensures { λ _. ⌜ now (ws .exit) ≡ statePut (now (ws .entry)) state ⌝ }
+{
+    let order = state.order;
+    let table = state.table;
+    put_order(ws, order);
+    put_table(ws, table);
+}
