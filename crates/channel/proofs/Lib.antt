@@ -14,4 +14,5 @@ pub mod DemandLaws
 pub mod RefusedLaws
 pub mod ReplyLaws
 pub mod ShorterLaws
+pub mod ShapeLaws
 pub mod Promise

@@ -6,21 +6,23 @@ use mathlib.Core.List.{List}
 use Prim.Native.Nat.{ℕ, _≤_, _<_}
 use lib.ListN.{length}
 use Rattle.bits.proofs.Promise.{bitAt}
-use Rattle.store.proofs.Promise.{countOf, Whole}
+use Rattle.store.proofs.Promise.{countOf, lengthAnswer, Whole}
 use Rattle.store.specs.declared.calls.Order.{Order}
 use Rattle.channel.proofs.RefusedLaws as refused
 use Rattle.channel.proofs.DemandLaws as demand
 use Rattle.channel.proofs.ReplyLaws as reply
 use Rattle.channel.proofs.ShorterLaws as shorter
-pub use Rattle.channel.specs.World.{Channels, channelsOf, World, worldOf, Out, outOf, orderRoot, orderLength, chunkCount, tableRows}
+use Rattle.channel.proofs.ShapeLaws as shape
+pub use Rattle.channel.specs.World.{Channels, channelsOf, World, worldOf, Out, outOf, orderRoot, orderLength, chunkCount, tableRows, Shaped}
 pub use Rattle.channel.specs.Opening.{openSpec}
 pub use Rattle.channel.specs.Starting.{startSpec, buildSpec}
 pub use Rattle.channel.specs.Take.{takeSpec}
 pub use Rattle.channel.specs.Write.{writeSpec}
 pub use Rattle.channel.specs.Ask.{Asked, askedOf, askSpec}
-pub use Rattle.channel.specs.Run.{Call, opening, taking, writing, asking, run, FreshOrBuilt, fresh, built, firstBrought}
+pub use Rattle.channel.specs.Run.{Call, opening, taking, writing, asking, lend, step, run, FreshOrBuilt, fresh, built, firstBrought}
 pub use Rattle.channel.specs.Demand.{BothWhole, Demand}
 pub use Rattle.channel.proofs.RefusedLaws.{Unaltered}
+pub use Rattle.channel.proofs.ShorterLaws.{EnoughFor}
 
 -- ---- demand 1: a refusal gives a reply length of 0 and changes neither store, channel table nor any lent room
 
@@ -39,6 +41,14 @@ take-refused-same = refused.take-unaltered
 pub write-refused-same : (w : World) (id c clock : ℕ) → Unaltered w (writeSpec w id c clock)
 write-refused-same = refused.write-unaltered
 
+-- ---- a start and a building in rooms of the sizes needed are not refused with 11
+
+pub start-enough : (w : World) (o : Order) → lengthAnswer (o .length) ≡ 0 → EnoughFor (o .length) w → startSpec w o .answer ≡ 0
+start-enough = shorter.start-enough
+
+pub build-enough : (w : World) (L : ℕ) (s : List ℕ) → lengthAnswer L ≡ 0 → length s ≡ L → EnoughFor L w → buildSpec w L s .answer ≡ 0
+build-enough = shorter.build-enough
+
 -- ---- a start: of an order of some length, and in rooms for a longer one
 
 pub start-some : (w : World) (o : Order) → startSpec w o .answer ≡ 0 → 0 < o .length
@@ -54,6 +64,20 @@ start-reply = reply.start-reply
 
 pub take-reply : (w : World) (clock id : ℕ) (s : List ℕ) → length (takeSpec w clock id s .after .channels .reply) ≡ length (w .channels .reply)
 take-reply = reply.take-reply
+
+-- ---- a state keeps its shape, and writing a chunk leaves it
+
+pub start-shaped : (w : World) (o : Order) → length (o .root .words) ≡ 8 → startSpec w o .answer ≡ 0 → Shaped (startSpec w o .after .channels .state)
+start-shaped = shape.start-shaped
+
+pub build-shaped : (w : World) (L : ℕ) (s : List ℕ) → buildSpec w L s .answer ≡ 0 → Shaped (buildSpec w L s .after .channels .state)
+build-shaped = shape.build-shaped
+
+pub step-shaped : (w : World) (k : Call) → Shaped (w .channels .state) → Shaped (step w k .channels .state)
+step-shaped = shape.step-shaped
+
+pub write-state : (w : World) (id c clock : ℕ) → writeSpec w id c clock .after .channels .state ≡ w .channels .state
+write-state = shape.write-state
 
 -- ---- where a list begins: "A fresh store has no chunk in its map, a built one all N"
 

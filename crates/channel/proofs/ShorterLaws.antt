@@ -1,5 +1,7 @@
--- Rooms in which a store starts under an order do for a shorter one. Assumes nothing.
+-- A store starts and is built in rooms of the sizes that its order needs; rooms in which it starts do for a shorter one.
+-- Assumes nothing.
 use mathlib.Core.Path.{_≡_, refl, sym, _∙_}
+use mathlib.Core.List.{List}
 use Prim.Native.Nat.{ℕ, zero, suc, _*_, _≤_, _<_}
 use native.Mathlib.Omega.{arith}
 use borrow.Author.Tests.{le-ltb}
@@ -7,28 +9,60 @@ use lib.ListN.{length}
 use Rattle.bits.proofs.Promise.{rowWords}
 use Rattle.table.proofs.Promise.{rowCount}
 use Rattle.wire.proofs.Promise.{maxSize}
-use Rattle.store.proofs.Promise.{both-zero, countOf, roomsAnswer, order-accepted, length-accepted, order-shorter, row-mono, count-mono}
+use Rattle.store.proofs.Promise.{both-zero, countOf, roomsAnswer, order-accepted, length-accepted, order-shorter, row-mono, count-mono, lengthAnswer, Enough, order-enough, build-enough as store-build-enough}
 use Rattle.store.specs.declared.calls.Order.{Order}
 use Rattle.channel.specs.World.{World, outOf, unless}
 use Rattle.channel.specs.Answers.{channelRoomsAnswer, channelsAnswer, allRoomsAnswer}
-use Rattle.channel.specs.Starting.{startSpec}
+use Rattle.channel.specs.Starting.{startSpec, buildNumber, buildSpec}
 use Rattle.channel.proofs.AcceptLaws.{channel-rooms-accepted}
 
-channel-rooms-shorter : (K L : ℕ) → K ≤ L → (h w r : ℕ) → channelRoomsAnswer L h w r ≡ 0 → channelRoomsAnswer K h w r ≡ 0
+-- The rooms for what the peers have and want hold their rows under an order of length L, and the reply room a datagram.
+abbrev pub PeersEnough : ℕ → ℕ → ℕ → ℕ → Type 0
+PeersEnough L h w r = (rowCount * rowWords (countOf L) ≤ h) × (rowCount * rowWords (countOf L) ≤ w) × (maxSize ≤ r)
+
+channel-rooms-enough : (L h w r : ℕ) → PeersEnough L h w r → channelRoomsAnswer L h w r ≡ 0
 unfolding channelRoomsAnswer
+channel-rooms-enough L h w r p = rw (le-ltb h (rowCount * rowWords (countOf L)) (p .0), le-ltb w (rowCount * rowWords (countOf L)) (p .1), le-ltb r maxSize (p .2))
+
+channel-rooms-shorter : (K L : ℕ) → K ≤ L → (h w r : ℕ) → channelRoomsAnswer L h w r ≡ 0 → channelRoomsAnswer K h w r ≡ 0
 channel-rooms-shorter K L l h w r e =
     let p = channel-rooms-accepted L h w r e in
     let q = row-mono (countOf K) (countOf L) (count-mono K L l) in
-    rw (le-ltb h (rowCount * rowWords (countOf K)) (omega arith), le-ltb w (rowCount * rowWords (countOf K)) (omega arith), le-ltb r maxSize (p .2))
+    channel-rooms-enough K h w r (omega arith, omega arith, p .2)
 
--- The number of a start, in rooms of these lengths.
+-- Large enough rooms for an order of length L.
+abbrev pub EnoughFor : ℕ → World → Type 0
+EnoughFor L w =
+    Enough L (length (w .rooms .bytes)) (length (w .rooms .map)) (length (w .rooms .hashes)) (length (w .rooms .trusted))
+    × PeersEnough L (length (w .channels .has)) (length (w .channels .wants)) (length (w .channels .reply))
+
+-- The number of a start and of a building, in rooms of these lengths.
+number : (n : ℕ) (w new : World) → unless n w (outOf 0 0 new) .answer ≡ n
+number zero w new = refl
+number (suc n) w new = refl
+
 start-number : (w : World) (o : Order) → startSpec w o .answer ≡ allRoomsAnswer (o .length) w
 unfolding startSpec
-start-number w o = go (allRoomsAnswer (o .length) w) _
-  where
-    go : (n : ℕ) (new : World) → unless n w (outOf 0 0 new) .answer ≡ n
-    go zero new = refl
-    go (suc n) new = refl
+start-number w o = number (allRoomsAnswer (o .length) w) w _
+
+build-number : (w : World) (L : ℕ) (s : List ℕ) → buildSpec w L s .answer ≡ buildNumber w L s
+unfolding buildSpec
+build-number w L s = number (buildNumber w L s) w _
+
+-- Neither 12 nor 11 where the rooms are large enough.
+pub start-enough : (w : World) (o : Order) → lengthAnswer (o .length) ≡ 0 → EnoughFor (o .length) w → startSpec w o .answer ≡ 0
+start-enough w o z p =
+    start-number w o ∙ rw (
+      order-enough (o .length) (length (w .rooms .bytes)) (length (w .rooms .map)) (length (w .rooms .hashes)) (length (w .rooms .trusted)) z (p .0),
+      channel-rooms-enough (o .length) (length (w .channels .has)) (length (w .channels .wants)) (length (w .channels .reply)) (p .1),
+    )
+
+pub build-enough : (w : World) (L : ℕ) (s : List ℕ) → lengthAnswer L ≡ 0 → length s ≡ L → EnoughFor L w → buildSpec w L s .answer ≡ 0
+build-enough w L s z e p =
+    build-number w L s ∙ rw (
+      store-build-enough L (length (w .rooms .bytes)) (length (w .rooms .map)) (length (w .rooms .hashes)) (length (w .rooms .trusted)) (length s) z e (p .0),
+      channel-rooms-enough L (length (w .channels .has)) (length (w .channels .wants)) (length (w .channels .reply)) (p .1),
+    )
 
 -- A start that is not refused has an order of some length.
 pub start-some : (w : World) (o : Order) → startSpec w o .answer ≡ 0 → 0 < o .length

@@ -1,9 +1,11 @@
 -- A store and its lent rooms (01, "What a store works under"), and what a call gives and leaves. Assumes nothing.
 use Prim.Native.Nat.{ℕ, zero, suc, _*_, _+_}
+use mathlib.Core.Path.{_≡_}
 use mathlib.Core.List.{List}
+use lib.ListN.{length}
 use Rattle.hash.proofs.Promise.{bytesOf}
 use Rattle.bits.proofs.Promise.{rowWords, clearWords}
-use Rattle.table.proofs.Promise.{withRow}
+use Rattle.table.proofs.Promise.{rowCount, withRow}
 use Rattle.table.specs.declared.rows.Row.{Row}
 use Rattle.store.proofs.Promise.{Rooms, roomsOf, countOf}
 use Rattle.channel.specs.declared.state.State.{State}
@@ -65,6 +67,11 @@ tableRows st = st .table .rows
 -- The state with another row at a place of the table.
 abbrev pub putRow : State → ℕ → Row → State
 putRow st i r = record { order = st .order; table = withRow (st .table) i r }
+
+-- What its type says of a state: a root has eight words, and the table 16 rows.
+pub record Shaped (st : State) : Type 0 where
+  pub root-words : length (st .order .root .words) ≡ 8
+  pub row-count : length (tableRows st) ≡ rowCount
 
 -- ---- bit rows by channel
 

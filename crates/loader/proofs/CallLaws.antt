@@ -6,13 +6,14 @@ use mathlib.Core.Bool.{Bool}
 use mathlib.Core.List.{List}
 use lib.ListN.{length}
 use lib.Dec.{ltb}
-use borrow.Author.Tests.{lt-ltb, le-ltb}
+use borrow.Author.Tests.{lt-ltb, le-ltb, eq-eqb, ne-eqb}
 use Rattle.hash.proofs.Promise.{words}
 use Rattle.hash.specs.declared.value.HashValue.{HashValue}
+use Rattle.store.proofs.Promise.{lengthAnswer, earlier-not}
 use Rattle.channel.specs.declared.state.State.{State}
 use Rattle.channel.proofs.Promise.{World, channelsOf, worldOf, Out, outOf, startSpec, askedOf, askSpec}
 use Rattle.loader.specs.State.{stateWords, stateIn, flag, statePut}
-use Rattle.loader.specs.Calls.{Lent, lentOf, worldIn, leaving, wordsAfter, encoded, callOn, callBeside, begun, begunOf, startOn, countedOf, counted, askOn}
+use Rattle.loader.specs.Calls.{Lent, lentOf, worldIn, leaving, wordsAfter, encoded, callOn, callBeside, begun, begunOf, startShort, startOn, buildShort, countedOf, counted, askOn}
 
 -- ---- what a call leaves
 
@@ -31,9 +32,9 @@ abbrev with-state : Lent → State → World
 with-state l st = record { rooms = l .rooms; channels = channelsOf st (l .has) (l .wants) (l .reply) }
 
 module _ (l : Lent) (call : World → Out World) where
-  pub call-short : length (l .words) < stateWords → outOf 11 0 l ≡ callOn l call
+  pub call-short : (n : ℕ) → length (l .words) < stateWords → outOf n 0 l ≡ callOn n l call
   unfolding callOn
-  call-short h = rw (lt-ltb (length (l .words)) stateWords h)
+  call-short n h = rw (lt-ltb (length (l .words)) stateWords h)
 
   pub beside-short : length (l .words) < stateWords → outOf 11 0 l ≡ callBeside l call
   unfolding callBeside
@@ -44,10 +45,10 @@ module _ (l : Lent) (call : World → Out World) where
     given : outOf n len (worldOf st′ chunks map hashes trusted has wants reply) ≡ call (worldIn l)
     given = d ∙ ap (λ (x : State). call (with-state l x)) s
 
-    pub call-made : {r : ℕ} {after : List ℕ} → (r ≡ n) × (after ≡ wordsAfter n (l .words) st′)
-        → outOf r len (lentOf after chunks map hashes trusted has wants reply) ≡ callOn l call
+    pub call-made : (m : ℕ) {r : ℕ} {after : List ℕ} → (r ≡ n) × (after ≡ wordsAfter n (l .words) st′)
+        → outOf r len (lentOf after chunks map hashes trusted has wants reply) ≡ callOn m l call
     unfolding callOn
-    call-made p = rw (le-ltb (length (l .words)) stateWords h, p .0, p .1) (ap (encoded l) given)
+    call-made m p = rw (le-ltb (length (l .words)) stateWords h, p .0, p .1) (ap (encoded l) given)
 
     pub beside-made : outOf n len (lentOf (l .words) chunks map hashes trusted has wants reply) ≡ callBeside l call
     unfolding callBeside
@@ -58,10 +59,38 @@ module _ (l : Lent) (call : World → Out World) where
 pub begun-same : {n len : ℕ} {l : Lent} {o : Out Lent} → outOf n len l ≡ o → begunOf n l ≡ begun o
 begun-same e = ap begun e
 
+-- a number found where the room for the state is too short
+pub begun-short : (l : Lent) (call : World → Out World) (n : ℕ) {r : ℕ} → r ≡ n → length (l .words) < stateWords → begunOf r l ≡ begun (callOn n l call)
+begun-short l call n e h = ap (λ (k : ℕ). begunOf k l) e ∙ begun-same (call-short l call n h)
+
 -- as the call with the root h, which the bytes have
 pub start-under : (l : Lent) (root : List ℕ) (L : ℕ) {h : HashValue} → h .words ≡ words 8 root
-    → {n len : ℕ} {after : Lent} → outOf n len after ≡ callOn l (λ w. startSpec w (record { root = h; length = L })) → begunOf n after ≡ startOn l root L
-start-under l root L e d = begun-same d ∙ ap (λ (u : List ℕ). begun (callOn l (λ w. startSpec w (record { root = record { words = u }; length = L })))) e
+    → {n len : ℕ} {after : Lent} → outOf n len after ≡ callOn (startShort L) l (λ w. startSpec w (record { root = h; length = L })) → begunOf n after ≡ startOn l root L
+start-under l root L e d =
+    begun-same d
+    ∙ ap (λ (u : List ℕ). begun (callOn (startShort L) l (λ w. startSpec w (record { root = record { words = u }; length = L })))) e
+
+module _ (L : ℕ) {n : ℕ} (e : n ≡ lengthAnswer L) where
+  pub start-refused : n ≢ 0 → n ≡ startShort L
+  unfolding startShort
+  start-refused d = rw (← e) (earlier-not n 11 d)
+
+  pub start-roomless : n ≡ 0 → 11 ≡ startShort L
+  unfolding startShort
+  start-roomless z = rw (← e, z)
+
+  module _ (k : ℕ) where
+    pub build-refused : n ≢ 0 → n ≡ buildShort L k
+    unfolding buildShort
+    build-refused d = rw (← e) (earlier-not n _ d)
+
+    pub build-other : n ≡ 0 → k ≢ L → 12 ≡ buildShort L k
+    unfolding buildShort
+    build-other z d = rw (← e, z, ne-eqb k L d)
+
+    pub build-roomless : n ≡ 0 → k ≡ L → 11 ≡ buildShort L k
+    unfolding buildShort
+    build-roomless z q = rw (← e, z, eq-eqb k L q)
 
 -- ---- asking
 

@@ -1,5 +1,8 @@
--- What the proofs of several functions cite.
+-- What the proofs of several functions cite, and demand 3 at the interface.
 pub mod StateLaws
 pub mod MessageLaws
 pub mod CallLaws
+pub mod RoundLaws
+pub mod LinkLaws
 pub mod SizeLaws
+pub mod Promise

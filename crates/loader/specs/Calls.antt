@@ -1,12 +1,13 @@
--- What the calls answer and leave: the entry point's equation of the crate channel, through decode and encode; before all
--- else 11 where the room for the state is too short. Assumes nothing.
+-- What the calls answer and leave: the entry point's equation of the crate channel, through decode and encode. A room for
+-- the state that is too short is refused with 11, and no other room is looked at then. Assumes nothing.
 use Prim.Native.Nat.{ℕ, zero, suc}
 use mathlib.Core.List.{List}
-use lib.Dec.{ltb}
+use mathlib.Core.Bool.{not}
+use lib.Dec.{ltb, eqb}
 use lib.ListN.{length}
 use Rattle.tree.specs.Pick.{pick}
 use Rattle.hash.proofs.Promise.{words}
-use Rattle.store.proofs.Promise.{Rooms, roomsOf}
+use Rattle.store.proofs.Promise.{Rooms, roomsOf, refuse, earlier, lengthAnswer}
 use Rattle.store.specs.declared.calls.Order.{Order}
 use Rattle.channel.specs.declared.state.State.{State}
 use Rattle.channel.proofs.Promise.{World, channelsOf, Out, outOf, startSpec, buildSpec, Asked, askSpec}
@@ -48,9 +49,9 @@ wordsAfter (suc n) w st = w
 abbrev pub encoded : Lent → Out World → Out Lent
 encoded l o = leaving (wordsAfter (o .answer) (l .words) (o .after .channels .state)) o
 
--- A call that may change the state, and one that leaves it.
-unfoldable pub callOn : Lent → (World → Out World) → Out Lent
-callOn l call = pick (ltb (length (l .words)) stateWords) (outOf 11 0 l) (encoded l (call (worldIn l)))
+-- A call that may change the state, and one that leaves it; n is the number where the room for the state is too short.
+unfoldable pub callOn : ℕ → Lent → (World → Out World) → Out Lent
+callOn n l call = pick (ltb (length (l .words)) stateWords) (outOf n 0 l) (encoded l (call (worldIn l)))
 
 unfoldable pub callBeside : Lent → (World → Out World) → Out Lent
 callBeside l call = pick (ltb (length (l .words)) stateWords) (outOf 11 0 l) (leaving (l .words) (call (worldIn l)))
@@ -71,11 +72,19 @@ begun o = begunOf (o .answer) (o .after)
 abbrev pub orderOf : List ℕ → ℕ → Order
 orderOf root L = record { root = record { words = words 8 root }; length = L }
 
+-- 12 for the order's length, then 11.
+unfoldable pub startShort : ℕ → ℕ
+startShort L = earlier (lengthAnswer L) 11
+
 abbrev pub startOn : Lent → List ℕ → ℕ → Begun
-startOn l root L = begun (callOn l (λ w. startSpec w (orderOf root L)))
+startOn l root L = begun (callOn (startShort L) l (λ w. startSpec w (orderOf root L)))
+
+-- 12 for the order's length and for content of another length, then 11.
+unfoldable pub buildShort : ℕ → ℕ → ℕ
+buildShort L n = earlier (lengthAnswer L) (refuse (not (eqb n L)) 12 11)
 
 abbrev pub buildOn : Lent → ℕ → List ℕ → Begun
-buildOn l L content = begun (callOn l (λ w. buildSpec w L content))
+buildOn l L content = begun (callOn (buildShort L (length content)) l (λ w. buildSpec w L content))
 
 -- ---- asking
 

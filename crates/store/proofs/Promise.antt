@@ -21,7 +21,8 @@ use Rattle.store.proofs.ShorterLaws as shorter
 pub use Rattle.verdict.specs.Room.{filler, hashIn}
 unfoldable pub use Rattle.verdict.specs.Room.{Digest}
 pub use Rattle.verdict.proofs.RoomLaws.{hash-length}
-pub use Rattle.store.proofs.AnswerLaws.{levels-small}
+pub use Rattle.store.proofs.AnswerLaws.{levels-small, places-small}
+pub use Rattle.store.proofs.ShorterLaws.{Enough}
 pub use Rattle.verdict.specs.Integrity.{Integrity, integrityOf}
 pub use Rattle.verdict.specs.Rooms.{Rooms, roomsOf, countOf, chunkIn, stateOf, SoundRooms}
 pub use Rattle.store.specs.Building.{rootOf}
@@ -56,7 +57,14 @@ both-zero = answers.both-zero
 pub order-accepted : (L b m h t : ℕ) → orderAnswer L b m h t ≡ 0 → (lengthAnswer L ≡ 0) × (roomAnswer L b m h t ≡ 0)
 order-accepted = accept.order-accepted
 
--- Neither for a shorter order.
+-- Neither in rooms that are large enough,
+pub order-enough : (L b m h t : ℕ) → lengthAnswer L ≡ 0 → Enough L b m h t → orderAnswer L b m h t ≡ 0
+order-enough = shorter.order-enough
+
+pub build-enough : (L b m h t n : ℕ) → lengthAnswer L ≡ 0 → n ≡ L → Enough L b m h t → buildAnswer L n b m h t ≡ 0
+build-enough = shorter.build-enough
+
+-- nor for a shorter order.
 pub order-shorter : (K L : ℕ) → K ≤ L → (b m h t : ℕ) → 0 < K → orderAnswer L b m h t ≡ 0 → orderAnswer K b m h t ≡ 0
 order-shorter = shorter.order-shorter
 

@@ -1,17 +1,40 @@
--- Rooms that do for an order do for a shorter one. Assumes nothing.
+-- Rooms of the sizes that an order needs do for it and for a shorter one. Assumes nothing.
 use mathlib.Core.Path.{_≡_, sym}
 use Prim.Native.Nat.{ℕ, _*_, _≤_, _<_}
 use native.Mathlib.Omega.{arith}
-use borrow.Author.Tests.{le-ltb, ltb-false}
-use lib.Dec.{ltb}
+use borrow.Author.Tests.{le-ltb, eq-eqb}
 use lib.Pow.{pow-mono}
 use Rattle.bits.proofs.Promise.{rowWords, row-least, row-words}
 use Rattle.tree.specs.Pack.{leafPlaces}
 use Rattle.tree.proofs.PackLaws.{levels-mono}
 use Rattle.verdict.specs.Rooms.{countOf}
 use Rattle.store.specs.Answers.{lengthAnswer, roomAnswer, orderAnswer}
-use Rattle.store.proofs.AnswerLaws.{passed, earlier-zero, length-right}
+use Rattle.store.specs.Calls.{buildAnswer}
+use Rattle.store.proofs.AnswerLaws.{earlier-zero, length-right, room-facts}
 use Rattle.store.proofs.AcceptLaws.{order-accepted, length-accepted}
+
+-- Rooms for an order of length L are large enough.
+abbrev pub Enough : ℕ → ℕ → ℕ → ℕ → ℕ → Type 0
+Enough L b m h t = (L ≤ b) × (rowWords (countOf L) ≤ m) × (16 * leafPlaces (countOf L) ≤ h) × (rowWords (2 * leafPlaces (countOf L)) ≤ t)
+
+module _ (L b m h t : ℕ) where
+  rooms-enough : Enough L b m h t → roomAnswer L b m h t ≡ 0
+  unfolding roomAnswer
+  rooms-enough p =
+      rw (
+        le-ltb b L (p .0),
+        le-ltb m (rowWords (countOf L)) (p .1),
+        le-ltb h (16 * leafPlaces (countOf L)) (p .2),
+        le-ltb t (rowWords (2 * leafPlaces (countOf L))) (p .3),
+      )
+
+  pub order-enough : lengthAnswer L ≡ 0 → Enough L b m h t → orderAnswer L b m h t ≡ 0
+  unfolding orderAnswer
+  order-enough z p = rw (earlier-zero (lengthAnswer L) (roomAnswer L b m h t) z) (rooms-enough p)
+
+  pub build-enough : (n : ℕ) → lengthAnswer L ≡ 0 → n ≡ L → Enough L b m h t → buildAnswer L n b m h t ≡ 0
+  unfolding buildAnswer
+  build-enough n z e p = rw (z, eq-eqb n L e) (rooms-enough p)
 
 -- A row of fewer bits has no more words.
 pub row-mono : (m n : ℕ) → m ≤ n → rowWords m ≤ rowWords n
@@ -25,24 +48,12 @@ module _ (K L : ℕ) (l : K ≤ L) where
   places-mono : leafPlaces (countOf K) ≤ leafPlaces (countOf L)
   places-mono = pow-mono (levels-mono (countOf K) (countOf L) count-mono)
 
-  module _ (b m h t : ℕ) where
-    rooms-shorter : roomAnswer L b m h t ≡ 0 → roomAnswer K b m h t ≡ 0
-    unfolding roomAnswer
-    rooms-shorter e =
-        let p = passed (ltb b L) 10 _ e in
-        let q = passed (ltb m (rowWords (countOf L))) 10 _ (p .1) in
-        let r = passed (ltb h (16 * leafPlaces (countOf L))) 10 _ (q .1) in
-        let s = passed (ltb t (rowWords (2 * leafPlaces (countOf L)))) 10 0 (r .1) in
-        rw (
-          le-ltb b K (omega (arith, ltb-false b L (p .0))),
-          le-ltb m (rowWords (countOf K)) (omega (arith, ltb-false m (rowWords (countOf L)) (q .0), row-mono (countOf K) (countOf L) count-mono)),
-          le-ltb h (16 * leafPlaces (countOf K)) (omega (arith, ltb-false h (16 * leafPlaces (countOf L)) (r .0), places-mono)),
-          le-ltb t (rowWords (2 * leafPlaces (countOf K))) (omega (arith, ltb-false t (rowWords (2 * leafPlaces (countOf L))) (s .0), row-mono (2 * leafPlaces (countOf K)) (2 * leafPlaces (countOf L)) (omega (arith, places-mono)))),
-        )
-
-    pub order-shorter : 0 < K → orderAnswer L b m h t ≡ 0 → orderAnswer K b m h t ≡ 0
-    unfolding orderAnswer
-    order-shorter some e =
-        let p = order-accepted L b m h t e in
-        let q = length-accepted L (p .0) in
-        rw (earlier-zero (lengthAnswer K) (roomAnswer K b m h t) (sym (length-right K (λ z. omega arith) (omega arith)))) (rooms-shorter (p .1))
+  pub order-shorter : (b m h t : ℕ) → 0 < K → orderAnswer L b m h t ≡ 0 → orderAnswer K b m h t ≡ 0
+  order-shorter b m h t some e =
+      let p = order-accepted L b m h t e in
+      let q = length-accepted L (p .0) in
+      let f = room-facts L b m h t (p .1) in
+      let r = row-mono (countOf K) (countOf L) count-mono in
+      let s = row-mono (2 * leafPlaces (countOf K)) (2 * leafPlaces (countOf L)) (omega (arith, places-mono)) in
+      order-enough K b m h t (sym (length-right K (λ z. omega arith) (omega arith)))
+      (omega (arith, f .0), omega (arith, f .1, r), omega (arith, f .2, places-mono), omega (arith, f .3, s))

@@ -1,11 +1,10 @@
-// The words of a message and of a layout.
+// The words of a layout.
 ghost use mathlib.Core.Path.{_≡_};
 ghost use Prim.Native.Nat.{_≤_};
 ghost use lib.ListN.{length};
 ghost use lib.Seq.{sets};
-ghost use Rattle.wire_c.specs.Words.{kindOf, rootOf, messageWords, layoutPut};
+ghost use Rattle.wire_c.specs.Words.{kindOf, rootOf, layoutPut};
 use wire::layout::Layout;
-use wire::message::Message;
 use wire::message::Options;
 
 fn kind(options: Options) -> u64
@@ -28,34 +27,7 @@ fn root(options: Options) -> u64
     }
 }
 
-// A message's words, and the place behind it.
-pub fn of_message(message: Message, next: usize) -> [u64; 6]
-    ensures { λ r. ⌜ r ≡ messageWords message next ⌝ }
-{
-    let n = next as u64;
-    match message {
-        Message::Handshake { source, options } => {
-            [0, source as u64, kind(options), root(options), 0, n]
-        }
-        Message::Data {
-            chunk,
-            timestamp,
-            start,
-            len,
-        } => [1, chunk as u64, timestamp, start as u64, len as u64, n],
-        Message::Ack { first, last, delay } => [2, first as u64, last as u64, delay, 0, n],
-        Message::Have { first, last } => [3, first as u64, last as u64, 0, 0, n],
-        Message::Integrity { first, last, hash } => {
-            [4, first as u64, last as u64, hash as u64, 0, n]
-        }
-        Message::Request { first, last } => [8, first as u64, last as u64, 0, 0, n],
-        Message::Cancel { first, last } => [9, first as u64, last as u64, 0, 0, n],
-        Message::Choke => [10, 0, 0, 0, 0, n],
-        Message::Unchoke => [11, 0, 0, 0, 0, n],
-    }
-}
-
-pub fn put(out: &mut [u64], words: [u64; 6])
+fn put(out: &mut [u64], words: [u64; 6])
     requires { ⌜ 6 ≤ length (now out) ⌝ }
     ensures { λ _. ⌜ now (out .exit) ≡ sets (now (out .entry)) 0 words ⌝ }
 {
