@@ -1,0 +1,98 @@
+//! The store with which this program follows an input.
+
+use crate::effects;
+use crate::frame::Frame;
+use crate::known::{Known, Told};
+use crate::reason::Case;
+use ppspp::{destination, Channel, Order, Store};
+use std::collections::BTreeMap;
+
+/// A store, and the ID for its next channel.
+pub struct Follower {
+    order: Order,
+    store: Store,
+    /// Passed with each datagram; rises by one with each channel opened.
+    id: u32,
+    /// The channels that were closed, each with the line that did it.
+    closed: BTreeMap<u32, usize>,
+}
+
+/// What the library answers to a datagram.
+pub struct Turn {
+    /// What the store knew before it.
+    known: Known,
+    /// The number.
+    pub number: u8,
+    /// The reply.
+    pub reply: Vec<u8>,
+    /// The channel that it was for.
+    pub channel: Option<Channel>,
+    /// What it did, if it was taken.
+    pub effects: Vec<String>,
+}
+
+impl Follower {
+    /// One with an empty store.
+    pub fn new(order: Order, store: Store) -> Follower {
+        Follower {
+            order,
+            store,
+            id: 1,
+            closed: BTreeMap::new(),
+        }
+    }
+
+    /// Takes in the datagram of a line.
+    pub fn take(&mut self, line: usize, frame: &Frame) -> Turn {
+        let datagram = &frame.datagram[..];
+        let known = Known::of(&self.store, self.order);
+        let to = destination(datagram);
+        let channel = to.and_then(|id| known.channel(id));
+        let told = channel.map(|channel| Told::of(&self.store, channel.row, known.n));
+        let answer = self.store.take(frame.clock, self.id, datagram);
+        let answer = answer.map(<[u8]>::to_vec);
+        let (number, reply) = match answer {
+            Ok(reply) => (0, reply),
+            // At most 14.
+            Err(refusal) => (refusal.number() as u8, Vec::new()),
+        };
+        let mut effects = Vec::new();
+        if number == 0 {
+            effects = effects::of(datagram, &known, told.as_ref(), &self.store);
+            self.count_channels(line, to, channel);
+        }
+        Turn {
+            known,
+            number,
+            reply,
+            channel,
+            effects,
+        }
+    }
+
+    /// Takes note of a channel that a datagram opened or closed.
+    fn count_channels(&mut self, line: usize, to: Option<u32>, before: Option<Channel>) {
+        // A datagram to channel 0 is taken only where it opens a channel.
+        if to == Some(0) {
+            self.id = self.id.wrapping_add(1);
+        }
+        let gone = before.filter(|channel| self.store.channel(channel.id).is_none());
+        self.closed.extend(gone.map(|channel| (channel.id, line)));
+    }
+
+    /// Why a datagram got a number, as far as it can be told.
+    pub fn reason(&self, turn: &Turn, frame: &Frame, number: u8) -> Option<String> {
+        let case = Case {
+            datagram: &frame.datagram,
+            known: &turn.known,
+            hashes: self.store.view().hashes,
+            closed: &self.closed,
+        };
+        case.reason(number)
+    }
+
+    /// The store.
+    pub fn store(&self) -> &Store {
+        &self.store
+    }
+}

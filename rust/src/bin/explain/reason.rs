@@ -1,0 +1,158 @@
+//! Why a datagram got its number, as far as it can be told. What is said holds, whichever number the library gives.
+
+use crate::known::Known;
+use crate::layout;
+use crate::messages;
+use crate::options;
+use crate::proof::Proof;
+use crate::words::{self, count, counted};
+use ppspp::sizes::{CHANNELS, MAX_DATAGRAM, MIN_DATAGRAM};
+use ppspp::{destination, Message};
+use std::collections::BTreeMap;
+
+/// The place of the options in a datagram that is a HANDSHAKE: behind the destination, the type and the source.
+const OPTIONS: usize = 9;
+
+/// A datagram, and what was known before it.
+pub struct Case<'a> {
+    /// The datagram.
+    pub datagram: &'a [u8],
+    /// What the store knew before it.
+    pub known: &'a Known,
+    /// The words of the store's hash room.
+    pub hashes: &'a [u32],
+    /// The channels that were closed, each with the line that did it.
+    pub closed: &'a BTreeMap<u32, usize>,
+}
+
+impl Case<'_> {
+    /// Why a number is given; none where that cannot be told, or is not so.
+    pub fn reason(&self, number: u8) -> Option<String> {
+        let length = self.datagram.len();
+        if !(MIN_DATAGRAM..=MAX_DATAGRAM).contains(&length) {
+            return (number == 1).then(|| format!("it has {}", counted(length, "byte")));
+        }
+        if let Some(fault) = layout::fault(self.datagram) {
+            return (fault.number == number).then(|| fault.sentence());
+        }
+        match number {
+            3 => self.new_source(),
+            4 => self.other_options(),
+            5 => self.no_channel(),
+            6 => self.no_free_row(),
+            7 => self.range_past(),
+            8..=10 if self.range_past().is_none() => self.chunk(number),
+            _ => None,
+        }
+    }
+
+    /// The datagram's destination.
+    fn destination(&self) -> u32 {
+        destination(self.datagram).unwrap_or_default()
+    }
+
+    /// The messages.
+    fn messages(&self) -> impl Iterator<Item = Message<'_>> {
+        let read = ppspp::messages(self.datagram).flatten();
+        read.map(|(_, message)| message)
+    }
+
+    /// The source of a HANDSHAKE, which is alone.
+    fn source(&self) -> Option<u32> {
+        self.messages().find_map(|message| match message {
+            Message::Handshake { source, .. } => Some(source),
+            _ => None,
+        })
+    }
+
+    /// 3: a HANDSHAKE from a new source to an open channel.
+    fn new_source(&self) -> Option<String> {
+        let source = self.source()?;
+        let channel = self.known.channel(self.destination())?;
+        let (id, peer) = (channel.id, channel.peer);
+        (source != 0 && source != peer).then(|| {
+            format!(
+                "channel {id} is open to the peer's channel {peer}, not to its channel {source}"
+            )
+        })
+    }
+
+    /// 4: options that are missing or others.
+    fn other_options(&self) -> Option<String> {
+        self.source().filter(|&source| source != 0)?;
+        options::difference(self.datagram.get(OPTIONS..)?, &self.known.order.root)
+    }
+
+    /// 5: a destination that is no channel of ours.
+    fn no_channel(&self) -> Option<String> {
+        let id = self.destination();
+        if id == 0 {
+            let opens = self.source().is_some();
+            return (!opens).then(|| "only a HANDSHAKE may go to channel 0".to_string());
+        }
+        if self.known.channel(id).is_some() {
+            return None;
+        }
+        let closed = self.closed.get(&id);
+        let why = match closed {
+            Some(line) => format!("channel {id} was closed by line {line}"),
+            None => format!("there was never a channel {id}"),
+        };
+        Some(format!("{why}; {}", self.open_channels()))
+    }
+
+    /// The open channels in words.
+    fn open_channels(&self) -> String {
+        let each = self.known.channels.iter();
+        let each = each.map(|channel| format!("{} (peer {})", channel.id, channel.peer));
+        let each: Vec<String> = each.collect();
+        if each.is_empty() {
+            return "none is open".to_string();
+        }
+        format!("open: {}", each.join(", "))
+    }
+
+    /// 6: no row for a new channel.
+    fn no_free_row(&self) -> Option<String> {
+        let source = self.source()?;
+        let full = self.known.channels.len() == CHANNELS as usize;
+        (full && self.destination() == 0).then(|| {
+            let open = self.open_channels();
+            format!("no row is free for the peer's channel {source}; {open}")
+        })
+    }
+
+    /// 7: the first range past the pack.
+    fn range_past(&self) -> Option<String> {
+        let n = self.known.n;
+        let past = self
+            .messages()
+            .find(|message| messages::range(message).is_some_and(|(_, last)| last >= n))?;
+        let (first, last) = messages::range(&past)?;
+        let (name, chunks) = (messages::name(&past), words::chunks(first, last));
+        Some(format!(
+            "{name} of {chunks} runs past the pack, whose last chunk is {}",
+            n - 1
+        ))
+    }
+
+    /// 8, 9 and 10: DATA for a chunk of the pack.
+    fn chunk(&self, number: u8) -> Option<String> {
+        let (chunk, came) = self.messages().find_map(|message| match message {
+            Message::Data { chunk, bytes, .. } => Some((chunk, bytes.len())),
+            _ => None,
+        })?;
+        let wanted = self.known.chunk_length(chunk);
+        if came != wanted {
+            let (came, wanted) = (counted(came, "byte"), count(wanted));
+            return (number == 8)
+                .then(|| format!("chunk {chunk} came with {came}, it has {wanted}"));
+        }
+        let proof = Proof::of(self.known, self.hashes, self.datagram)?;
+        match number {
+            9 => proof.incomplete(),
+            10 => proof.wrong(),
+            _ => None,
+        }
+    }
+}
