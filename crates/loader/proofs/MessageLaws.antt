@@ -12,7 +12,7 @@ use Rattle.wire.specs.declared.message.Message.{Message}
 use Rattle.wire.specs.declared.message.Message.the-variants.{Handshake, Data, Ack, Have, Integrity, Request, Cancel, Choke, Unchoke}
 use Rattle.wire.specs.declared.message.Step.{Step}
 use Rattle.wire.specs.declared.message.Step.the-variants.{Read, End, Refused}
-use Rattle.loader.specs.Message.{optionsFor, unwritable, dataFor, messageFor, optionsNumber, rootPlace, rootSize, numbersOf, foundOf, foundIn, readOn}
+use Rattle.loader.specs.Message.{optionsFor, unwritable, dataFor, messageFor, optionsNumber, rootPlace, rootSize, numbersOf, messageIn, optionsAtFront, atFront, foundOf, foundIn, readOn}
 
 -- ---- to be added
 
@@ -99,3 +99,24 @@ module _ (s : List ℕ) (at : ℕ) (old : List ℕ) {t : Step} (e : t ≡ stepAt
 
   pub found-refused : t ≡ Refused → foundOf 2 old ≡ readOn s at old
   found-refused d = found d
+
+-- ---- read, then to be added
+
+options-back : (o : Options) → optionsFor (optionsNumber o) ≡ optionsAtFront o
+unfolding optionsFor
+options-back EndOnly = refl
+options-back (Fixed root) = refl
+options-back Other = refl
+
+-- The numbers of a message that was read are those of that message, but for the place of its bytes.
+pub message-back : (m : Message) (next : ℕ) → messageIn (numbersOf m next) ≡ atFront m
+unfolding messageFor
+message-back (Handshake source o) next = ap (Handshake source) (options-back o)
+message-back (Data c timestamp start n) next = sym (data-one c c timestamp n refl)
+message-back (Ack f l delay) next = refl
+message-back (Have f l) next = refl
+message-back (Integrity f l hash) next = refl
+message-back (Request f l) next = refl
+message-back (Cancel f l) next = refl
+message-back Choke next = refl
+message-back Unchoke next = refl

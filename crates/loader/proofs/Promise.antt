@@ -9,9 +9,11 @@ use Rattle.channel.proofs.Promise.{Shaped, Call, demand-3}
 use Rattle.wire.specs.declared.message.Message.{Message}
 use Rattle.loader.specs.State.{stateWords, stateIn, statePut}
 use Rattle.loader.specs.Calls.{Lent, startOn, buildOn}
+use Rattle.loader.specs.Message.{numbersOf, messageIn, atFront}
 use Rattle.loader.specs.Sizes.{Suffice}
 use Rattle.loader.specs.Run.{BegunIn, started, built, DemandIn}
 use Rattle.loader.proofs.RoundLaws as round
+use Rattle.loader.proofs.MessageLaws as message
 use Rattle.loader.proofs.LinkLaws as link
 use Rattle.loader.proofs.SizeLaws as sizes
 
@@ -19,6 +21,11 @@ use Rattle.loader.proofs.SizeLaws as sizes
 
 pub state-back : (w : List ℕ) (st : State) → stateWords ≤ length w → Shaped st → stateIn (statePut w st) ≡ st
 state-back = round.state-back
+
+-- ---- the numbers of a message that was read are those of that message, its hash, chunk or root at the front of the bytes
+
+pub message-back : (m : Message) (next : ℕ) → messageIn (numbersOf m next) ≡ atFront m
+message-back = message.message-back
 
 -- ---- demand 3, of every list of calls through the interface
 

@@ -3,6 +3,7 @@
 use Prim.Native.Nat.{ℕ}
 use mathlib.Core.List.{List, [], _∷_}
 use lib.Dec.{eqb}
+use lib.ListN.{getD}
 use Rattle.tree.specs.Pick.{pick}
 use Rattle.wire.proofs.Promise.{stepAt}
 use Rattle.wire.specs.declared.message.Options.{Options}
@@ -69,6 +70,26 @@ numbersOf (Request f l) next = 8 ∷ f ∷ l ∷ 0 ∷ 0 ∷ 0 ∷ next ∷ []
 numbersOf (Cancel f l) next = 9 ∷ f ∷ l ∷ 0 ∷ 0 ∷ 0 ∷ next ∷ []
 numbersOf Choke next = 10 ∷ 0 ∷ 0 ∷ 0 ∷ 0 ∷ 0 ∷ next ∷ []
 numbersOf Unchoke next = 11 ∷ 0 ∷ 0 ∷ 0 ∷ 0 ∷ 0 ∷ next ∷ []
+
+-- The message that such numbers are added as, and a message with its hash, chunk or root at the front of the bytes.
+abbrev pub messageIn : List ℕ → Message
+messageIn w = messageFor (getD w 0 0) (getD w 1 0) (getD w 2 0) (getD w 3 0) (getD w 5 0)
+
+abbrev pub optionsAtFront : Options → Options
+optionsAtFront EndOnly = EndOnly
+optionsAtFront (Fixed root) = Fixed 0
+optionsAtFront Other = Other
+
+abbrev pub atFront : Message → Message
+atFront (Handshake source o) = Handshake source (optionsAtFront o)
+atFront (Data c timestamp start n) = Data c timestamp 0 n
+atFront (Ack f l delay) = Ack f l delay
+atFront (Have f l) = Have f l
+atFront (Integrity f l hash) = Integrity f l 0
+atFront (Request f l) = Request f l
+atFront (Cancel f l) = Cancel f l
+atFront Choke = Choke
+atFront Unchoke = Unchoke
 
 -- What stands at a place: 0 for the end, 1 for a message with its numbers, 2 for what is refused.
 pub record Found : Type 0 where
