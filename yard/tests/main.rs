@@ -1,0 +1,12 @@
+//! The package's tests. What is wanted is published, worked out by hand, or follows from what was sent.
+
+mod arguments;
+mod bits;
+mod checks;
+mod plot;
+mod program;
+mod radio;
+mod random;
+mod record;
+mod runs;
+mod support;
