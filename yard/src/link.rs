@@ -46,6 +46,8 @@ pub struct Former {
     pub peer: u32,
     /// The peer's address.
     pub address: usize,
+    /// How often the peer was told so since.
+    pub told: u32,
 }
 
 impl Link {
@@ -80,6 +82,7 @@ impl Link {
             id: self.id,
             peer: self.peer,
             address: self.address,
+            told: 0,
         }
     }
 

@@ -22,8 +22,8 @@ pub struct Node {
     pub store: Store,
     /// Whether it has power.
     pub present: bool,
-    /// Whether it is to look for a chunk to send.
-    pub awake: bool,
+    /// Whether it is to look for a chunk to send, as soon as its transmitter is free.
+    pub serve_soon: bool,
     /// Whether its transmitter is planned to be given a chunk.
     pub serving: bool,
     /// The held counts at which its power fails, the next one last.
@@ -36,8 +36,8 @@ pub struct Node {
     pub(crate) asks: BTreeMap<u32, Ask>,
     /// Until when each address is not called.
     pub(crate) avoid: Vec<u64>,
-    /// Whether there was a channel with each address.
-    pub(crate) met: Vec<bool>,
+    /// Whether each address was called before.
+    pub(crate) called_before: Vec<bool>,
     /// When the next newcomer is let in.
     pub(crate) next_newcomer: u64,
     /// The link after which the next chunk is looked for.
@@ -52,7 +52,7 @@ impl Node {
             number,
             store,
             present: true,
-            awake: false,
+            serve_soon: false,
             serving: false,
             failures: Vec::new(),
             order,
@@ -61,7 +61,7 @@ impl Node {
             former: VecDeque::new(),
             asks: BTreeMap::new(),
             avoid: vec![0; nodes],
-            met: vec![false; nodes],
+            called_before: vec![false; nodes],
             next_newcomer: 0,
             turn: 0,
         }
@@ -84,19 +84,19 @@ impl Node {
         self.former.clear();
         self.asks.clear();
         self.avoid.fill(0);
-        self.met.fill(false);
+        self.called_before.fill(false);
         self.present = true;
     }
 
     /// What a node does from time to time.
     pub fn tick(&mut self, context: &mut Context<'_>) {
-        self.tend_rows(context);
+        self.look_after_rows(context);
         if !self.is_whole() {
             self.call_a_partner(context);
             self.ask_for_chunks(context);
         }
         self.announce(context);
-        self.awake = true;
+        self.serve_soon = true;
     }
 
     /// Takes in a datagram that arrived, whoever sent it, and sends the reply.
@@ -106,7 +106,7 @@ impl Node {
         let answer = self.take(context, id, &datagram.bytes, datagram.origin);
         let stored = answer.stored;
         match (answer.reply, caller) {
-            (Ok(reply), Some(_)) => self.welcome(context, id, datagram.from, reply),
+            (Ok(reply), Some(_)) => self.add_caller(context, id, datagram.from, reply),
             (Ok(reply), None) => self.follow(context, &datagram.bytes, stored, reply),
             (Err(Refusal::Id), Some(source)) => self.answer_again(context, datagram.from, source),
             (Err(Refusal::NoChannel), _) => self.tell_closed(context, &datagram.bytes),
@@ -115,7 +115,7 @@ impl Node {
         stored
     }
 
-    /// Has the store take in a datagram, under the record's eyes.
+    /// Has the store take in a datagram; the record counts it and compares what is stored.
     pub(crate) fn take(
         &mut self,
         context: &mut Context<'_>,
@@ -178,7 +178,7 @@ impl Node {
         let asks = |found| matches!(found, Ok((_, Message::Request { .. })));
         if messages(bytes).any(asks) {
             link.asked = Some(now);
-            self.awake = true;
+            self.serve_soon = true;
         }
     }
 

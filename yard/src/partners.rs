@@ -30,8 +30,8 @@ impl Node {
         let handshake = opened.expect("a row is kept for our own calls");
         let tally = &mut context.record.tally;
         tally.called += 1;
-        tally.reopened += u64::from(self.met[address]);
-        self.met[address] = true;
+        tally.reopened += u64::from(self.called_before[address]);
+        self.called_before[address] = true;
         let link = Link::new(id, address, true, context.now, self.words());
         self.links.push(link);
         context.send(address, handshake);

@@ -23,7 +23,7 @@ pub struct Ask {
 }
 
 /// What is to be sent on a channel: the chunks to ask for, and those to cancel, as rows of bits.
-struct Letter {
+struct Batch {
     request: Vec<u32>,
     cancel: Vec<u32>,
 }
@@ -32,22 +32,22 @@ impl Node {
     /// Sends requests: those that wait too long once more, then new ones up to the window of each partner.
     pub(crate) fn ask_for_chunks(&mut self, context: &mut Context<'_>) {
         let words = self.words();
-        let letter = || Letter {
+        let batch = || Batch {
             request: vec![0; words],
             cancel: vec![0; words],
         };
-        let mut letters: BTreeMap<u32, Letter> = BTreeMap::new();
+        let mut batches: BTreeMap<u32, Batch> = BTreeMap::new();
         for (id, chunk) in self.overdue(context) {
-            bits::set(&mut letters.entry(id).or_insert_with(letter).request, chunk);
+            bits::set(&mut batches.entry(id).or_insert_with(batch).request, chunk);
         }
-        for (id, chunk) in self.hopeless(context.now) {
-            bits::set(&mut letters.entry(id).or_insert_with(letter).cancel, chunk);
+        for (id, chunk) in self.given_up(context.now) {
+            bits::set(&mut batches.entry(id).or_insert_with(batch).cancel, chunk);
         }
         for (id, chunk) in self.new_asks(context.now) {
-            bits::set(&mut letters.entry(id).or_insert_with(letter).request, chunk);
+            bits::set(&mut batches.entry(id).or_insert_with(batch).request, chunk);
         }
-        for (id, letter) in letters {
-            self.send_letter(context, id, &letter);
+        for (id, batch) in batches {
+            self.send_batch(context, id, &batch);
         }
     }
 
@@ -65,16 +65,16 @@ impl Node {
     }
 
     /// The requests that are given up.
-    fn hopeless(&mut self, now: u64) -> Vec<(u32, u32)> {
-        let mut hopeless = Vec::new();
+    fn given_up(&mut self, now: u64) -> Vec<(u32, u32)> {
+        let mut given_up = Vec::new();
         self.asks.retain(|&chunk, ask| {
             let keep = now < ask.at + ASK_AGAIN;
             if !keep {
-                hopeless.push((ask.id, chunk));
+                given_up.push((ask.id, chunk));
             }
             keep
         });
-        hopeless
+        given_up
     }
 
     /// New requests, for chunks that are asked of nobody.
@@ -107,15 +107,15 @@ impl Node {
     }
 
     /// Sends a channel's CANCELs and REQUESTs.
-    fn send_letter(&mut self, context: &mut Context<'_>, id: u32, letter: &Letter) {
+    fn send_batch(&mut self, context: &mut Context<'_>, id: u32, batch: &Batch) {
         let Some(link) = self.links.iter().find(|link| link.id == id) else {
             return;
         };
         let (address, Some(channel)) = (link.address, self.open_channel(link)) else {
             return;
         };
-        let cancels = bits::runs(&letter.cancel).into_iter();
-        let requests = bits::runs(&letter.request).into_iter();
+        let cancels = bits::runs(&batch.cancel).into_iter();
+        let requests = bits::runs(&batch.request).into_iter();
         let messages: Vec<Message> = cancels
             .map(|(first, last)| Message::Cancel { first, last })
             .chain(requests.map(|(first, last)| Message::Request { first, last }))

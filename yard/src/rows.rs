@@ -17,14 +17,14 @@
 
 use crate::context::Context;
 use crate::datagram::Origin;
-use crate::link::Link;
+use crate::link::{Former, Link};
 use crate::node::Node;
-use crate::timing::{AVOID, CALLS, CALL_AGAIN, CHOKED, FORMER, IDLE, PROBATION, SILENT};
+use crate::timing::{AVOID, CALLS, CALL_AGAIN, CHOKED, FORMER, IDLE, PROBATION, SILENT, TELLINGS};
 use ppspp::{destination, messages, Message, Options};
 
 impl Node {
     /// Calls again, gives up calls, and closes what is of no use.
-    pub(crate) fn tend_rows(&mut self, context: &mut Context<'_>) {
+    pub(crate) fn look_after_rows(&mut self, context: &mut Context<'_>) {
         let whole = self.is_whole();
         // From the last to the first, since a link may be removed.
         for at in (0..self.links.len()).rev() {
@@ -76,18 +76,22 @@ impl Node {
     }
 
     /// Tells a peer that the channel on which it sends is closed. A HANDSHAKE gets no such answer, else two nodes
-    /// could tell each other for ever.
+    /// could tell each other for ever; and it is told a few times only, since it may be the attacker who sends.
     pub(crate) fn tell_closed(&mut self, context: &mut Context<'_>, bytes: &[u8]) {
         if let Some(Ok((_, Message::Handshake { .. }))) = messages(bytes).next() {
             return;
         }
         let id = destination(bytes);
-        let mut former = self.former.iter();
-        let Some(&former) = former.find(|former| Some(former.id) == id && former.peer != 0) else {
+        let due = |former: &&mut Former| {
+            Some(former.id) == id && former.peer != 0 && former.told < TELLINGS
+        };
+        let Some(former) = self.former.iter_mut().find(due) else {
             return;
         };
-        for datagram in self.compose(former.peer, &[Message::CLOSING]) {
-            context.send(former.address, datagram);
+        former.told += 1;
+        let Former { peer, address, .. } = *former;
+        for datagram in self.compose(peer, &[Message::CLOSING]) {
+            context.send(address, datagram);
         }
     }
 

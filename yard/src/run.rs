@@ -176,7 +176,7 @@ impl Yard {
             self.send(datagram);
         }
         let node = &mut self.nodes[number];
-        if std::mem::take(&mut node.awake) && !node.serving {
+        if std::mem::take(&mut node.serve_soon) && !node.serving {
             node.serving = true;
             let free = self.radio.free_at(number).max(self.now);
             self.events.plan(free, Event::Serve(number));

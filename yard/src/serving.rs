@@ -6,7 +6,7 @@
 use crate::bits;
 use crate::context::Context;
 use crate::link::Link;
-use crate::node::Node;
+use crate::node::{Node, SERVER};
 use crate::timing::SEND_AGAIN;
 
 impl Node {
@@ -44,7 +44,10 @@ impl Node {
         let datagram = written
             .expect("the chunk is held and the channel open")
             .to_vec();
-        context.record.tally.chunks_sent += 1;
+        match self.number {
+            SERVER => context.record.tally.chunks_by_server += 1,
+            _ => context.record.tally.chunks_by_vans += 1,
+        }
         if link.sent.insert(chunk, context.now).is_some() {
             context.record.tally.chunks_again += 1;
         }

@@ -1,14 +1,14 @@
 //! The summary of a run: what was sent, how it was answered, what was stored, and whether every check holds.
 
 use crate::checks::Verdict;
-use crate::datagram::{Attack, Origin};
+use crate::datagram::Origin;
+use crate::node::SERVER;
 use crate::random::Rate;
 use crate::record::Record;
 use crate::run::{Settings, Yard};
 use crate::tally::ANSWERS;
 use crate::timing::SECOND;
 use ppspp::Refusal;
-use std::fmt::Write;
 use std::time::Duration;
 
 /// Whether every van is whole, and every check holds.
@@ -60,18 +60,18 @@ fn per_cent(rate: Rate) -> String {
 
 /// Lines of words and numbers under a heading.
 fn lines(text: &mut String, heading: &str, lines: &[(&str, u64)]) {
-    writeln!(text, "{heading}").expect("a string takes all");
+    *text += &format!("{heading}\n");
     for (words, number) in lines {
-        writeln!(text, "  {words:<46}{number:>10}").expect("a string takes all");
+        *text += &format!("  {words:<46}{number:>10}\n");
     }
     text.push('\n');
 }
 
 fn times(text: &mut String, yard: &Yard, wall: Duration) {
     let (seconds, rest) = (yard.now / SECOND, yard.now % SECOND);
-    writeln!(text, "simulated time {seconds}.{rest:06} s").expect("a string takes all");
-    writeln!(text, "wall time      {:.3} s", wall.as_secs_f64()).expect("a string takes all");
-    writeln!(text, "trace          {:016x}\n", yard.record.trace).expect("a string takes all");
+    *text += &format!("simulated time {seconds}.{rest:06} s\n");
+    *text += &format!("wall time      {:.3} s\n", wall.as_secs_f64());
+    *text += &format!("trace          {:016x}\n\n", yard.record.trace);
 }
 
 fn radio(text: &mut String, yard: &Yard) {
@@ -93,51 +93,49 @@ fn radio(text: &mut String, yard: &Yard) {
 
 /// How often each number was answered, with its words.
 fn answers(text: &mut String, record: &Record) {
-    text.push_str("Answers to datagrams, the loader's own included\n");
+    *text += "Answers to datagrams, the loader's own included\n";
     for number in 0..ANSWERS {
         let times = record.tally.sum(|_| true, |taken| taken.answers[number]);
-        let words = match Refusal::of(number as u32) {
-            Some(refusal) => refusal.to_string(),
-            None => "done".into(),
-        };
-        writeln!(text, "  {number:>2} {times:>9}  {words}").expect("a string takes all");
+        let refusal = Refusal::of(number as u32);
+        let words = refusal.map_or("done".into(), |refusal| refusal.to_string());
+        *text += &format!("  {number:>2} {times:>9}  {words}\n");
     }
     text.push('\n');
 }
 
 /// The same by origin, and what was stored.
 fn origins(text: &mut String, record: &Record) {
-    let mut row = |words: &str, cells: &[String]| {
-        write!(text, "{words:<26}").expect("a string takes all");
-        for (cell, width) in cells.iter().zip(WIDTHS) {
-            write!(text, "{cell:>width$}").expect("a string takes all");
-        }
-        text.push('\n');
-    };
     let numbers = (0..ANSWERS).map(|number| number.to_string());
     let heads = numbers.chain(["true".into(), "false".into()]);
-    row("Answers by origin", &heads.collect::<Vec<_>>());
+    row(text, "Answers by origin", heads);
     for origin in Origin::all() {
         let taken = record.tally.taken(origin);
-        let cells = taken
-            .answers
-            .iter()
-            .chain([&taken.stored, &taken.stored_bad]);
-        let cells: Vec<String> = cells.map(u64::to_string).collect();
-        row(&format!("  {}", origin.words()), &cells);
+        let stored = [&taken.stored, &taken.stored_bad];
+        let cells = taken.answers.iter().chain(stored).map(u64::to_string);
+        row(text, &format!("  {}", origin.words()), cells);
     }
-    text.push_str("  (true, false: chunks stored with the pack's bytes, and with others)\n\n");
+    *text += "  (true, false: chunks stored with the pack's bytes, and with others)\n\n";
 }
 
 /// The widths of the columns of the answers by origin.
-const WIDTHS: [usize; ANSWERS + 2] = [8, 6, 7, 6, 6, 7, 6, 6, 6, 6, 6, 4, 4, 4, 6, 8, 6];
+const WIDTHS: [usize; ANSWERS + 2] = [8, 6, 7, 6, 6, 7, 6, 6, 6, 6, 7, 4, 4, 4, 6, 8, 6];
+
+/// A row of the answers by origin.
+fn row(text: &mut String, words: &str, cells: impl Iterator<Item = String>) {
+    *text += &format!("{words:<26}");
+    for (cell, width) in cells.zip(WIDTHS) {
+        *text += &format!("{cell:>width$}");
+    }
+    text.push('\n');
+}
 
 fn nodes(text: &mut String, yard: &Yard) {
     let tally = &yard.record.tally;
     let done = [
         ("chunks stored", tally.sum(|_| true, |taken| taken.stored)),
         ("chunks acknowledged", tally.acknowledged),
-        ("chunks sent", tally.chunks_sent),
+        ("chunks sent by the server", tally.chunks_by_server),
+        ("chunks sent by vans", tally.chunks_by_vans),
         ("retransmissions", tally.retransmissions()),
         ("  of chunks", tally.chunks_again),
         ("  of requests for a chunk", tally.requests_again),
@@ -148,7 +146,7 @@ fn nodes(text: &mut String, yard: &Yard) {
         ("channels opened for a caller", tally.answered),
         ("channels closed by the loader", tally.closed),
         (
-            "channels closed by a peer or the attacker",
+            "channels closed by peers or the attacker",
             tally.closed_by_peer,
         ),
         ("calls given up", tally.given_up),
@@ -157,45 +155,28 @@ fn nodes(text: &mut String, yard: &Yard) {
 }
 
 fn checks(text: &mut String, yard: &Yard) {
-    let tally = &yard.record.tally;
+    let (tally, verdicts) = (&yard.record.tally, yard.verdicts());
     let attacker = |origin| matches!(origin, Origin::Attacker(_));
-    let verdicts = yard.verdicts();
-    let good = verdicts.iter().skip(1).filter(|verdict| verdict.is_good());
+    let bad_at_end = verdicts.iter().map(|verdict| verdict.bad_bytes).sum();
+    let true_chunks = tally.sum(attacker, |taken| taken.stored);
+    let false_chunks = tally.sum(attacker, |taken| taken.stored_bad);
+    let wrong_counts = verdicts.iter().filter(|verdict| !verdict.count_is_right);
     let found = [
         ("chunks compared with the pack", tally.compared),
         ("bad bytes, ever", tally.bad_bytes),
-        (
-            "bad bytes at the end",
-            verdicts.iter().map(|v| v.bad_bytes).sum(),
-        ),
+        ("bad bytes at the end", bad_at_end),
         ("chunks that vanished", tally.vanished),
         ("refusals that changed a room", tally.changed_by_refusal),
-        (
-            "attacker stored: true chunks",
-            tally.sum(attacker, |taken| taken.stored),
-        ),
-        (
-            "attacker stored: false chunks",
-            tally.sum(attacker, |taken| taken.stored_bad),
-        ),
-        ("vans whole, byte for byte", good.count() as u64),
+        ("wrong counts of held chunks", wrong_counts.count() as u64),
+        ("attacker stored: true chunks", true_chunks),
+        ("attacker stored: false chunks", false_chunks),
     ];
     lines(text, "Checks", &found);
-    let verdict = if is_good(yard) { "GOOD" } else { "FAILED" };
-    let vans = verdicts.len() - 1;
-    writeln!(
-        text,
-        "{verdict}: {vans} vans, {} sorts of attack",
-        attacks(yard)
-    )
-    .expect("a string takes all");
-}
-
-/// How many sorts of attack arrived.
-fn attacks(yard: &Yard) -> usize {
-    let arrived = |attack: &Attack| {
-        let taken = yard.record.tally.taken(Origin::Attacker(*attack));
-        taken.answers.iter().sum::<u64>() > 0
-    };
-    Attack::ALL.iter().filter(|attack| arrived(attack)).count()
+    let vans = &verdicts[SERVER + 1..];
+    let whole = vans.iter().filter(|verdict| verdict.is_good()).count();
+    let word = if is_good(yard) { "GOOD" } else { "FAILED" };
+    *text += &format!(
+        "{word}: {whole} of {} vans are whole, byte for byte\n",
+        vans.len()
+    );
 }

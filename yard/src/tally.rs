@@ -26,8 +26,10 @@ pub struct Tally {
     pub to_absent: u64,
     /// ACKs sent for chunks.
     pub acknowledged: u64,
-    /// Chunks sent.
-    pub chunks_sent: u64,
+    /// Chunks sent by the server.
+    pub chunks_by_server: u64,
+    /// Chunks sent by vans.
+    pub chunks_by_vans: u64,
     /// Chunks sent once more, since no ACK came.
     pub chunks_again: u64,
     /// Chunks asked for once more, since they did not come.

@@ -63,11 +63,14 @@ pub const PARTNERS: usize = 4;
 /// How many closed channels a node remembers.
 pub const FORMER: usize = 64;
 
+/// How often a peer is told that a channel is closed on which it still sends.
+pub const TELLINGS: u32 = 3;
+
 /// The rows that a van keeps for its own calls; others may have the rest.
 pub const OWN_ROWS: usize = 5;
 
 /// The mean time between two of the attacker's datagrams to one node.
-pub const ATTACK: u64 = 40_000;
+pub const ATTACK: u64 = 10_000;
 
 /// One in so many overheard datagrams is kept by the attacker, and at most so many of each sort.
-pub const OVERHEARD: (u64, usize) = (4, 256);
+pub const OVERHEARD: (u64, usize) = (4, 64);

@@ -47,6 +47,7 @@ fn each_van_has_a_line() {
         falls += heights.windows(2).filter(|pair| pair[1] > pair[0]).count() as u64;
     }
     assert_eq!(falls, yard.record.tally.drop_outs);
+    assert_eq!(svg.matches("<circle ").count() as u64, falls);
 }
 
 #[test]

@@ -14,7 +14,7 @@ fn a_good_run_has_status_0() {
     assert_eq!(output.status.code(), Some(0));
     let text = String::from_utf8(output.stdout).expect("text");
     assert!(
-        text.ends_with("GOOD: 4 vans, 16 sorts of attack\n"),
+        text.ends_with("GOOD: 4 of 4 vans are whole, byte for byte\n"),
         "{text}"
     );
     assert!(output.stderr.is_empty());
@@ -25,7 +25,7 @@ fn a_run_that_does_not_get_whole_has_status_1() {
     let output = yard("--vans 4 --chunks 7 --loss 100 --seconds 5");
     assert_eq!(output.status.code(), Some(1));
     let text = String::from_utf8(output.stdout).expect("text");
-    assert!(text.contains("\nFAILED: 4 vans"), "{text}");
+    assert!(text.contains("\nFAILED: 0 of 4 vans"), "{text}");
 }
 
 #[test]

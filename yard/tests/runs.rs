@@ -48,6 +48,7 @@ fn a_yard_with_everything_gets_whole() {
         let settings = short(seed);
         let yard = run(&settings);
         assert!(summary::is_good(&yard), "{}", told(&settings, &yard));
+        assert!(yard.record.tally.chunks_by_vans > 0, "vans feed each other");
         for van in &yard.nodes[SERVER + 1..] {
             assert!(van.store.bytes() == yard.record.pack.content());
         }
@@ -133,7 +134,7 @@ fn a_bad_byte_on_the_way_is_noticed() {
 
 /// Nothing ever arrives: calls are given up, their rows are free again, and the run ends at its limit.
 #[test]
-fn calls_into_the_void_fill_no_rows() {
+fn calls_that_nobody_hears_fill_no_rows() {
     let faults = Faults {
         loss: Rate::WHOLE,
         ..Faults::NONE

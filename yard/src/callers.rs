@@ -42,7 +42,7 @@ impl Node {
     }
 
     /// A caller got a row: our answer is sent.
-    pub(crate) fn welcome(
+    pub(crate) fn add_caller(
         &mut self,
         context: &mut Context<'_>,
         id: u32,
