@@ -91,7 +91,7 @@ impl Node {
     /// What a node does from time to time.
     pub fn tick(&mut self, context: &mut Context<'_>) {
         self.look_after_rows(context);
-        if !self.is_whole() {
+        if self.number != SERVER && !self.is_whole() {
             self.call_a_partner(context);
             self.ask_for_chunks(context);
         }

@@ -26,9 +26,11 @@ impl Node {
             return;
         };
         let id = self.fresh_id();
-        let opened = self.store.open(id).map(<[u8]>::to_vec);
-        let handshake = opened.expect("a row is kept for our own calls");
         let tally = &mut context.record.tally;
+        let Ok(handshake) = self.store.open(id).map(<[u8]>::to_vec) else {
+            tally.calls_refused += 1;
+            return;
+        };
         tally.called += 1;
         tally.reopened += u64::from(self.called_before[address]);
         self.called_before[address] = true;

@@ -143,6 +143,7 @@ fn nodes(text: &mut String, yard: &Yard) {
         ("drop-outs", tally.drop_outs),
         ("channels called", tally.called),
         ("  of them reopened", tally.reopened),
+        ("calls that the store refused", tally.calls_refused),
         ("channels opened for a caller", tally.answered),
         ("channels closed by the loader", tally.closed),
         (

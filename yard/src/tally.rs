@@ -38,8 +38,10 @@ pub struct Tally {
     pub handshakes_again: u64,
     /// Channels that were called.
     pub called: u64,
-    /// Of them, those to a partner with whom there had been one.
+    /// Of them, those to a partner that had been called before.
     pub reopened: u64,
+    /// Calls that the store refused; a van keeps rows for its calls, so it should refuse none.
+    pub calls_refused: u64,
     /// Channels that were opened for a caller.
     pub answered: u64,
     /// Open channels that the loader closed, since they were of no use.

@@ -49,6 +49,10 @@ fn a_yard_with_everything_gets_whole() {
         let yard = run(&settings);
         assert!(summary::is_good(&yard), "{}", told(&settings, &yard));
         assert!(yard.record.tally.chunks_by_vans > 0, "vans feed each other");
+        assert_eq!(
+            yard.record.tally.calls_refused, 0,
+            "rows are kept for calls"
+        );
         for van in &yard.nodes[SERVER + 1..] {
             assert!(van.store.bytes() == yard.record.pack.content());
         }
