@@ -15,9 +15,10 @@ use crate::context::Context;
 use crate::datagram::Datagram;
 use crate::link::Link;
 use crate::node::{Node, SERVER};
+use crate::rows::handshake;
 use crate::timing::{NEWCOMER, OWN_ROWS};
 use ppspp::sizes::CHANNELS;
-use ppspp::{destination, messages, Message, Options};
+use ppspp::{destination, messages, Message};
 
 impl Node {
     /// The source channel of a datagram that wants to open a channel.
@@ -63,12 +64,7 @@ impl Node {
             return;
         };
         let root = self.order.root;
-        let options = Options::Fixed { root: &root };
-        let answer = Message::Handshake {
-            source: id,
-            options,
-        };
-        for datagram in self.compose(source, &[answer]) {
+        for datagram in self.compose(source, &[handshake(id, &root)]) {
             context.record.tally.handshakes_again += 1;
             context.send(from, datagram);
         }

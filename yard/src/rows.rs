@@ -10,8 +10,7 @@
 //! So every row leaves every phase. A calling one is answered, or freed when its HANDSHAKE was sent `CALLS` times. An
 //! open one serves, or is closed: if nothing ever came on it, if it fell silent, if it is choked, or if it has been of
 //! no use. The peer is told by a closing HANDSHAKE, and again if it still sends on the channel; if it hears neither, the
-//! same rules free its row. IDs are never used
-//! again but by chance, so what still comes for a freed row is refused with 5.
+//! same rules free its row. IDs are never used again but by chance, so what still comes for a freed row is refused with 5.
 //!
 //! Whoever closes channels in the name of others costs them the time to notice it and to call again, and no chunk.
 

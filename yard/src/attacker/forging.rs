@@ -3,8 +3,9 @@
 use super::{Attacker, OWN_CHANNEL};
 use crate::datagram::{Attack, Datagram};
 use crate::radio::flip;
+use crate::rows::handshake;
 use ppspp::sizes::{CHUNK_SIZE, MAX_CHUNKS, REPLY_BYTES};
-use ppspp::{destination, messages, Composer, Message, Options};
+use ppspp::{destination, messages, Composer, Message};
 
 impl Attacker {
     /// A datagram of a sort. Its envelope is that of the captured one that it is made of.
@@ -187,12 +188,6 @@ impl Attacker {
         let datagram = self.addressed()?;
         Some(with(datagram, &[message]))
     }
-}
-
-/// A HANDSHAKE with the order's options.
-fn handshake(source: u32, root: &[u8]) -> Message<'_> {
-    let options = Options::Fixed { root };
-    Message::Handshake { source, options }
 }
 
 /// A datagram to the channel of another one, with other messages.
