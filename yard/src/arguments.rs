@@ -26,7 +26,7 @@ usage: yard [arguments]
   --reorder P       per cent of datagrams that come late (10)
   --truncate P      per cent of datagrams that are cut short (2)
   --flip P          per cent of datagrams with flipped bits (2)
-  --attacker on|off whether someone at the fence transmits too (on)
+  --attacker on|off whether an attacker transmits too (on)
   --seconds LIMIT   the simulated seconds after which the run ends in any case (600)
   --plot FILE       writes an SVG of the chunks that each van held over time
   --help            writes this

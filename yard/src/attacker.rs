@@ -1,4 +1,4 @@
-//! Someone at the fence, who hears every datagram and sends to every node, under any address.
+//! An attacker, who hears every datagram and sends to every node, under any address.
 
 mod forging;
 

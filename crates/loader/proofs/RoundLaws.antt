@@ -7,7 +7,7 @@ use mathlib.Core.Bool.{Bool, true, false}
 use mathlib.Core.List.{List, [], _∷_, _++_}
 use lib.Dec.{eqb}
 use lib.ListN.{length, getD, set, length-set, length-append}
-use lib.Seq.{sets, length-sets}
+use lib.Seq.{sets, length-sets, getD-set-same, getD-set-other}
 use Rattle.hash.specs.declared.value.HashValue.{HashValue}
 use Rattle.table.proofs.Promise.{rowCount}
 use Rattle.table.specs.declared.rows.Phase.{Phase}
@@ -20,28 +20,17 @@ use Rattle.loader.specs.State.{layoutVersion, stateWords, rowsPlace, pha
 
 -- ---- a cell of a list of stores
 
-set-other : (l : List ℕ) (at i : ℕ) (x : ℕ) → i < at → getD (set l at x) i 0 ≡ getD l i 0
-set-other [] at i x h = refl
-set-other (a ∷ l) zero i x h = absurd (omega arith)
-set-other (a ∷ l) (suc at) zero x h = refl
-set-other (a ∷ l) (suc at) (suc i) x h = set-other l at i x (omega arith)
-
-set-here : (l : List ℕ) (at : ℕ) (x : ℕ) → at < length l → getD (set l at x) at 0 ≡ x
-set-here [] at x h = absurd (omega arith)
-set-here (a ∷ l) zero x h = refl
-set-here (a ∷ l) (suc at) x h = set-here l at x (omega arith)
-
 -- before them
 cell-before : (xs l : List ℕ) (at i : ℕ) → i < at → getD (sets l at xs) i 0 ≡ getD l i 0
 cell-before [] l at i h = refl
-cell-before (x ∷ xs) l at i h = cell-before xs (set l at x) (suc at) i (omega arith) ∙ set-other l at i x h
+cell-before (x ∷ xs) l at i h = cell-before xs (set l at x) (suc at) i (omega arith) ∙ getD-set-other l at i x 0 (λ e. omega arith)
 
 -- among them
 cell-of : (xs l : List ℕ) (at k : ℕ) → k < length xs → at + length xs ≤ length l → getD (sets l at xs) (at + k) 0 ≡ getD xs k 0
 cell-of [] l at k h r = absurd (omega arith)
 cell-of (x ∷ xs) l at zero h r =
     let e : at + 0 ≡ at = omega arith in
-    rw e (cell-before xs (set l at x) (suc at) at (omega arith) ∙ set-here l at x (omega arith))
+    rw e (cell-before xs (set l at x) (suc at) at (omega arith) ∙ getD-set-same l at x 0 (omega arith))
 cell-of (x ∷ xs) l at (suc k) h r =
     let e : at + suc k ≡ suc at + k = omega arith in
     rw e (cell-of xs (set l at x) (suc at) k (omega arith) (rw (length-set l at x) (omega arith)))
