@@ -1,12 +1,12 @@
 -- A block: four runs of sixteen rounds are the hash computation of its schedule. Assumes nothing.
 use mathlib.Core.Path.{_≡_, refl, sym, ap, _∙_}
-use mathlib.Core.List.{List, [], _∷_, _++_, append-nil}
+use mathlib.Core.List.{List, [], _++_}
 use Prim.Native.Nat.{ℕ, zero, suc, _+_, _≤_, _<_}
 use native.Mathlib.Numerals.{add-one}
 use native.Mathlib.Omega.{arith}
 use lib.ListN.{length, getD, take, drop}
 use Rattle.hash.specs.Word.{words}
-use Rattle.hash.specs.Block.{K, rounds, schedule, sums, mixed, compressed}
+use Rattle.hash.specs.Block.{rounds, schedule, sums, mixed, compressed}
 use Rattle.hash.specs.Rows.{Advanced, constants, rowsOfK, summedRounds, summedRuns, mixedSums}
 use Rattle.hash.proofs.BytesLaws.{words-pair}
 use Rattle.hash.proofs.RoundLaws.{runs, four-runs, summed, summed-rounds}

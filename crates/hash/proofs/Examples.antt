@@ -1,7 +1,6 @@
 -- The definition, run by antt on FIPS 180-4's examples: the empty message and "abc". Assumes nothing.
 use mathlib.Core.Path.{_≡_, refl}
-use mathlib.Core.List.{List, [], _∷_}
-use Prim.Native.Nat.{ℕ}
+use mathlib.Core.List.{[], _∷_}
 use Rattle.hash.specs.Word.{_⊞_, Ch, Maj, Σ0, Σ1, σ0, σ1, word32, words}
 use Rattle.hash.specs.Block.{next, extended, schedule, T1, T2, turned, round, rounds, sums, mixed, compressed}
 use Rattle.hash.specs.Message.{padded, after, finished, hashed}

@@ -1,6 +1,6 @@
 -- Blocks one after another, and the padding that ends a message. Assumes nothing.
 use mathlib.Core.Path.{_≡_, refl, sym, ap, subst, _∙_}
-use mathlib.Core.List.{List, [], _∷_, _++_, append-assoc}
+use mathlib.Core.List.{List, _∷_, _++_, append-assoc}
 use Prim.Native.Nat.{ℕ, zero, suc, _+_, _-_, _*_, _/_, _%_, _^_, _<_, _≤_}
 use native.Mathlib.Nat.{zero-add, add-zero, add-suc, mul-comm, sub-zero, zero-sub, suc-sub-suc, le-refl}
 use native.Mathlib.Numerals.{add-one}

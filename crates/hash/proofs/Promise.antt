@@ -1,8 +1,6 @@
 -- What the crates above know of this one: these laws, and of its definitions the names passed on here, unopened.
 -- Assumes nothing.
 use mathlib.Core.Path.{_≡_, refl, sym, ap, _∙_}
-use mathlib.Core.Bool.{true, false}
-use mathlib.Core.Logic.{_≢_}
 use mathlib.Core.List.{List, _++_}
 use Prim.Native.Nat.{ℕ, zero, suc, _*_, _/_, _≤_}
 use lib.ListN.{length, take}

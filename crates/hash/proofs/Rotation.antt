@@ -1,9 +1,8 @@
 -- Rotations of a word of j + k bits to the right by j: they go through XOR, and two of them are one by the sum.
 -- So the code may share a rotation between the terms of a sigma. Assumes nothing.
-use mathlib.Core.Path.{_≡_, refl, sym, ap, ap₂, _∙_}
+use mathlib.Core.Path.{_≡_, sym, ap, ap₂, _∙_}
 use Prim.Native.Nat.{ℕ, _+_, _*_, _/_, _%_, _^_, _<_}
 use native.Mathlib.Nat.{add-comm, add-assoc, add-left-comm, add-zero, add-mul, mul-assoc, mul-mod-left, mul-add-div-right, mul-add-mod-self-right, mod-lt, lt-of-le-of-lt}
-use native.Mathlib.Omega.{arith}
 use lib.Bits.{bitOr, bitXor, or-lt, or-shifted-r, xor-block, xor-shr, xor-mod, xor-lt}
 use lib.Pow.{pow-add, pow-pos, shl-shr, shr-shr, shr-lt, shr-le, mod-pow-add}
 

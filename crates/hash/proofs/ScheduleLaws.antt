@@ -4,7 +4,7 @@ use mathlib.Core.List.{List, [], _∷_, _++_, append-assoc}
 use Prim.Native.Nat.{ℕ, zero, suc, _+_, _-_, _≤_}
 use native.Mathlib.Nat.{zero-add, suc-add, le-refl}
 use native.Mathlib.Omega.{arith}
-use lib.ListN.{length, getD, drop, take, length-append, length-drop, take-append-drop}
+use lib.ListN.{length, getD, take, length-append, length-drop, take-append-drop}
 use lib.Seq.{getD-append-add, take-take, take-length, take-append-le}
 use Rattle.hash.specs.Block.{next, extended, schedule}
 use Rattle.hash.specs.Rows.{nextSixteen, slid}

@@ -5,7 +5,6 @@ use mathlib.Core.Logic.{_≢_}
 use mathlib.Core.Bool.{Bool}
 use mathlib.Core.List.{List}
 use lib.ListN.{length}
-use lib.Dec.{ltb}
 use borrow.Author.Tests.{lt-ltb, le-ltb, eq-eqb, ne-eqb}
 use Rattle.hash.proofs.Promise.{words}
 use Rattle.hash.specs.declared.value.HashValue.{HashValue}
@@ -13,7 +12,7 @@ use Rattle.store.proofs.Promise.{lengthAnswer, earlier-not}
 use Rattle.channel.specs.declared.state.State.{State}
 use Rattle.channel.proofs.Promise.{World, channelsOf, worldOf, Out, outOf, startSpec, askedOf, askSpec}
 use Rattle.loader.specs.State.{stateWords, stateIn, flag, statePut}
-use Rattle.loader.specs.Calls.{Lent, lentOf, worldIn, leaving, wordsAfter, encoded, callOn, callBeside, begun, begunOf, startShort, startOn, buildShort, countedOf, counted, askOn}
+use Rattle.loader.specs.Calls.{Lent, lentOf, worldIn, leaving, wordsAfter, encoded, callOn, callBeside, answered, answeredOf, startShort, startOn, buildShort, countedOf, counted, askOn}
 
 -- ---- what a call leaves
 
@@ -56,19 +55,19 @@ module _ (l : Lent) (call : World → Out World) where
 
 -- ---- beginning a store
 
-pub begun-same : {n len : ℕ} {l : Lent} {o : Out Lent} → outOf n len l ≡ o → begunOf n l ≡ begun o
-begun-same e = ap begun e
+pub answered-same : {n len : ℕ} {l : Lent} {o : Out Lent} → outOf n len l ≡ o → answeredOf n l ≡ answered o
+answered-same e = ap answered e
 
 -- a number found where the room for the state is too short
-pub begun-short : (l : Lent) (call : World → Out World) (n : ℕ) {r : ℕ} → r ≡ n → length (l .words) < stateWords → begunOf r l ≡ begun (callOn n l call)
-begun-short l call n e h = ap (λ (k : ℕ). begunOf k l) e ∙ begun-same (call-short l call n h)
+pub answered-short : (l : Lent) (call : World → Out World) (n : ℕ) {r : ℕ} → r ≡ n → length (l .words) < stateWords → answeredOf r l ≡ answered (callOn n l call)
+answered-short l call n e h = ap (λ (k : ℕ). answeredOf k l) e ∙ answered-same (call-short l call n h)
 
 -- as the call with the root h, which the bytes have
 pub start-under : (l : Lent) (root : List ℕ) (L : ℕ) {h : HashValue} → h .words ≡ words 8 root
-    → {n len : ℕ} {after : Lent} → outOf n len after ≡ callOn (startShort L) l (λ w. startSpec w (record { root = h; length = L })) → begunOf n after ≡ startOn l root L
+    → {n len : ℕ} {after : Lent} → outOf n len after ≡ callOn (startShort L) l (λ w. startSpec w (record { root = h; length = L })) → answeredOf n after ≡ startOn l root L
 start-under l root L e d =
-    begun-same d
-    ∙ ap (λ (u : List ℕ). begun (callOn (startShort L) l (λ w. startSpec w (record { root = record { words = u }; length = L })))) e
+    answered-same d
+    ∙ ap (λ (u : List ℕ). answered (callOn (startShort L) l (λ w. startSpec w (record { root = record { words = u }; length = L })))) e
 
 module _ (L : ℕ) {n : ℕ} (e : n ≡ lengthAnswer L) where
   pub start-refused : n ≢ 0 → n ≡ startShort L

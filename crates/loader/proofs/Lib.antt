@@ -4,5 +4,8 @@ pub mod MessageLaws
 pub mod CallLaws
 pub mod RoundLaws
 pub mod LinkLaws
+pub mod StartLaws
+pub mod RefusedLaws
+pub mod DemandLaws
 pub mod SizeLaws
 pub mod Promise

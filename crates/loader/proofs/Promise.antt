@@ -1,39 +1,61 @@
 -- What holds of the interface beside the contracts of its calls. Assumes nothing.
 use Prim.Native.Nat.{ℕ, _≤_}
 use mathlib.Core.Path.{_≡_}
+use mathlib.Core.Logic.{_≢_}
 use mathlib.Core.List.{List}
 use lib.ListN.{length}
 use Rattle.store.proofs.Promise.{lengthAnswer}
-use Rattle.channel.specs.declared.state.State.{State}
-use Rattle.channel.proofs.Promise.{Shaped, Call, demand-3}
 use Rattle.wire.specs.declared.message.Message.{Message}
+use Rattle.writer.proofs.Promise.{atZero}
+use Rattle.channel.specs.declared.state.State.{State}
+use Rattle.channel.proofs.Promise.{Shaped, Unaltered, Call, startSpec, buildSpec, openSpec, takeSpec, writeSpec}
+use Rattle.channel.proofs.Promise as channel
 use Rattle.loader.specs.State.{stateWords, stateIn, statePut}
-use Rattle.loader.specs.Calls.{Lent, startOn, buildOn}
-use Rattle.loader.specs.Message.{numbersOf, messageIn, atFront}
+use Rattle.loader.specs.Calls.{Lent, worldIn, callOn, callBeside, startShort, buildShort, orderOf, startOn, buildOn}
+use Rattle.loader.specs.Message.{numbersOf, messageIn}
 use Rattle.loader.specs.Sizes.{Suffice}
-use Rattle.loader.specs.Run.{BegunIn, started, built, DemandIn}
+use Rattle.loader.specs.Run.{FreshOrBuiltIn, DemandIn}
 use Rattle.loader.proofs.RoundLaws as round
 use Rattle.loader.proofs.MessageLaws as message
 use Rattle.loader.proofs.LinkLaws as link
+use Rattle.loader.proofs.RefusedLaws as refused
+use Rattle.loader.proofs.DemandLaws as demand
 use Rattle.loader.proofs.SizeLaws as sizes
 
--- ---- encode then decode is the identity on every state
+-- ---- encode then decode is the identity on every state; what is decoded from any words is one
 
 pub state-back : (w : List ℕ) (st : State) → stateWords ≤ length w → Shaped st → stateIn (statePut w st) ≡ st
 state-back = round.state-back
 
+pub decoded-shaped : (w : List ℕ) → Shaped (stateIn w)
+decoded-shaped = link.decoded-shaped
+
 -- ---- the numbers of a message that was read are those of that message, its hash, chunk or root at the front of the bytes
 
-pub message-back : (m : Message) (next : ℕ) → messageIn (numbersOf m next) ≡ atFront m
+pub message-back : (m : Message) (next : ℕ) → messageIn (numbersOf m next) ≡ atZero m
 message-back = message.message-back
+
+-- ---- demand 1: a refusal gives a reply length of 0 and changes none of the eight rooms
+
+pub start-refused-same : (l : Lent) (root : List ℕ) (L : ℕ) → startOn l root L .answer ≢ 0 → startOn l root L .left ≡ l
+start-refused-same l root L d = refused.call-unaltered l (λ w. startSpec w (orderOf root L)) (channel.start-refused-same (worldIn l) (orderOf root L)) (startShort L) d .1
+
+pub build-refused-same : (l : Lent) (L : ℕ) (content : List ℕ) → buildOn l L content .answer ≢ 0 → buildOn l L content .left ≡ l
+build-refused-same l L content d = refused.call-unaltered l (λ w. buildSpec w L content) (channel.build-refused-same (worldIn l) L content) (buildShort L (length content)) d .1
+
+pub open-refused-same : (l : Lent) (id : ℕ) → Unaltered l (callOn 11 l (λ w. openSpec w id))
+open-refused-same l id = refused.call-unaltered l (λ w. openSpec w id) (channel.open-refused-same (worldIn l) id) 11
+
+pub take-refused-same : (l : Lent) (clock id : ℕ) (s : List ℕ) → Unaltered l (callOn 11 l (λ w. takeSpec w clock id s))
+take-refused-same l clock id s = refused.call-unaltered l (λ w. takeSpec w clock id s) (channel.take-refused-same (worldIn l) clock id s) 11
+
+pub write-refused-same : (l : Lent) (id c clock : ℕ) → Unaltered l (callBeside l (λ w. writeSpec w id c clock))
+write-refused-same l id c clock = refused.beside-unaltered l (λ w. writeSpec w id c clock) (channel.write-refused-same (worldIn l) id c clock)
 
 -- ---- demand 3, of every list of calls through the interface
 
-pub demand-3-in-rooms : (l : Lent) (ks : List Call) → BegunIn l → DemandIn l ks
-demand-3-in-rooms _ ks (started l root L z) =
-    record { demand = demand-3 _ ks (link.start-fresh l root L z); in-rooms = link.run-world ks _ (link.start-long l root L z) }
-demand-3-in-rooms _ ks (built l L s z) =
-    record { demand = demand-3 _ ks (link.build-fresh l L s z); in-rooms = link.run-world ks _ (link.build-long l L s z) }
+pub demand-3-in-rooms : (l : Lent) (ks : List Call) → FreshOrBuiltIn l → DemandIn l ks
+demand-3-in-rooms = demand.demand-in
 
 -- ---- rooms of the sizes given do
 

@@ -2,21 +2,19 @@
 use Prim.Native.Nat.{ℕ, zero, suc, _+_, _*_, _<_, _≤_}
 use native.Mathlib.Nat.{zero-add}
 use native.Mathlib.Omega.{arith}
-use mathlib.Core.Path.{_≡_, refl, sym, ap, _∙_}
+use mathlib.Core.Path.{_≡_, refl, _∙_}
 use mathlib.Core.Bool.{Bool, true, false}
 use mathlib.Core.List.{List, [], _∷_, _++_}
 use lib.Dec.{eqb}
 use lib.ListN.{length, getD, set, length-set, length-append}
 use lib.Seq.{sets, length-sets, getD-set-same, getD-set-other}
-use Rattle.hash.specs.declared.value.HashValue.{HashValue}
 use Rattle.table.proofs.Promise.{rowCount}
 use Rattle.table.specs.declared.rows.Phase.{Phase}
 use Rattle.table.specs.declared.rows.Phase.the-variants.{Free, Calling, Open}
 use Rattle.table.specs.declared.rows.Row.{Row}
-use Rattle.store.specs.declared.calls.Order.{Order}
 use Rattle.channel.specs.declared.state.State.{State}
 use Rattle.channel.proofs.Promise.{Shaped}
-use Rattle.loader.specs.State.{layoutVersion, stateWords, rowsPlace, phaseOf, rowIn, rowsIn, orderIn, stateIn, phaseWord, flag, rowWords, tableWords, orderWords, statePut}
+use Rattle.loader.specs.State.{layoutVersion, stateWords, rowsPlace, phaseOf, rowIn, rowsIn, orderIn, stateIn, phaseWord, flag, rowCells, tableWords, orderWords, statePut}
 
 -- ---- a cell of a list of stores
 
@@ -47,12 +45,12 @@ flag-back : (b : Bool) → eqb (flag b) 1 ≡ b
 flag-back true = refl
 flag-back false = refl
 
-module _ (r : Row) (rest l : List ℕ) (at : ℕ) (h : at + length (rowWords r ++ rest) ≤ length l) where
+module _ (r : Row) (rest l : List ℕ) (at : ℕ) (h : at + length (rowCells r ++ rest) ≤ length l) where
   abbrev put : List ℕ
-  put = sets l at (rowWords r ++ rest)
+  put = sets l at (rowCells r ++ rest)
 
-  cell : (k : ℕ) → k < length (rowWords r ++ rest) → getD put (at + k) 0 ≡ getD (rowWords r ++ rest) k 0
-  cell k b = cell-of (rowWords r ++ rest) l at k b h
+  cell : (k : ℕ) → k < length (rowCells r ++ rest) → getD put (at + k) 0 ≡ getD (rowCells r ++ rest) k 0
+  cell k b = cell-of (rowCells r ++ rest) l at k b h
 
   row-back : rowIn put at ≡ r
   unfolding rowIn

@@ -16,7 +16,7 @@ use Rattle.table.specs.declared.rows.Row.{Row}
 use Rattle.table.specs.declared.rows.Table.{Table}
 use Rattle.store.specs.declared.calls.Order.{Order}
 use Rattle.channel.specs.declared.state.State.{State}
-use Rattle.loader.specs.State.{layoutVersion, rowsPlace, phaseOf, rowIn, rowsIn, orderIn, noState, stateIn, phaseWord, flag, rowWords, tableWords, orderWords, statePut}
+use Rattle.loader.specs.State.{layoutVersion, rowsPlace, phaseOf, rowIn, rowsIn, orderIn, unstarted, stateIn, phaseWord, flag, rowCells, tableWords, orderWords, statePut}
 
 -- ---- read
 
@@ -52,7 +52,7 @@ module _ (w : List ℕ) where
   unfolding orderIn
   order-read = refl
 
-  pub state-other : getD w 0 0 ≢ layoutVersion → {st : State} → st ≡ noState → st ≡ stateIn w
+  pub state-other : getD w 0 0 ≢ layoutVersion → {st : State} → st ≡ unstarted → st ≡ stateIn w
   unfolding stateIn
   state-other d e = rw (ne-eqb (getD w 0 0) layoutVersion d, e)
 
@@ -65,7 +65,7 @@ module _ (w : List ℕ) where
 
 -- four stores
 pub row-stored : (l : List ℕ) (at : ℕ) (r : Row) {p k : ℕ} → p ≡ phaseWord (r .phase) → k ≡ flag (r .choked)
-    → set (set (set (set l at p) (at + 1) (r .id)) (at + 2) (r .peer)) (at + 3) k ≡ sets l at (rowWords r)
+    → set (set (set (set l at p) (at + 1) (r .id)) (at + 2) (r .peer)) (at + 3) k ≡ sets l at (rowCells r)
 row-stored l at r e f =
     let e₁ : at + 1 ≡ suc at = omega arith in
     let e₂ : at + 2 ≡ suc (suc at) = omega arith in
@@ -99,7 +99,7 @@ place-next i = omega arith
 module _ (w : List ℕ) (rs : List Row) where
   -- a turn: the row at i is stored, and those behind it are left
   pub rows-next : (i : ℕ) (l : List ℕ) {l′ : List ℕ} → i < length rs → sets l (rowsPlace + 4 * i) (tableWords (drop i rs)) ≡ sets w rowsPlace (tableWords rs)
-      → l′ ≡ sets l (rowsPlace + 4 * i) (rowWords (getD rs i freeRow)) → sets l′ (rowsPlace + 4 * (i + 1)) (tableWords (drop (i + 1) rs)) ≡ sets w rowsPlace (tableWords rs)
+      → l′ ≡ sets l (rowsPlace + 4 * i) (rowCells (getD rs i freeRow)) → sets l′ (rowsPlace + 4 * (i + 1)) (tableWords (drop (i + 1) rs)) ≡ sets w rowsPlace (tableWords rs)
   unfolding tableWords
   rows-next i l h e s =
       let d : drop i rs ≡ getD rs i freeRow ∷ drop (suc i) rs = drop-cons rs i freeRow h in

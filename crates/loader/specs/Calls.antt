@@ -1,5 +1,5 @@
--- What the calls answer and leave: the entry point's equation of the crate channel, through decode and encode. A room for
--- the state that is too short is refused with 11, and no other room is looked at then. Assumes nothing.
+-- What the calls answer and leave: the entry point's equation of the crate channel, through decode and encode. Where the
+-- room for the state is too short, no room is looked at: 11; for starting and building 12 comes before it. Assumes nothing.
 use Prim.Native.Nat.{ℕ, zero, suc}
 use mathlib.Core.List.{List}
 use mathlib.Core.Bool.{not}
@@ -58,15 +58,15 @@ callBeside l call = pick (ltb (length (l .words)) stateWords) (outOf 11 0 l) (le
 
 -- ---- beginning a store, which has no reply
 
-pub record Begun : Type 0 where
+pub record Answered : Type 0 where
   pub answer : ℕ
   pub left : Lent
 
-abbrev pub begunOf : ℕ → Lent → Begun
-begunOf n l = record { answer = n; left = l }
+abbrev pub answeredOf : ℕ → Lent → Answered
+answeredOf n l = record { answer = n; left = l }
 
-abbrev pub begun : Out Lent → Begun
-begun o = begunOf (o .answer) (o .after)
+abbrev pub answered : Out Lent → Answered
+answered o = answeredOf (o .answer) (o .after)
 
 -- The order of a root's 32 bytes and a length.
 abbrev pub orderOf : List ℕ → ℕ → Order
@@ -76,15 +76,15 @@ orderOf root L = record { root = record { words = words 8 root }; length = L }
 unfoldable pub startShort : ℕ → ℕ
 startShort L = earlier (lengthAnswer L) 11
 
-abbrev pub startOn : Lent → List ℕ → ℕ → Begun
-startOn l root L = begun (callOn (startShort L) l (λ w. startSpec w (orderOf root L)))
+abbrev pub startOn : Lent → List ℕ → ℕ → Answered
+startOn l root L = answered (callOn (startShort L) l (λ w. startSpec w (orderOf root L)))
 
 -- 12 for the order's length and for content of another length, then 11.
 unfoldable pub buildShort : ℕ → ℕ → ℕ
 buildShort L n = earlier (lengthAnswer L) (refuse (not (eqb n L)) 12 11)
 
-abbrev pub buildOn : Lent → ℕ → List ℕ → Begun
-buildOn l L content = begun (callOn (buildShort L (length content)) l (λ w. buildSpec w L content))
+abbrev pub buildOn : Lent → ℕ → List ℕ → Answered
+buildOn l L content = answered (callOn (buildShort L (length content)) l (λ w. buildSpec w L content))
 
 -- ---- asking
 

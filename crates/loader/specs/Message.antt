@@ -19,19 +19,16 @@ use Rattle.wire.specs.declared.message.Step.the-variants.{Read, End, Refused}
 unfoldable pub optionsFor : ℕ → Options
 optionsFor k = pick (eqb k 0) EndOnly (pick (eqb k 1) (Fixed 0) Other)
 
--- A message that cannot be written: adding it is refused with 2.
+-- A message that cannot be written: 2, unless 11, 1 or the number of the datagram so far comes first.
 abbrev pub unwritable : Message
 unwritable = Handshake 0 Other
 
--- DATA's range is one chunk; its bytes are all that there are.
-unfoldable pub dataFor : ℕ → ℕ → ℕ → ℕ → Message
-dataFor first last timestamp size = pick (eqb first last) (Data first timestamp 0 size) unwritable
-
--- The message of a type, with `size` bytes beside it. A type that the table lacks has none that can be written.
+-- The message of a type, with `size` bytes beside it; DATA has one chunk. A type that the table lacks has none that can be
+-- written.
 unfoldable pub messageFor : (type first last number size : ℕ) → Message
 messageFor type first last number size =
     pick (eqb type 0) (Handshake first (optionsFor last))
-    (pick (eqb type 1) (dataFor first last number size)
+    (pick (eqb type 1) (Data first number 0 size)
     (pick (eqb type 2) (Ack first last number)
     (pick (eqb type 3) (Have first last)
     (pick (eqb type 4) (Integrity first last 0)
@@ -71,25 +68,9 @@ numbersOf (Cancel f l) next = 9 ∷ f ∷ l ∷ 0 ∷ 0 ∷ 0 ∷ next ∷ []
 numbersOf Choke next = 10 ∷ 0 ∷ 0 ∷ 0 ∷ 0 ∷ 0 ∷ next ∷ []
 numbersOf Unchoke next = 11 ∷ 0 ∷ 0 ∷ 0 ∷ 0 ∷ 0 ∷ next ∷ []
 
--- The message that such numbers are added as, and a message with its hash, chunk or root at the front of the bytes.
+-- The message that such numbers are added as.
 abbrev pub messageIn : List ℕ → Message
 messageIn w = messageFor (getD w 0 0) (getD w 1 0) (getD w 2 0) (getD w 3 0) (getD w 5 0)
-
-abbrev pub optionsAtFront : Options → Options
-optionsAtFront EndOnly = EndOnly
-optionsAtFront (Fixed root) = Fixed 0
-optionsAtFront Other = Other
-
-abbrev pub atFront : Message → Message
-atFront (Handshake source o) = Handshake source (optionsAtFront o)
-atFront (Data c timestamp start n) = Data c timestamp 0 n
-atFront (Ack f l delay) = Ack f l delay
-atFront (Have f l) = Have f l
-atFront (Integrity f l hash) = Integrity f l 0
-atFront (Request f l) = Request f l
-atFront (Cancel f l) = Cancel f l
-atFront Choke = Choke
-atFront Unchoke = Unchoke
 
 -- What stands at a place: 0 for the end, 1 for a message with its numbers, 2 for what is refused.
 pub record Found : Type 0 where

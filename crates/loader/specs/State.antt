@@ -7,7 +7,6 @@ use lib.Dec.{eqb}
 use lib.ListN.{getD}
 use lib.Seq.{sets}
 use Rattle.tree.specs.Pick.{pick}
-use Rattle.hash.specs.declared.value.HashValue.{HashValue}
 use Rattle.table.proofs.Promise.{rowCount, freeTable}
 use Rattle.table.specs.declared.rows.Phase.{Phase}
 use Rattle.table.specs.declared.rows.Phase.the-variants.{Free, Calling, Open}
@@ -57,8 +56,8 @@ orderIn w =
     }
 
 -- A state without an order: its length is 0, so that each call on it but those that begin a store is refused with 12.
-abbrev pub noState : State
-noState =
+abbrev pub unstarted : State
+unstarted =
     record {
       order = record { root = record { words = 0 ∷ 0 ∷ 0 ∷ 0 ∷ 0 ∷ 0 ∷ 0 ∷ 0 ∷ [] }; length = 0 };
       table = freeTable;
@@ -69,7 +68,7 @@ unfoldable pub stateIn : List ℕ → State
 stateIn w =
     pick (eqb (getD w 0 0) layoutVersion)
     (record { order = orderIn w; table = record { rows = rowsIn rowCount w rowsPlace } })
-    noState
+    unstarted
 
 -- ---- encode: the words of a state
 
@@ -82,12 +81,12 @@ abbrev pub flag : Bool → ℕ
 flag true = 1
 flag false = 0
 
-abbrev pub rowWords : Row → List ℕ
-rowWords r = phaseWord (r .phase) ∷ r .id ∷ r .peer ∷ flag (r .choked) ∷ []
+abbrev pub rowCells : Row → List ℕ
+rowCells r = phaseWord (r .phase) ∷ r .id ∷ r .peer ∷ flag (r .choked) ∷ []
 
 unfoldable pub tableWords : List Row → List ℕ
 tableWords [] = []
-tableWords (r ∷ rs) = rowWords r ++ tableWords rs
+tableWords (r ∷ rs) = rowCells r ++ tableWords rs
 
 abbrev pub orderWords : Order → List ℕ
 orderWords o = layoutVersion ∷ o .root .words ++ o .length ∷ []

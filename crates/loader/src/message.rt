@@ -1,6 +1,6 @@
 // A message in numbers.
 ghost use mathlib.Core.Path.{_≡_};
-ghost use Rattle.loader.specs.Message.{optionsFor, dataFor, messageFor, optionsNumber, rootPlace, rootSize, numbersOf};
+ghost use Rattle.loader.specs.Message.{optionsFor, messageFor, optionsNumber, rootPlace, rootSize, numbersOf};
 use wire::message::Message;
 use wire::message::Options;
 
@@ -16,25 +16,8 @@ fn options_for(number: u32) -> Options
     }
 }
 
-// DATA of one chunk; a range of others cannot be written.
-fn data_for(first: u32, last: u32, timestamp: u64, len: usize) -> Message
-    ensures { λ r. ⌜ r ≡ dataFor first last timestamp len ⌝ }
-{
-    if first != last {
-        return Message::Handshake {
-            source: 0,
-            options: Options::Other,
-        };
-    }
-    Message::Data {
-        chunk: first,
-        timestamp,
-        start: 0,
-        len,
-    }
-}
-
-// The message of a type, with so many bytes beside it; of a type that the table lacks, one that cannot be written.
+// The message of a type, with so many bytes beside it; DATA has one chunk. Of a type that the table lacks, one that cannot
+// be written.
 pub fn from_numbers(kind: u32, first: u32, last: u32, number: u64, size: usize) -> Message
     ensures { λ r. ⌜ r ≡ messageFor kind first last number size ⌝ }
 {
@@ -44,7 +27,12 @@ pub fn from_numbers(kind: u32, first: u32, last: u32, number: u64, size: usize) 
             source: first,
             options: options_for(last),
         },
-        1 => data_for(first, last, number, size),
+        1 => Message::Data {
+            chunk: first,
+            timestamp: number,
+            start: 0,
+            len: size,
+        },
         2 => Message::Ack { first, last, delay },
         3 => Message::Have { first, last },
         4 => Message::Integrity {

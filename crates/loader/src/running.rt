@@ -76,7 +76,7 @@ pub extern "C" fn ppspp_take(
     leaving::leave(state, outcome)
 }
 
-// Writes the datagram of chunk c for the channel open under an ID, with the clock as its timestamp.
+// Writes the datagram of a chunk for the channel open under an ID, with the clock as its timestamp.
 #[no_mangle]
 pub extern "C" fn ppspp_write(
     state: &[u32],
@@ -88,11 +88,11 @@ pub extern "C" fn ppspp_write(
     wants: &[u32],
     reply: &mut [u8],
     id: u32,
-    c: u32,
+    chunk: u32,
     clock: u64,
     written: &mut usize,
 ) -> u32
-    ensures { λ r. ⌜ outOf r (now (written .exit)) (lentOf (now (state .entry)) (now (chunks .entry)) (now (map .entry)) (now (hashes .entry)) (now (trusted .entry)) (now (has .entry)) (now (wants .entry)) (now (reply .exit))) ≡ callBeside (lentOf (now (state .entry)) (now (chunks .entry)) (now (map .entry)) (now (hashes .entry)) (now (trusted .entry)) (now (has .entry)) (now (wants .entry)) (now (reply .entry))) (λ w. writeSpec w id c clock) ⌝ }
+    ensures { λ r. ⌜ outOf r (now (written .exit)) (lentOf (now (state .entry)) (now (chunks .entry)) (now (map .entry)) (now (hashes .entry)) (now (trusted .entry)) (now (has .entry)) (now (wants .entry)) (now (reply .exit))) ≡ callBeside (lentOf (now (state .entry)) (now (chunks .entry)) (now (map .entry)) (now (hashes .entry)) (now (trusted .entry)) (now (has .entry)) (now (wants .entry)) (now (reply .entry))) (λ w. writeSpec w id chunk clock) ⌝ }
 {
     *written = 0;
     if state.len() < STATE_WORDS {
@@ -109,7 +109,7 @@ pub extern "C" fn ppspp_write(
         wants,
         reply,
         id,
-        c,
+        chunk,
         clock,
     );
     *written = outcome.len;

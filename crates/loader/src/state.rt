@@ -4,7 +4,7 @@ ghost use Prim.Native.Nat.{_+_, _≤_};
 ghost use lib.ListN.{length};
 ghost use lib.Seq.{sets};
 ghost use Rattle.table.proofs.Promise.{rowCount};
-ghost use Rattle.loader.specs.State.{stateWords, layoutVersion, rowsPlace, phaseOf, phaseWord, flag, noState, rowIn, rowWords, orderIn, rowsIn, stateIn, orderWords, tableWords, statePut};
+ghost use Rattle.loader.specs.State.{stateWords, layoutVersion, rowsPlace, phaseOf, phaseWord, flag, unstarted, rowIn, rowCells, orderIn, rowsIn, stateIn, orderWords, tableWords, statePut};
 use channel::state::State;
 use hash::value::HashValue;
 use store::calls::Order;
@@ -86,8 +86,8 @@ fn table_in(ws: &[u32]) -> Table
 }
 
 // A state without an order.
-fn no_state() -> State
-    ensures { λ r. ⌜ r ≡ noState ⌝ }
+fn unstarted() -> State
+    ensures { λ r. ⌜ r ≡ unstarted ⌝ }
 {
     State {
         order: Order {
@@ -106,7 +106,7 @@ pub fn state_in(ws: &[u32]) -> State
     ensures { λ r. ⌜ r ≡ stateIn (now (ws .entry)) ⌝ }
 {
     if ws[0] != LAYOUT_VERSION {
-        return no_state();
+        return unstarted();
     }
     State {
         order: order_in(ws),
@@ -135,7 +135,7 @@ pub fn flag(set: bool) -> u32
 // Writes a row's four words at a place.
 fn put_row(ws: &mut [u32], at: usize, row: Row)
     requires { ⌜ at + 4 ≤ length (now ws) ⌝ }
-    ensures { λ _. ⌜ now (ws .exit) ≡ sets (now (ws .entry)) at (rowWords row) ⌝ }
+    ensures { λ _. ⌜ now (ws .exit) ≡ sets (now (ws .entry)) at (rowCells row) ⌝ }
 {
     let phase = row.phase;
     ws[at] = phase_word(phase);

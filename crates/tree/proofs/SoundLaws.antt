@@ -11,7 +11,7 @@ use lib.Pow.{pow-pos}
 use Rattle.lists.specs.Same.{same}
 use Rattle.tree.specs.Node.{above}
 use Rattle.tree.specs.Pack.{levels}
-use Rattle.tree.specs.Tree.{given, combined, climb}
+use Rattle.tree.specs.Tree.{given, combined}
 use Rattle.tree.specs.State.{State, isPeak, Sound}
 use Rattle.tree.specs.Walk.{Hangs}
 use Rattle.tree.proofs.NodeLaws.{split, above-left, above-right, above-top, whole-down, above-aligned, parent-right, aligned-left, aligned-right, above-zero}

@@ -1,5 +1,4 @@
 use Prim.Native.Nat.{_≤_, _-_}
-use native.Mathlib.Omega.{arith}
 use borrow.Author.Needs.{needs}
 use Rattle.hash_vectors.proofs.million.Statement.{statement}
 use Rattle.hash_vectors.proofs.million.Tie as tie

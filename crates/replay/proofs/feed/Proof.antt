@@ -7,9 +7,6 @@ use Rattle.script.proofs.Promise.{lineSize, fits-or-front}
 use Rattle.trace.proofs.Promise.{rest-shorter, read-some, read-bound}
 use Rattle.replay.proofs.feed.Statement.{statement}
 use Rattle.replay.proofs.feed.Tie as tie
-use Rattle.replay.proofs.flush.Reads as flush-reads
-use Rattle.replay.proofs.flush_full.Reads as flush-full-reads
-use Rattle.trace.proofs.stream.advance.Reads as advance-reads
 
 abbrev Inv-loop : tie.InvT-loop
 Inv-loop chunks₀ map₀ hashes₀ trusted₀ has₀ wants₀ reply₀ line₀ len block out₀ current₀ kept₀ used₀ rest₀ chunks map hashes trusted has wants reply line out current kept used rest =

@@ -6,11 +6,6 @@ use lib.Seq.{length-take-le}
 use borrow.Author.Needs.{needs}
 use Rattle.replay.proofs.run.Statement.{statement}
 use Rattle.replay.proofs.run.Tie as tie
-use Rattle.replay.proofs.feed.Reads as feed-reads
-use Rattle.replay.proofs.flush.Reads as flush-reads
-use Rattle.replay.proofs.read_block.Reads as read-block-reads
-use Rattle.trace.proofs.session.fresh.Reads as fresh-reads
-use Rattle.trace.proofs.stream.finish.Reads as finish-reads
 
 abbrev Inv-loop : tie.InvT-loop
 Inv-loop chunks₀ map₀ hashes₀ trusted₀ has₀ wants₀ reply₀ line₀ block₀ out₀ current₀ len₀ n₀ turns₀ chunks map hashes trusted has wants reply line block out current len n turns =

@@ -1,8 +1,4 @@
-use mathlib.Core.Path.{_≡_, _∙_}
-use native.Mathlib.Omega.{arith}
 use denote.Ref.{now}
-use lib.ListN.{length, length-take, length-drop, take, drop}
-use lib.Seq.{take-take}
 use Rattle.hash.proofs.MessageLaws.{part-law}
 use borrow.Author.Needs.{needs}
 use Rattle.hash.proofs.block.compress.Statement.{statement}

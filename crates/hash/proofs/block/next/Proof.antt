@@ -1,4 +1,3 @@
-use Rattle.hash.specs.Word.{_⊞_, σ0, σ1}
 use Rattle.hash.specs.Block.{next}
 use borrow.Author.Needs.{needs}
 use Rattle.hash.proofs.block.next.Statement.{statement}

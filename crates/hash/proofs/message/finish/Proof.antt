@@ -1,8 +1,8 @@
-use mathlib.Core.Path.{_≡_, refl, ap, _∙_}
+use mathlib.Core.Path.{refl, _∙_}
 use Prim.Native.Nat.{_/_, _*_}
 use native.Mathlib.Omega.{arith}
 use denote.Ref.{now}
-use lib.ListN.{length, drop, length-drop}
+use lib.ListN.{length, length-drop}
 use Rattle.hash.specs.Word.{_⊞_, σ0, σ1, word32, words}
 use Rattle.hash.specs.Block.{next, extended}
 use Rattle.hash.specs.Rows.{nextSixteen}

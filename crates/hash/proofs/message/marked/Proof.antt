@@ -2,7 +2,6 @@ use Prim.Native.Nat.{_≤_, _-_}
 use mathlib.Core.Path.{_≡_, refl}
 use native.Mathlib.Omega.{arith}
 use denote.Ref.{now}
-use lib.ListN.{length}
 use Rattle.hash.proofs.MessageLaws.{copied, copy-turn, mark-law}
 use borrow.Author.Needs.{needs}
 use Rattle.hash.proofs.message.marked.Statement.{statement}

@@ -1,4 +1,4 @@
-use mathlib.Core.Path.{_≡_, ap, sym, _∙_}
+use mathlib.Core.Path.{ap, sym, _∙_}
 use Rattle.hash.specs.Word.{bytesOf}
 use Rattle.hash.specs.Message.{hashed}
 use Rattle.hash.specs.Sha256.{sha256-is}

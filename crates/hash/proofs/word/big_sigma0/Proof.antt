@@ -1,6 +1,5 @@
-use mathlib.Core.Path.{ap, ap₂}
+use mathlib.Core.Path.{ap₂}
 use lib.Bits.{bitXor}
-use Prim.Native.Nat.{ℕ, _/_, _^_}
 use Rattle.hash.specs.Word.{Σ0}
 use Rattle.hash.proofs.Rotation.{shared-rotation}
 use borrow.Author.Needs.{needs}

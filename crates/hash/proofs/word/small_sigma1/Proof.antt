@@ -1,4 +1,4 @@
-use mathlib.Core.Path.{ap, ap₂}
+use mathlib.Core.Path.{ap}
 use lib.Bits.{bitXor}
 use Prim.Native.Nat.{ℕ, _/_, _^_}
 use Rattle.hash.specs.Word.{σ1}

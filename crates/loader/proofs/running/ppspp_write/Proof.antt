@@ -9,7 +9,7 @@ use Rattle.loader.proofs.running.ppspp_write.Tie as tie
 returns : tie.Need-returns
 returns c =
     let a = c .before .before .before .before .before .before .before .before .before .args in
-    beside-short (lentOf (a .state .now) (a .chunks .now) (a .map .now) (a .hashes .now) (a .trusted .now) (a .has .now) (a .wants .now) (a .reply .now)) (λ w. writeSpec w (a .id) (a .c) (a .clock)) (c .if1 .taken)
+    beside-short (lentOf (a .state .now) (a .chunks .now) (a .map .now) (a .hashes .now) (a .trusted .now) (a .has .now) (a .wants .now) (a .reply .now)) (λ w. writeSpec w (a .id) (a .chunk) (a .clock)) (c .if1 .taken)
 
 state-in-requires : tie.Need-state-in-requires
 state-in-requires c κs = search needs
@@ -23,7 +23,7 @@ same-length c = search needs
 returns-2 : tie.Need-returns-2
 returns-2 c =
     let a = c .before .before .before .before .before .before .before .before .before .before .before .before .before .before .args in
-    beside-made (lentOf (a .state .now) (a .chunks .now) (a .map .now) (a .hashes .now) (a .trusted .now) (a .has .now) (a .wants .now) (a .reply .now)) (λ w. writeSpec w (a .id) (a .c) (a .clock)) (omega (arith, c .before .before .before .before .before .if1 .left)) (c .before .before .before .before .state-in .ensures) (c .before .before .write .ensures)
+    beside-made (lentOf (a .state .now) (a .chunks .now) (a .map .now) (a .hashes .now) (a .trusted .now) (a .has .now) (a .wants .now) (a .reply .now)) (λ w. writeSpec w (a .id) (a .chunk) (a .clock)) (omega (arith, c .before .before .before .before .before .if1 .left)) (c .before .before .before .before .state-in .ensures) (c .before .before .write .ensures)
 
 pub ppspp-write-spec : {M : Type 1} → statement M
 ppspp-write-spec =

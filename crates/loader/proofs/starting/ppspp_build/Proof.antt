@@ -1,7 +1,7 @@
 use lib.ListN.{length}
 use Rattle.channel.proofs.Promise.{buildSpec}
 use Rattle.loader.specs.Calls.{lentOf, buildShort}
-use Rattle.loader.proofs.CallLaws.{call-made, begun-same, begun-short}
+use Rattle.loader.proofs.CallLaws.{call-made, answered-same, answered-short}
 use native.Mathlib.Omega.{arith}
 use borrow.Author.Needs.{needs}
 use Rattle.loader.proofs.starting.ppspp_build.Statement.{statement}
@@ -13,7 +13,7 @@ short-build-requires c κs = search needs
 returns : tie.Need-returns
 returns c =
     let a = c .before .before .before .before .before .before .before .before .before .before .before .args in
-    begun-short (lentOf (a .state .now) (a .chunks .now) (a .map .now) (a .hashes .now) (a .trusted .now) (a .has .now) (a .wants .now) (a .reply .now)) (λ w. buildSpec w (a .length) (a .content .now)) (buildShort (a .length) (length (a .content .now))) (c .short-build .ensures) (c .before .if1 .taken)
+    answered-short (lentOf (a .state .now) (a .chunks .now) (a .map .now) (a .hashes .now) (a .trusted .now) (a .has .now) (a .wants .now) (a .reply .now)) (λ w. buildSpec w (a .length) (a .content .now)) (buildShort (a .length) (length (a .content .now))) (c .short-build .ensures) (c .before .if1 .taken)
 
 state-in-requires : tie.Need-state-in-requires
 state-in-requires c κs = search needs
@@ -48,7 +48,7 @@ same-length-7 c = search needs
 returns-2 : tie.Need-returns-2
 returns-2 c =
     let a = c .before .before .before .before .before .before .before .before .before .before .before .before .before .before .before .before .before .before .before .before .before .before .before .before .before .before .before .before .before .before .before .before .before .before .before .args in
-    begun-same (call-made (lentOf (a .state .now) (a .chunks .now) (a .map .now) (a .hashes .now) (a .trusted .now) (a .has .now) (a .wants .now) (a .reply .now)) (λ w. buildSpec w (a .length) (a .content .now)) (omega (arith, c .before .before .before .before .before .before .before .before .before .before .before .before .before .before .before .before .before .before .before .before .before .before .before .before .before .if1 .left)) (c .before .before .before .before .before .before .before .before .before .before .before .before .before .before .before .before .before .before .before .before .before .before .before .state-in .ensures) (c .before .before .before .before .before .before .before .before .before .before .before .before .before .before .before .before .build .ensures) (buildShort (a .length) (length (a .content .now))) (c .before .before .leave .ensures))
+    answered-same (call-made (lentOf (a .state .now) (a .chunks .now) (a .map .now) (a .hashes .now) (a .trusted .now) (a .has .now) (a .wants .now) (a .reply .now)) (λ w. buildSpec w (a .length) (a .content .now)) (omega (arith, c .before .before .before .before .before .before .before .before .before .before .before .before .before .before .before .before .before .before .before .before .before .before .before .before .before .if1 .left)) (c .before .before .before .before .before .before .before .before .before .before .before .before .before .before .before .before .before .before .before .before .before .before .before .state-in .ensures) (c .before .before .before .before .before .before .before .before .before .before .before .before .before .before .before .before .build .ensures) (buildShort (a .length) (length (a .content .now))) (c .before .before .leave .ensures))
 
 pub ppspp-build-spec : {M : Type 1} → statement M
 ppspp-build-spec =

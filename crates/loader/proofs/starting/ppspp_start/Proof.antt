@@ -1,6 +1,6 @@
 use Rattle.channel.proofs.Promise.{startSpec}
 use Rattle.loader.specs.Calls.{lentOf, orderOf, startShort}
-use Rattle.loader.proofs.CallLaws.{call-made, begun-short, start-under}
+use Rattle.loader.proofs.CallLaws.{call-made, answered-short, start-under}
 use native.Mathlib.Omega.{arith}
 use borrow.Author.Needs.{needs}
 use Rattle.loader.proofs.starting.ppspp_start.Statement.{statement}
@@ -12,7 +12,7 @@ short-start-requires c κs = search needs
 returns : tie.Need-returns
 returns c =
     let a = c .before .before .before .before .before .before .before .before .before .before .args in
-    begun-short (lentOf (a .state .now) (a .chunks .now) (a .map .now) (a .hashes .now) (a .trusted .now) (a .has .now) (a .wants .now) (a .reply .now)) (λ w. startSpec w (orderOf (a .root .now) (a .length))) (startShort (a .length)) (c .short-start .ensures) (c .before .if1 .taken)
+    answered-short (lentOf (a .state .now) (a .chunks .now) (a .map .now) (a .hashes .now) (a .trusted .now) (a .has .now) (a .wants .now) (a .reply .now)) (λ w. startSpec w (orderOf (a .root .now) (a .length))) (startShort (a .length)) (c .short-start .ensures) (c .before .if1 .taken)
 
 load-requires : tie.Need-load-requires
 load-requires c κs = search needs

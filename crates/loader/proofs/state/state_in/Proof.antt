@@ -7,11 +7,11 @@ use Rattle.loader.proofs.state.state_in.Tie as tie
 shared-slice-read-if1 : tie.Need-shared-slice-read-if1
 shared-slice-read-if1 c = search needs
 
-no-state-requires : tie.Need-no-state-requires
-no-state-requires c κs = search needs
+unstarted-requires : tie.Need-unstarted-requires
+unstarted-requires c κs = search needs
 
 returns : tie.Need-returns
-returns c = state-other _ (c .before .if1 .taken) (c .no-state .ensures)
+returns c = state-other _ (c .before .if1 .taken) (c .unstarted .ensures)
 
 order-in-requires : tie.Need-order-in-requires
 order-in-requires c κs = search needs
@@ -27,7 +27,7 @@ state-in-spec =
     tie.close
     (tie.spec
     shared-slice-read-if1
-    no-state-requires
+    unstarted-requires
     returns
     order-in-requires
     table-in-requires

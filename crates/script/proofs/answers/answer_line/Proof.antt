@@ -3,8 +3,6 @@ use Rattle.script.proofs.LineLaws.{counted, fits-bound, line-fits, line
 use borrow.Author.Needs.{needs}
 use Rattle.script.proofs.answers.answer_line.Statement.{statement}
 use Rattle.script.proofs.answers.answer_line.Tie as tie
-use Rattle.script.proofs.answers.fits.Reads as fits-reads
-use Rattle.script.proofs.answers.put_line.Reads as put-line-reads
 
 least-requires : tie.Need-least-requires
 least-requires c κs = search needs

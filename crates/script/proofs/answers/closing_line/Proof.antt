@@ -3,7 +3,6 @@ use mathlib.Core.Path.{_∙_}
 use borrow.Author.Needs.{needs}
 use Rattle.script.proofs.answers.closing_line.Statement.{statement}
 use Rattle.script.proofs.answers.closing_line.Tie as tie
-use Rattle.script.proofs.answers.answer_line.Reads as answer-line-reads
 
 cast-t8 : tie.Need-cast-t8
 cast-t8 c = search needs

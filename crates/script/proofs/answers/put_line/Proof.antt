@@ -6,8 +6,6 @@ use Rattle.script.proofs.LineLaws.{put-answer}
 use borrow.Author.Needs.{needs}
 use Rattle.script.proofs.answers.put_line.Statement.{statement}
 use Rattle.script.proofs.answers.put_line.Tie as tie
-use Rattle.script.proofs.hex.encode.Reads as encode-reads
-use Rattle.script.proofs.hex.encode_byte.Reads as encode-byte-reads
 
 encode-byte-requires : tie.Need-encode-byte-requires
 encode-byte-requires c κs = search needs

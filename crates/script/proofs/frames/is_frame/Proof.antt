@@ -3,8 +3,6 @@ use Rattle.script.proofs.FrameLaws.{by-characters, other-length}
 use borrow.Author.Needs.{needs}
 use Rattle.script.proofs.frames.is_frame.Statement.{statement}
 use Rattle.script.proofs.frames.is_frame.Tie as tie
-use Rattle.script.proofs.frames.has_length.Reads as has-length-reads
-use Rattle.script.proofs.hex.all_digits.Reads as all-digits-reads
 
 has-length-requires : tie.Need-has-length-requires
 has-length-requires c κs = search needs

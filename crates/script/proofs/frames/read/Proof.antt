@@ -4,8 +4,6 @@ use Rattle.script.proofs.FrameLaws.{frame-digits, no-frame, no-room, a-
 use borrow.Author.Needs.{needs}
 use Rattle.script.proofs.frames.read.Statement.{statement}
 use Rattle.script.proofs.frames.read.Tie as tie
-use Rattle.script.proofs.frames.is_frame.Reads as is-frame-reads
-use Rattle.script.proofs.hex.decode.Reads as decode-reads
 
 is-frame-requires : tie.Need-is-frame-requires
 is-frame-requires c κs = search needs

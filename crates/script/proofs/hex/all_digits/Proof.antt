@@ -6,7 +6,6 @@ use Rattle.script.proofs.HexLaws.{part, digits-end, digits-off, digits-
 use borrow.Author.Needs.{needs}
 use Rattle.script.proofs.hex.all_digits.Statement.{statement}
 use Rattle.script.proofs.hex.all_digits.Tie as tie
-use Rattle.script.proofs.hex.digit.Reads as digit-reads
 
 abbrev Inv-loop : tie.InvT-loop
 Inv-loop s rest₀ rest = allDigits s ≡ allDigits rest

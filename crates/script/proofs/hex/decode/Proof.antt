@@ -9,7 +9,6 @@ use Rattle.script.proofs.HexLaws.{part, digits-two, decode-two, decode-
 use borrow.Author.Needs.{needs}
 use Rattle.script.proofs.hex.decode.Statement.{statement}
 use Rattle.script.proofs.hex.decode.Tie as tie
-use Rattle.script.proofs.hex.digit.Reads as digit-reads
 
 abbrev Inv-loop : tie.InvT-loop
 Inv-loop digits room₀ rest₀ at₀ room rest at = (sets room at (decoded rest) ≡ sets room₀ 0 (decoded digits)) × (allDigits rest ≡ true) × (at + length rest / 2 ≤ length room) × (length room ≡ length room₀)

@@ -8,7 +8,6 @@ use Rattle.script.proofs.HexLaws.{part, encode-one, encode-end}
 use borrow.Author.Needs.{needs}
 use Rattle.script.proofs.hex.encode.Statement.{statement}
 use Rattle.script.proofs.hex.encode.Tie as tie
-use Rattle.script.proofs.hex.encode_byte.Reads as encode-byte-reads
 
 abbrev Inv-loop : tie.InvT-loop
 Inv-loop bytes room₀ at rest₀ to₀ room rest to = (sets room to (encoded rest) ≡ sets room₀ at (encoded bytes)) × (to + (length rest + length rest) ≤ length room) × (length room ≡ length room₀)

@@ -4,8 +4,6 @@ use Rattle.script.proofs.HexLaws.{encode-byte}
 use borrow.Author.Needs.{needs}
 use Rattle.script.proofs.hex.encode_byte.Statement.{statement}
 use Rattle.script.proofs.hex.encode_byte.Tie as tie
-use Rattle.script.proofs.hex.high_digit.Reads as high-digit-reads
-use Rattle.script.proofs.hex.low_digit.Reads as low-digit-reads
 
 high-digit-requires : tie.Need-high-digit-requires
 high-digit-requires c κs = search needs

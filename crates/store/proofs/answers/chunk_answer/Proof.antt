@@ -1,5 +1,4 @@
 use native.Mathlib.Omega.{arith}
-use Rattle.tree.specs.Peaks.{before}
 use Rattle.store.proofs.AnswerLaws.{chunk-past, chunk-other, chunk-right}
 use borrow.Author.Needs.{needs}
 use Rattle.store.proofs.answers.chunk_answer.Statement.{statement}

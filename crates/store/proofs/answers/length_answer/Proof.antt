@@ -1,5 +1,4 @@
 use native.Mathlib.Omega.{arith}
-use Rattle.tree.specs.Peaks.{before}
 use Rattle.store.proofs.AnswerLaws.{length-zero, length-over, length-right}
 use Rattle.store.proofs.answers.length_answer.Statement.{statement}
 use Rattle.store.proofs.answers.length_answer.Tie as tie

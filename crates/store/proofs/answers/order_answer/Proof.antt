@@ -1,5 +1,4 @@
 use native.Mathlib.Omega.{arith}
-use Rattle.tree.specs.Peaks.{before}
 use Rattle.store.proofs.AnswerLaws.{order-refused, order-rooms}
 use borrow.Author.Needs.{needs}
 use Rattle.store.proofs.answers.order_answer.Statement.{statement}

@@ -1,11 +1,6 @@
-use mathlib.Core.List.{map}
 use native.Mathlib.Omega.{arith}
 use mir.Val.{Fits}
 use mir.Syntax.{w32}
-use lib.ListN.{length}
-use Rattle.bits.proofs.Promise.{row-words}
-use Rattle.tree.specs.Pack.{chunks}
-use Rattle.tree.specs.Peaks.{before}
 use Rattle.store.proofs.AnswerLaws.{bytes-short, map-short, hashes-short, trusted-short, rooms-right, places-small}
 use borrow.Author.Needs.{needs}
 use Rattle.store.proofs.answers.room_answer.Statement.{statement}

@@ -1,6 +1,5 @@
 use mathlib.Core.Path.{sym, _∙_}
 use native.Mathlib.Omega.{arith}
-use Rattle.tree.specs.Peaks.{before}
 use Rattle.store.proofs.AnswerLaws.{earlier-zero, earlier-not}
 use borrow.Author.Needs.{needs}
 use Rattle.store.proofs.answers.take_answer.Statement.{statement}

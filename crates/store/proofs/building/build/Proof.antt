@@ -1,10 +1,7 @@
-use mathlib.Core.List.{map}
 use Prim.Native.Nat.{_+_, _*_, _≤_}
 use native.Mathlib.Omega.{arith}
 use lib.Pow.{pow-mono}
 use lib.ListN.{length}
-use Rattle.tree.specs.Pack.{chunks, levels}
-use Rattle.tree.specs.Peaks.{before}
 use Rattle.store.proofs.BuildingLaws.{built-is}
 use Rattle.tree.proofs.PackLaws.{levels-holds}
 use borrow.Author.Needs.{needs}

@@ -1,7 +1,6 @@
 use mathlib.Core.Path.{ap, _∙_}
 use Prim.Native.Nat.{ℕ}
-use Rattle.bits.proofs.Promise.{clearWords, row-words}
-use Rattle.tree.specs.Peaks.{before}
+use Rattle.bits.proofs.Promise.{clearWords}
 use borrow.Author.Needs.{needs}
 use Rattle.store.proofs.building.clear_row.Statement.{statement}
 use Rattle.store.proofs.building.clear_row.Tie as tie

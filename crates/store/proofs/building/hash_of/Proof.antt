@@ -4,8 +4,6 @@ use Prim.Native.Nat.{ℕ, _-_}
 use native.Mathlib.Omega.{arith}
 use lib.Pow.{pow-pos}
 use Rattle.hash.proofs.Promise.{sha256}
-use Rattle.tree.specs.Node.{parent}
-use Rattle.tree.specs.Peaks.{before}
 use Rattle.verdict.specs.Room.{hashIn}
 use Rattle.store.proofs.BuildingLaws.{kth-inside, kids-in, kids-hash, leaf-in, chunk-starts, leaf-hash, twice-below}
 use borrow.Author.Needs.{needs}

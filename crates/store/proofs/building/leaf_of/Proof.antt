@@ -1,7 +1,6 @@
 use mathlib.Core.Path.{ap, _∙_}
 use native.Mathlib.Omega.{arith}
 use Rattle.hash.proofs.Promise.{sha256}
-use Rattle.tree.specs.Peaks.{before}
 use Rattle.store.proofs.BuildingLaws.{chunk-last, chunk-whole}
 use borrow.Author.Needs.{needs}
 use Rattle.store.proofs.building.leaf_of.Statement.{statement}

@@ -2,7 +2,6 @@ use mathlib.Core.Path.{ap, _∙_}
 use mathlib.Core.List.{List}
 use Prim.Native.Nat.{ℕ}
 use Rattle.bits.proofs.Promise.{setRange}
-use Rattle.tree.specs.Peaks.{before}
 use borrow.Author.Needs.{needs}
 use Rattle.store.proofs.building.mark_all.Statement.{statement}
 use Rattle.store.proofs.building.mark_all.Tie as tie

@@ -2,7 +2,6 @@ use mathlib.Core.Path.{_≡_, ap}
 use Prim.Native.Nat.{ℕ, _*_, _^_}
 use native.Mathlib.Omega.{arith}
 use lib.Pow.{pow-mono}
-use Rattle.tree.specs.Peaks.{before}
 use borrow.Author.Needs.{needs}
 use Rattle.store.proofs.building.nth.Statement.{statement}
 use Rattle.store.proofs.building.nth.Tie as tie

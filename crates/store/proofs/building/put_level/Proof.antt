@@ -2,7 +2,6 @@ use mathlib.Core.Path.{_≡_, refl, ap, _∙_}
 use Prim.Native.Nat.{ℕ, _-_, _/_, _^_, _≤_}
 use native.Mathlib.Omega.{arith}
 use lib.ListN.{length}
-use Rattle.tree.specs.Peaks.{before}
 use Rattle.verdict.specs.Room.{putHash}
 use Rattle.store.specs.Storing.{mark}
 use Rattle.store.specs.Building.{treeOf, putLevel}

@@ -1,7 +1,6 @@
 use mathlib.Core.Path.{ap₂, _∙_}
 use native.Mathlib.Omega.{arith}
 use lib.Pow.{pow-pos}
-use Rattle.tree.specs.Peaks.{before}
 use Rattle.verdict.specs.Room.{putHash}
 use Rattle.store.specs.Storing.{mark}
 use Rattle.store.proofs.BuildingLaws.{kth-inside}

@@ -1,10 +1,7 @@
-use mathlib.Core.List.{map}
 use native.Mathlib.Omega.{arith}
 use lib.Pow.{pow-pos}
-use Rattle.hash.proofs.Promise.{bytesOf, words}
+use Rattle.hash.proofs.Promise.{bytesOf}
 use Rattle.tree.specs.Pack.{levels}
-use Rattle.tree.specs.Peaks.{before}
-use Rattle.tree.specs.Tree.{root}
 use Rattle.store.proofs.StartedLaws.{started-is}
 use Rattle.store.proofs.AnswerLaws.{places-small}
 use borrow.Author.Needs.{needs}

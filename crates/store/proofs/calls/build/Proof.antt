@@ -1,9 +1,4 @@
-use mathlib.Core.List.{map}
-use Prim.Native.Nat.{zero}
 use native.Mathlib.Omega.{arith}
-use lib.ListN.{length}
-use Rattle.tree.specs.Pack.{chunks}
-use Rattle.tree.specs.Peaks.{before}
 use Rattle.verdict.specs.Room.{filler}
 use Rattle.verdict.specs.Rooms.{roomsOf}
 use Rattle.store.specs.Building.{rootOf}

@@ -1,10 +1,5 @@
-use mathlib.Core.List.{map}
 use native.Mathlib.Omega.{arith}
-use lib.ListN.{length}
-use Rattle.hash.proofs.Promise.{bytesOf, words}
-use Rattle.tree.specs.Pack.{chunks}
-use Rattle.tree.specs.Peaks.{before}
-use Rattle.tree.specs.Tree.{root}
+use Rattle.hash.proofs.Promise.{bytesOf}
 use Rattle.verdict.specs.Rooms.{roomsOf}
 use Rattle.store.proofs.CallLaws.{start-refused, start-done}
 use borrow.Author.Needs.{needs}

@@ -5,7 +5,6 @@ use native.Mathlib.Numerals.{add-one}
 use native.Mathlib.Omega.{arith}
 use lib.ListN.{length, getD, set, length-set}
 use lib.Seq.{paste-zero, paste-suc, paste}
-use Rattle.tree.specs.Peaks.{before}
 use Rattle.store.specs.Storing.{copied}
 use Rattle.store.proofs.storing.copy_in.Statement.{statement}
 use Rattle.store.proofs.storing.copy_in.Tie as tie

@@ -1,6 +1,5 @@
 use Prim.Native.Nat.{suc}
 use borrow.Author.Tests.{not-true, not-false}
-use Rattle.tree.specs.Peaks.{before}
 use Rattle.verdict.specs.Room.{putHash}
 use Rattle.verdict.specs.Integrity.{integrityOf}
 use Rattle.verdict.specs.Rooms.{gotBy}

@@ -2,7 +2,6 @@ use mathlib.Core.Path.{_≡_, sym, ap, _∙_}
 use mathlib.Core.Logic.{_≢_}
 use Prim.Native.Nat.{suc, _/_, _%_, _^_}
 use Rattle.tree.specs.Node.{above}
-use Rattle.tree.specs.Peaks.{before}
 use Rattle.verdict.specs.Room.{putHash}
 use Rattle.verdict.specs.Integrity.{integrityOf, gotAt}
 use Rattle.verdict.specs.Rooms.{gotBy}

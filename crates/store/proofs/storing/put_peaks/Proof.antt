@@ -2,7 +2,6 @@ use mathlib.Core.Path.{_≡_, ap, _∙_}
 use Prim.Native.Nat.{ℕ, suc, _-_, _≤_}
 use native.Mathlib.Omega.{arith}
 use lib.ListN.{length}
-use Rattle.tree.specs.Peaks.{before}
 use Rattle.verdict.specs.Room.{putHash}
 use Rattle.verdict.specs.Integrity.{integrityOf}
 use Rattle.verdict.specs.Rooms.{gotBy}

@@ -3,8 +3,6 @@ use Rattle.trace.proofs.SessionLaws.{at-first, at-later, at-over}
 use borrow.Author.Needs.{needs}
 use Rattle.trace.proofs.session.answer.Statement.{statement}
 use Rattle.trace.proofs.session.answer.Tie as tie
-use Rattle.trace.proofs.session.first_line.Reads as first-line-reads
-use Rattle.trace.proofs.session.later_line.Reads as later-line-reads
 
 enum-told : tie.Need-enum-told
 enum-told c = search needs

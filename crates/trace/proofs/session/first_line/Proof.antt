@@ -2,8 +2,6 @@ use Rattle.trace.proofs.SessionLaws.{started, refused}
 use borrow.Author.Needs.{needs}
 use Rattle.trace.proofs.session.first_line.Statement.{statement}
 use Rattle.trace.proofs.session.first_line.Tie as tie
-use Rattle.channel.proofs.starting.start.Reads as start-reads
-use Rattle.trace.proofs.session.order_of.Reads as order-of-reads
 
 order-of-requires : tie.Need-order-of-requires
 order-of-requires c κs = search needs

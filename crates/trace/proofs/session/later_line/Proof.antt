@@ -3,8 +3,6 @@ use Rattle.trace.proofs.SessionLaws.{frame-fits, frame-length, frame-cl
 use borrow.Author.Needs.{needs}
 use Rattle.trace.proofs.session.later_line.Statement.{statement}
 use Rattle.trace.proofs.session.later_line.Tie as tie
-use Rattle.script.proofs.frames.read.Reads as read-reads
-use Rattle.trace.proofs.session.take.Reads as take-reads
 
 slice-aggregate-read : tie.Need-slice-aggregate-read
 slice-aggregate-read c = search needs

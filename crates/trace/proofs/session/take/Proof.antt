@@ -2,9 +2,6 @@ use Rattle.trace.proofs.SessionLaws.{part, took}
 use borrow.Author.Needs.{needs}
 use Rattle.trace.proofs.session.take.Statement.{statement}
 use Rattle.trace.proofs.session.take.Tie as tie
-use Rattle.channel.proofs.taking.take.Reads as take-reads
-use Rattle.trace.proofs.session.next_id.Reads as next-id-reads
-use Rattle.wire.proofs.bytes.load64.Reads as load64-reads
 
 load64-requires : tie.Need-load64-requires
 load64-requires c κs = search needs

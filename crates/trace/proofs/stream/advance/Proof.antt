@@ -3,10 +3,6 @@ use Rattle.trace.proofs.StreamLaws.{before-length, before-less, kept-le
 use borrow.Author.Needs.{needs}
 use Rattle.trace.proofs.stream.advance.Statement.{statement}
 use Rattle.trace.proofs.stream.advance.Tie as tie
-use Rattle.script.proofs.lines.before_feed.Reads as before-feed-reads
-use Rattle.script.proofs.lines.keep.Reads as keep-reads
-use Rattle.trace.proofs.stream.behind.Reads as behind-reads
-use Rattle.trace.proofs.stream.end_line.Reads as end-line-reads
 
 before-feed-requires : tie.Need-before-feed-requires
 before-feed-requires c κs = search needs

@@ -3,9 +3,6 @@ use Rattle.trace.proofs.StreamLaws.{line-done}
 use borrow.Author.Needs.{needs}
 use Rattle.trace.proofs.stream.end_line.Statement.{statement}
 use Rattle.trace.proofs.stream.end_line.Tie as tie
-use Rattle.script.proofs.lines.least.Reads as least-reads
-use Rattle.trace.proofs.session.answer.Reads as answer-reads
-use Rattle.trace.proofs.stream.put_answer.Reads as put-answer-reads
 
 least-requires : tie.Need-least-requires
 least-requires c κs = search needs

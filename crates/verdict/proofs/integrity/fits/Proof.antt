@@ -1,5 +1,4 @@
 use native.Mathlib.Omega.{arith}
-use Rattle.tree.specs.Peaks.{before}
 use Rattle.verdict.proofs.IntegrityLaws.{fits-yes, fits-no}
 use Rattle.verdict.proofs.integrity.fits.Statement.{statement}
 use Rattle.verdict.proofs.integrity.fits.Tie as tie

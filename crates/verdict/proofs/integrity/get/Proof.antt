@@ -1,7 +1,5 @@
 use mathlib.Core.Path.{sym, _∙_}
-use Prim.Native.Nat.{zero}
 use borrow.Author.Tests.{leb-true}
-use Rattle.tree.specs.Peaks.{before}
 use Rattle.verdict.specs.Room.{filler}
 use Rattle.verdict.proofs.IntegrityLaws.{get-there, get-not}
 use borrow.Author.Needs.{needs}

@@ -1,4 +1,3 @@
-use Rattle.tree.specs.Peaks.{before}
 use Rattle.verdict.proofs.IntegrityLaws.{has-is}
 use borrow.Author.Needs.{needs}
 use Rattle.verdict.proofs.integrity.has.Statement.{statement}

@@ -4,7 +4,6 @@ use mathlib.Core.Option.{Option}
 use Prim.Native.Nat.{ℕ}
 use native.Mathlib.Omega.{arith}
 use lib.ListN.{length}
-use Rattle.tree.specs.Peaks.{before}
 use Rattle.verdict.specs.Integrity.{find, placeOr}
 use Rattle.verdict.proofs.IntegrityLaws.{find-here, find-next, find-end, rest-is}
 use borrow.Author.Needs.{needs}

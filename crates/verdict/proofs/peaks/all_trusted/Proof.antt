@@ -1,7 +1,6 @@
 use mathlib.Core.Path.{_≡_}
 use Prim.Native.Nat.{suc, _-_, _≤_}
 use native.Mathlib.Omega.{arith}
-use Rattle.tree.specs.Peaks.{before}
 use Rattle.tree.specs.Verdicts.{every}
 use Rattle.tree.specs.Steps.{peaksBelow}
 use Rattle.verdict.specs.Rooms.{trustedIn}

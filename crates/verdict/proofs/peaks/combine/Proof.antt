@@ -1,10 +1,9 @@
 use mathlib.Core.Path.{_≡_, sym, ap, _∙_}
-use Prim.Native.Nat.{ℕ, zero, _-_, _≤_}
+use Prim.Native.Nat.{ℕ, _-_, _≤_}
 use native.Mathlib.Numerals.{add-one}
 use native.Mathlib.Omega.{arith}
-use Rattle.hash.proofs.Promise.{sha256, bytesOf, words}
+use Rattle.hash.proofs.Promise.{sha256, bytesOf}
 use Rattle.tree.specs.Node.{above}
-use Rattle.tree.specs.Peaks.{before}
 use Rattle.tree.specs.Tree.{given}
 use Rattle.tree.specs.Steps.{folded}
 use Rattle.verdict.specs.Room.{filler}

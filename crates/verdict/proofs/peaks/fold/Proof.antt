@@ -1,9 +1,7 @@
 use mathlib.Core.Path.{_≡_, sym, ap, _∙_}
 use mathlib.Core.List.{List, _++_}
-use Prim.Native.Nat.{ℕ, zero, _/_, _%_, _^_}
-use Rattle.hash.proofs.Promise.{sha256, bytesOf, words}
-use Rattle.tree.specs.Node.{above, parent}
-use Rattle.tree.specs.Peaks.{before}
+use Prim.Native.Nat.{ℕ, _/_, _%_, _^_}
+use Rattle.hash.proofs.Promise.{sha256, bytesOf}
 use Rattle.verdict.specs.Room.{filler}
 use Rattle.verdict.specs.Integrity.{integrityOf}
 use Rattle.verdict.specs.Steps.{source, sourceBy}

@@ -1,6 +1,5 @@
 use mathlib.Core.Path.{sym, ap, _∙_}
 use mathlib.Core.Bool.{Bool}
-use Rattle.tree.specs.Peaks.{before}
 use Rattle.verdict.specs.Integrity.{integrityOf}
 use Rattle.verdict.specs.Steps.{source}
 use borrow.Author.Needs.{needs}

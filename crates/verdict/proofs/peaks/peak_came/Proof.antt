@@ -2,7 +2,6 @@ use mathlib.Core.Path.{sym, ap, _∙_}
 use mathlib.Core.Logic.{_≢_}
 use Prim.Native.Nat.{_/_, _%_, _^_}
 use Rattle.tree.specs.Node.{num}
-use Rattle.tree.specs.Peaks.{before}
 use Rattle.tree.specs.Steps.{peakAt}
 use Rattle.verdict.specs.Integrity.{integrityOf, came}
 use Rattle.verdict.proofs.LoopLaws.{step-skip, step-yes, step-no}

@@ -3,7 +3,6 @@ use mathlib.Core.Logic.{_≢_}
 use Prim.Native.Nat.{_/_, _%_, _^_}
 use Rattle.bits.proofs.Promise.{bitAt}
 use Rattle.tree.specs.Node.{num}
-use Rattle.tree.specs.Peaks.{before}
 use Rattle.tree.specs.Steps.{peakAt}
 use Rattle.verdict.proofs.LoopLaws.{step-skip, step-yes, step-no}
 use borrow.Author.Needs.{needs}

@@ -3,7 +3,6 @@ use Prim.Native.Nat.{_-_, _^_}
 use native.Mathlib.Omega.{arith}
 use Rattle.hash.proofs.Promise.{sha256}
 use Rattle.tree.specs.Bin.{bin}
-use Rattle.tree.specs.Peaks.{before}
 use Rattle.verdict.specs.Room.{filler}
 use Rattle.verdict.specs.Integrity.{integrityOf}
 use Rattle.verdict.specs.Steps.{source, sourceBy}

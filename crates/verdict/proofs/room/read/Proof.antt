@@ -1,7 +1,5 @@
 use mathlib.Core.Path.{sym, _∙_}
-use Prim.Native.Nat.{zero}
 use native.Mathlib.Omega.{arith}
-use Rattle.tree.specs.Peaks.{before}
 use Rattle.verdict.specs.Room.{filler}
 use Rattle.verdict.proofs.RoomLaws.{read-eight, read-past}
 use borrow.Author.Needs.{needs}

@@ -3,8 +3,7 @@ use native.Mathlib.Omega.{arith}
 use mir.Val.{Fits}
 use mir.Syntax.{w32}
 use lib.ListN.{getD}
-use Rattle.hash.proofs.Promise.{bytesOf, words}
-use Rattle.tree.specs.Peaks.{before}
+use Rattle.hash.proofs.Promise.{bytesOf}
 use Rattle.verdict.proofs.RoomLaws.{length-written, inside, write-eight, write-past}
 use borrow.Author.Needs.{needs}
 use Rattle.verdict.proofs.room.write.Statement.{statement}

@@ -1,4 +1,3 @@
-use Rattle.tree.specs.Peaks.{before}
 use Rattle.verdict.proofs.LoopLaws.{complete-yes, complete-no}
 use borrow.Author.Needs.{needs}
 use Rattle.verdict.proofs.verdicts.complete.Statement.{statement}

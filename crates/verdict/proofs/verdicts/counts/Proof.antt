@@ -1,8 +1,7 @@
 use mathlib.Core.Path.{sym, ap, _∙_}
 use Rattle.bits.proofs.Promise.{bitAt}
 use Rattle.tree.specs.Bin.{bin}
-use Rattle.tree.specs.Node.{node, above}
-use Rattle.tree.specs.Peaks.{before}
+use Rattle.tree.specs.Node.{above}
 use Rattle.tree.specs.State.{isPeak}
 use Rattle.verdict.proofs.LoopLaws.{counted-yes, counted-open, counted-peak}
 use borrow.Author.Needs.{needs}

@@ -3,7 +3,6 @@ use Prim.Native.Nat.{ℕ, suc, _+_}
 use native.Mathlib.Numerals.{add-one}
 use native.Mathlib.Omega.{arith}
 use Rattle.tree.specs.Node.{above}
-use Rattle.tree.specs.Peaks.{before}
 use Rattle.tree.specs.Verdicts.{reachFrom}
 use Rattle.verdict.specs.Steps.{countedBit}
 use Rattle.verdict.proofs.LoopLaws.{reach-here, reach-next, reach-end}

@@ -1,9 +1,7 @@
 use mathlib.Core.Path.{ap, _∙_}
 use mathlib.Core.List.{List}
 use Prim.Native.Nat.{ℕ}
-use Rattle.hash.proofs.Promise.{same, bytesOf, words}
-use Rattle.tree.specs.Peaks.{before}
-use Rattle.tree.specs.Tree.{root}
+use Rattle.hash.proofs.Promise.{same, bytesOf}
 use Rattle.verdict.specs.Integrity.{integrityOf}
 use borrow.Author.Needs.{needs}
 use Rattle.verdict.proofs.verdicts.rooted.Statement.{statement}

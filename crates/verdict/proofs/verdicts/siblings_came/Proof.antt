@@ -2,7 +2,7 @@ use mathlib.Core.Path.{_≡_, ap, _∙_}
 use Prim.Native.Nat.{ℕ, _-_, _≤_}
 use native.Mathlib.Omega.{arith}
 use Rattle.tree.specs.Node.{above}
-use Rattle.tree.specs.Peaks.{siblings, before}
+use Rattle.tree.specs.Peaks.{siblings}
 use Rattle.tree.specs.Verdicts.{every}
 use Rattle.verdict.specs.Integrity.{integrityOf}
 use Rattle.verdict.specs.Rooms.{cameIn}

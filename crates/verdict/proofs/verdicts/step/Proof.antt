@@ -1,9 +1,8 @@
 use mathlib.Core.Path.{_≡_, sym, ap, _∙_}
 use mathlib.Core.List.{List, _++_}
 use Prim.Native.Nat.{ℕ, suc, _/_, _%_, _^_}
-use Rattle.hash.proofs.Promise.{sha256, bytesOf, words}
-use Rattle.tree.specs.Node.{other, above, parent, sibling}
-use Rattle.tree.specs.Peaks.{before}
+use Rattle.hash.proofs.Promise.{sha256, bytesOf}
+use Rattle.tree.specs.Node.{other, above}
 use Rattle.verdict.specs.Integrity.{integrityOf, gotAt}
 use Rattle.verdict.specs.Rooms.{gotBy}
 use Rattle.verdict.proofs.LoopLaws.{right}

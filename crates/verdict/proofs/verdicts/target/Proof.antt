@@ -1,7 +1,6 @@
 use mathlib.Core.Path.{sym, ap, _∙_}
 use mathlib.Core.Bool.{Bool}
-use Rattle.tree.specs.Node.{node, above}
-use Rattle.tree.specs.Peaks.{before}
+use Rattle.tree.specs.Node.{above}
 use Rattle.tree.specs.State.{isPeak}
 use Rattle.verdict.specs.Room.{hashIn}
 use Rattle.verdict.specs.Integrity.{integrityOf, gotAt}

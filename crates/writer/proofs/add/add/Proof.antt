@@ -1,11 +1,6 @@
 use borrow.Author.Needs.{needs}
 use Rattle.writer.proofs.add.add.Statement.{statement}
 use Rattle.writer.proofs.add.add.Tie as tie
-use Rattle.writer.proofs.add.add.Reads as reads
-use Rattle.writer.proofs.add.add.Lts as lts
-use Rattle.writer.proofs.add.add_answer.Reads as add-answer-reads
-use Rattle.writer.proofs.put.put.Reads as put-reads
-use Rattle.writer.proofs.size.size_of.Reads as size-of-reads
 use native.Mathlib.Omega.{arith}
 use Rattle.writer.proofs.AnswerLaws.{add-refused, add-done}
 

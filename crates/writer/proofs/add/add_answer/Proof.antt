@@ -1,14 +1,6 @@
 use borrow.Author.Needs.{needs}
 use Rattle.writer.proofs.add.add_answer.Statement.{statement}
 use Rattle.writer.proofs.add.add_answer.Tie as tie
-use Rattle.writer.proofs.add.add_answer.Reads as reads
-use Rattle.writer.proofs.add.add_answer.Lts as lts
-use Rattle.wire.proofs.bytes.load32.Reads as load32-reads
-use Rattle.wire.proofs.layout.check.Reads as check-reads
-use Rattle.wire.proofs.layout.number.Reads as number-reads
-use Rattle.writer.proofs.add.fault_after.Reads as fault-after-reads
-use Rattle.writer.proofs.size.size_of.Reads as size-of-reads
-use Rattle.writer.proofs.size.writable.Reads as writable-reads
 use native.Mathlib.Omega.{arith}
 use mathlib.Core.Path.{sym, ap, _∙_}
 use Prim.Native.Nat.{ℕ}

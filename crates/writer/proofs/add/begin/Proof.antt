@@ -1,9 +1,6 @@
 use borrow.Author.Needs.{needs}
 use Rattle.writer.proofs.add.begin.Statement.{statement}
 use Rattle.writer.proofs.add.begin.Tie as tie
-use Rattle.writer.proofs.add.begin.Reads as reads
-use Rattle.writer.proofs.add.begin.Lts as lts
-use Rattle.writer.proofs.place.place32.Reads as place32-reads
 use Rattle.writer.proofs.AnswerLaws.{begin-refused, begin-done}
 
 -- src/add.rt:150:9

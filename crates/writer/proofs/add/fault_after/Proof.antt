@@ -1,9 +1,6 @@
 use borrow.Author.Needs.{needs}
 use Rattle.writer.proofs.add.fault_after.Statement.{statement}
 use Rattle.writer.proofs.add.fault_after.Tie as tie
-use Rattle.writer.proofs.add.fault_after.Reads as reads
-use Rattle.writer.proofs.add.fault_after.Lts as lts
-use Rattle.writer.proofs.add.fault_behind.Reads as fault-behind-reads
 use mathlib.Core.Path.{refl}
 use Rattle.writer.specs.Steps.{faultAfter}
 use Rattle.writer.proofs.AnswerLaws.{after-messages}

@@ -1,11 +1,6 @@
 use borrow.Author.Needs.{needs}
 use Rattle.writer.proofs.add.fault_behind.Statement.{statement}
 use Rattle.writer.proofs.add.fault_behind.Tie as tie
-use Rattle.writer.proofs.add.fault_behind.Reads as reads
-use Rattle.writer.proofs.add.fault_behind.Lts as lts
-use Rattle.wire.proofs.layout.handshake_fault.Reads as handshake-fault-reads
-use Rattle.writer.proofs.add.node_fault.Reads as node-fault-reads
-use Rattle.writer.proofs.add.range_fault.Reads as range-fault-reads
 use mathlib.Core.Path.{refl}
 use Rattle.writer.specs.Steps.{faultBehind}
 use Rattle.writer.proofs.AnswerLaws.{handshake-behind, handshake-first}

@@ -1,10 +1,6 @@
 use borrow.Author.Needs.{needs}
 use Rattle.writer.proofs.add.node_fault.Statement.{statement}
 use Rattle.writer.proofs.add.node_fault.Tie as tie
-use Rattle.writer.proofs.add.node_fault.Reads as reads
-use Rattle.writer.proofs.add.node_fault.Lts as lts
-use Rattle.tree.proofs.bin.node_of_range.Reads as node-of-range-reads
-use Rattle.wire.proofs.layout.seen.Reads as seen-reads
 use Rattle.writer.proofs.AnswerLaws.{node-seen, node-new, no-node}
 
 -- src/add.rt:35:11

@@ -1,7 +1,5 @@
 use Rattle.writer.proofs.add.range_fault.Statement.{statement}
 use Rattle.writer.proofs.add.range_fault.Tie as tie
-use Rattle.writer.proofs.add.range_fault.Reads as reads
-use Rattle.writer.proofs.add.range_fault.Lts as lts
 use borrow.Author.Tests.{lt-ltb, le-ltb}
 
 -- src/add.rt:26:9
