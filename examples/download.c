@@ -1,5 +1,5 @@
 /*
- * A van downloads a pack from its depot over a link in memory, and a liar on the link sends what he likes. Every line
+ * A van downloads a pack from the server over a link in memory, and a liar on the link sends what he likes. Every line
  * printed is one datagram: who sent it to whom, what it is, and what the receiving store answered.
  *
  *     cc -std=c11 -I include examples/download.c libloader.a -o download
@@ -15,10 +15,10 @@
 #define CHUNKS PPSPP_CHUNK_COUNT(LENGTH)
 
 /* Channels have an ID at each end, which its owner chooses. */
-#define DEPOT_ID 7u
+#define SERVER_ID 7u
 #define VAN_ID 5u
 
-PPSPP_DEFINE_STORE(depot, CHUNKS);
+PPSPP_DEFINE_STORE(server, CHUNKS);
 PPSPP_DEFINE_STORE(van, CHUNKS);
 PPSPP_DEFINE_STORE(liar, 1); /* he has no pack, only a room to make datagrams in */
 
@@ -70,7 +70,7 @@ static uint32_t held(const struct ppspp_store *store)
     return count;
 }
 
-/* ---- the liar, who sees what the depot sends; each lie gets the number that tells what is wrong with it */
+/* ---- the liar, who sees what the server sends; each lie gets the number that tells what is wrong with it */
 
 static void lie(const struct datagram *d, const char *what, uint32_t wanted)
 {
@@ -87,7 +87,7 @@ static void flip(const struct datagram *genuine, const char *what)
     lie(&d, what, PPSPP_HASH_MISMATCH);
 }
 
-/* Lies made of the depot's datagram: from byte 4 on it has hashes, 41 bytes each, and at its end the chunk. */
+/* Lies made of the server's datagram: from byte 4 on it has hashes, 41 bytes each, and at its end the chunk. */
 static void alter(const struct datagram *genuine)
 {
     struct datagram d = *genuine;
@@ -134,15 +134,15 @@ static void invent(void)
 
 /* ---- the download */
 
-/* The depot builds its pack; the van gets the order, the root and the length, from someone it trusts. */
+/* The server builds its pack; the van gets the order, the root and the length, from someone it trusts. */
 static void begin(void)
 {
     uint8_t root[PPSPP_ROOT_BYTES];
     for (uint32_t i = 0; i < LENGTH; i++) {
         content[i] = (uint8_t)(i * 2654435761u >> 24);
     }
-    expect(ppspp_store_build(&depot, LENGTH, content, sizeof content) == PPSPP_DONE, "the depot builds its pack");
-    expect(ppspp_store_root(&depot, root), "the depot's pack has a root");
+    expect(ppspp_store_build(&server, LENGTH, content, sizeof content) == PPSPP_DONE, "the server builds its pack");
+    expect(ppspp_store_root(&server, root), "the server's pack has a root");
     expect(ppspp_store_start(&van, root, LENGTH) == PPSPP_DONE, "the van starts under the order");
     printf("a pack of %u bytes, %u chunks, root ", (unsigned)LENGTH, (unsigned)CHUNKS);
     for (size_t i = 0; i < sizeof root; i++) {
@@ -151,27 +151,27 @@ static void begin(void)
     printf("\n");
 }
 
-/* The van calls, the depot answers, and both ends are open. */
+/* The van calls, the server answers, and both ends are open. */
 static void connect_both(void)
 {
     size_t len = 0;
     expect(ppspp_store_open(&van, VAN_ID, &len) == PPSPP_DONE, "the van opens a channel");
     const struct datagram call = sent(&van, len);
     const struct datagram answer =
-        deliver(&call, &depot, DEPOT_ID, "van -> depot", "HANDSHAKE to channel 0", PPSPP_DONE);
-    deliver(&answer, &van, 0, "depot -> van", "HANDSHAKE that answers", PPSPP_DONE);
+        deliver(&call, &server, SERVER_ID, "van -> server", "HANDSHAKE to channel 0", PPSPP_DONE);
+    deliver(&answer, &van, 0, "server -> van", "HANDSHAKE that answers", PPSPP_DONE);
     expect(ppspp_store_row(&van, 0).phase == PPSPP_OPEN, "the van's channel is open");
-    expect(ppspp_store_row(&depot, 0).phase == PPSPP_OPEN, "the depot's channel is open");
+    expect(ppspp_store_row(&server, 0).phase == PPSPP_OPEN, "the server's channel is open");
 }
 
-/* The depot tells what it has, and the van asks for what it lacks. The channel is in row 0 of both. */
+/* The server tells what it has, and the van asks for what it lacks. The channel is in row 0 of both. */
 static void ask_for_all(void)
 {
     size_t len = 0;
-    expect(ppspp_store_begin(&depot, ppspp_store_row(&depot, 0).peer, &len) == PPSPP_DONE, "the depot begins");
-    expect(ppspp_store_add_have(&depot, &len, 0, CHUNKS - 1) == PPSPP_DONE, "HAVE is added");
-    const struct datagram have = sent(&depot, len);
-    deliver(&have, &van, 0, "depot -> van", "HAVE of all chunks", PPSPP_DONE);
+    expect(ppspp_store_begin(&server, ppspp_store_row(&server, 0).peer, &len) == PPSPP_DONE, "the server begins");
+    expect(ppspp_store_add_have(&server, &len, 0, CHUNKS - 1) == PPSPP_DONE, "HAVE is added");
+    const struct datagram have = sent(&server, len);
+    deliver(&have, &van, 0, "server -> van", "HAVE of all chunks", PPSPP_DONE);
 
     expect(ppspp_store_begin(&van, ppspp_store_row(&van, 0).peer, &len) == PPSPP_DONE, "the van begins");
     for (uint32_t chunk = 0; chunk < CHUNKS; chunk++) {
@@ -180,7 +180,7 @@ static void ask_for_all(void)
         }
     }
     const struct datagram requests = sent(&van, len);
-    deliver(&requests, &depot, 0, "van -> depot", "REQUEST of each chunk not held", PPSPP_DONE);
+    deliver(&requests, &server, 0, "van -> server", "REQUEST of each chunk not held", PPSPP_DONE);
 }
 
 /* A chunk and its ACK; with the first one, lies before and after it. */
@@ -188,38 +188,38 @@ static void send_chunk(uint32_t chunk)
 {
     size_t len = 0;
     char what[32];
-    expect(ppspp_store_peer_wants(&depot, 0, chunk), "the van wants the chunk");
-    expect(ppspp_store_write(&depot, DEPOT_ID, chunk, now, &len) == PPSPP_DONE, "the depot writes the chunk");
-    const struct datagram genuine = sent(&depot, len);
+    expect(ppspp_store_peer_wants(&server, 0, chunk), "the van wants the chunk");
+    expect(ppspp_store_write(&server, SERVER_ID, chunk, now, &len) == PPSPP_DONE, "the server writes the chunk");
+    const struct datagram genuine = sent(&server, len);
     if (chunk == 0) {
         flip(&genuine, "the chunk with its last byte flipped");
         alter(&genuine);
         invent();
     }
     snprintf(what, sizeof what, "chunk %u", (unsigned)chunk);
-    const struct datagram ack = deliver(&genuine, &van, 0, "depot -> van", what, PPSPP_DONE);
+    const struct datagram ack = deliver(&genuine, &van, 0, "server -> van", what, PPSPP_DONE);
     expect(held(&van) == chunk + 1, "the chunk is held");
     if (chunk == 0) {
         flip(&genuine, "the same chunk again, its last byte flipped");
     }
     snprintf(what, sizeof what, "ACK of chunk %u", (unsigned)chunk);
-    deliver(&ack, &depot, 0, "van -> depot", what, PPSPP_DONE);
-    expect(!ppspp_store_peer_wants(&depot, 0, chunk), "the van wants it no longer");
+    deliver(&ack, &server, 0, "van -> server", what, PPSPP_DONE);
+    expect(!ppspp_store_peer_wants(&server, 0, chunk), "the van wants it no longer");
 }
 
-/* The van closes: a closing HANDSHAKE frees the depot's row, and one to its own ID the van's. */
+/* The van closes: a closing HANDSHAKE frees the server's row, and one to its own ID the van's. */
 static void close_both(void)
 {
     size_t len = 0;
     expect(ppspp_store_begin(&van, ppspp_store_row(&van, 0).peer, &len) == PPSPP_DONE, "the van begins");
     expect(ppspp_store_add_close(&van, &len) == PPSPP_DONE, "closing is added");
     const struct datagram closing = sent(&van, len);
-    deliver(&closing, &depot, 0, "van -> depot", "HANDSHAKE that closes", PPSPP_DONE);
+    deliver(&closing, &server, 0, "van -> server", "HANDSHAKE that closes", PPSPP_DONE);
     expect(ppspp_store_begin(&van, VAN_ID, &len) == PPSPP_DONE, "the van begins");
     expect(ppspp_store_add_close(&van, &len) == PPSPP_DONE, "closing is added");
     const struct datagram own = sent(&van, len);
     deliver(&own, &van, 0, "van -> van", "HANDSHAKE that closes", PPSPP_DONE);
-    expect(ppspp_store_row(&depot, 0).phase == PPSPP_FREE, "the depot's row is free");
+    expect(ppspp_store_row(&server, 0).phase == PPSPP_FREE, "the server's row is free");
     expect(ppspp_store_row(&van, 0).phase == PPSPP_FREE, "the van's row is free");
 }
 
@@ -241,7 +241,7 @@ int main(void)
     expect(ppspp_store_ask(&van, &count, &whole) == PPSPP_DONE, "the van can be asked");
     const bool equal = memcmp(van.chunks, content, LENGTH) == 0;
     printf("the van holds %u of %u chunks, the pack is %s, its bytes are %s\n", (unsigned)count, (unsigned)CHUNKS,
-           whole == 1 ? "whole" : "not whole", equal ? "the depot's" : "others");
+           whole == 1 ? "whole" : "not whole", equal ? "the server's" : "others");
     expect(count == CHUNKS && whole == 1 && equal, "the van has the whole pack");
     return differences == 0 ? 0 : 1;
 }

@@ -115,7 +115,7 @@ enum ppspp_answer {
     PPSPP_SIZE = 1,              /* the datagram has under 4 or over 2,048 bytes */
     PPSPP_MALFORMED = 2,         /* a message is malformed (type, length, range, options), or added behind DATA */
     PPSPP_UNEXPECTED = 3,        /* the channel is not open, or a HANDSHAKE is not alone, not sound or not due */
-    PPSPP_OPTIONS = 4,           /* the HANDSHAKE has other options than the yard profile's, or another root */
+    PPSPP_OPTIONS_WRONG = 4,     /* the HANDSHAKE has other options than the yard profile's, or another root */
     PPSPP_NO_CHANNEL = 5,        /* no channel of ours has the datagram's destination */
     PPSPP_CHANNELS_FULL = 6,     /* all 16 channels are in use */
     PPSPP_RANGE = 7,             /* a range or a chunk's number runs past the last chunk */

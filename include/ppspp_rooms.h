@@ -31,23 +31,23 @@ struct ppspp_store {
 };
 
 /* An array and how many elements it has. */
-#define PPSPP_ROOM(array) (array), sizeof(array) / sizeof((array)[0])
+#define PPSPP_ARRAY(array) (array), sizeof(array) / sizeof((array)[0])
 
 /* Defines a store `name` and its static rooms, for packs of up to n chunks, n a constant. In a file or function. */
-#define PPSPP_DEFINE_STORE(name, n)                                                    \
-    static_assert((n) >= 1u && (n) <= PPSPP_MAX_CHUNKS, "a pack has 1 to 512 chunks"); \
-    static uint32_t name##_state[PPSPP_STATE_WORDS];                                   \
-    static uint8_t name##_chunks[PPSPP_CHUNK_SIZE * (n)];                              \
-    static uint32_t name##_map[PPSPP_MAP_WORDS(n)];                                    \
-    static uint32_t name##_hashes[PPSPP_HASH_WORDS(n)];                                \
-    static uint32_t name##_trusted[PPSPP_TRUSTED_WORDS(n)];                            \
-    static uint32_t name##_has[PPSPP_PEER_WORDS(n)];                                   \
-    static uint32_t name##_wants[PPSPP_PEER_WORDS(n)];                                 \
-    static uint8_t name##_reply[PPSPP_REPLY_BYTES];                                    \
-    static const struct ppspp_store name = {                                           \
-        PPSPP_ROOM(name##_state),  PPSPP_ROOM(name##_chunks),  PPSPP_ROOM(name##_map), \
-        PPSPP_ROOM(name##_hashes), PPSPP_ROOM(name##_trusted), PPSPP_ROOM(name##_has), \
-        PPSPP_ROOM(name##_wants),  PPSPP_ROOM(name##_reply)}
+#define PPSPP_DEFINE_STORE(name, n)                                                       \
+    static_assert((n) >= 1u && (n) <= PPSPP_MAX_CHUNKS, "a pack has 1 to 512 chunks");    \
+    static uint32_t name##_state[PPSPP_STATE_WORDS];                                      \
+    static uint8_t name##_chunks[PPSPP_CHUNK_SIZE * (n)];                                 \
+    static uint32_t name##_map[PPSPP_MAP_WORDS(n)];                                       \
+    static uint32_t name##_hashes[PPSPP_HASH_WORDS(n)];                                   \
+    static uint32_t name##_trusted[PPSPP_TRUSTED_WORDS(n)];                               \
+    static uint32_t name##_has[PPSPP_PEER_WORDS(n)];                                      \
+    static uint32_t name##_wants[PPSPP_PEER_WORDS(n)];                                    \
+    static uint8_t name##_reply[PPSPP_REPLY_BYTES];                                       \
+    static const struct ppspp_store name = {                                              \
+        PPSPP_ARRAY(name##_state),  PPSPP_ARRAY(name##_chunks),  PPSPP_ARRAY(name##_map), \
+        PPSPP_ARRAY(name##_hashes), PPSPP_ARRAY(name##_trusted), PPSPP_ARRAY(name##_has), \
+        PPSPP_ARRAY(name##_wants),  PPSPP_ARRAY(name##_reply)}
 
 /* ---- the state: without an order all is 0, and every row is free */
 

@@ -1,5 +1,6 @@
 //! The declarations of `sys` against the header: every constant, every function and every parameter.
 
+use ppspp::Refusal;
 use std::collections::BTreeMap;
 
 const HEADER: &str = include_str!("../../include/ppspp.h");
@@ -72,8 +73,8 @@ fn constants_are_those_of_the_header() {
 #[test]
 fn refusals_are_those_of_the_header() {
     let numbers = header_numbers();
-    for refusal in ppspp::Refusal::ALL {
-        // `NoChannel` is `PPSPP_NO_CHANNEL`; `ChunkSize` alone has a longer name there, beside the size of a chunk.
+    for refusal in Refusal::ALL {
+        // `NoChannel` is `PPSPP_NO_CHANNEL`; two have a longer name there, beside the size of a chunk and the options.
         let mut name = "PPSPP".to_string();
         for letter in format!("{refusal:?}").chars() {
             if letter.is_uppercase() {
@@ -81,7 +82,7 @@ fn refusals_are_those_of_the_header() {
             }
             name.push(letter.to_ascii_uppercase());
         }
-        if refusal == ppspp::Refusal::ChunkSize {
+        if [Refusal::ChunkSize, Refusal::Options].contains(&refusal) {
             name += "_WRONG";
         }
         assert!(is_refusal(&name), "{name}");

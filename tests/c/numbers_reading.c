@@ -148,13 +148,13 @@ static void number_4(struct guarded *g)
         struct packet p = packet_to(0);
         put_handshake(&p, 17, ROOT);
         p.bytes[places[i]] ^= 0x40;
-        CHECK(guarded_take(g, 0, 30, p.bytes, p.n) == PPSPP_OPTIONS);
+        CHECK(guarded_take(g, 0, 30, p.bytes, p.n) == PPSPP_OPTIONS_WRONG);
     }
     struct packet p = packet_to(0);
     put8(&p, 0);
     put32(&p, 17);
     put8(&p, 255);
-    CHECK(guarded_take(g, 0, 30, p.bytes, p.n) == PPSPP_OPTIONS);
+    CHECK(guarded_take(g, 0, 30, p.bytes, p.n) == PPSPP_OPTIONS_WRONG);
 }
 
 /* 5: "datagram's destination matches no row (0 without HANDSHAKE too)". */

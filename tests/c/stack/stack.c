@@ -16,7 +16,7 @@
 #define FILL 0xA5u
 #define CHUNKS 512u
 
-PPSPP_DEFINE_STORE(depot, CHUNKS);
+PPSPP_DEFINE_STORE(server, CHUNKS);
 PPSPP_DEFINE_STORE(van, CHUNKS);
 
 static uint8_t content[PPSPP_MAX_LENGTH];
@@ -40,14 +40,14 @@ static void *nothing(void *unused)
 
 static void *build(void *unused)
 {
-    answer = ppspp_store_build(&depot, PPSPP_MAX_LENGTH, content, PPSPP_MAX_LENGTH);
+    answer = ppspp_store_build(&server, PPSPP_MAX_LENGTH, content, PPSPP_MAX_LENGTH);
     return unused;
 }
 
 static void *start(void *unused)
 {
     uint8_t root[PPSPP_ROOT_BYTES];
-    ppspp_store_root(&depot, root);
+    ppspp_store_root(&server, root);
     answer = ppspp_store_start(&van, root, PPSPP_MAX_LENGTH);
     return unused;
 }
@@ -63,8 +63,8 @@ static void *open_channel(void *unused)
 static void *take_handshake(void *unused)
 {
     size_t n;
-    answer = ppspp_store_take(&depot, 0, 2, datagram, datagram_n, &n);
-    keep(&depot, n);
+    answer = ppspp_store_take(&server, 0, 2, datagram, datagram_n, &n);
+    keep(&server, n);
     return unused;
 }
 
@@ -78,8 +78,8 @@ static void *take_answer(void *unused)
 static void *write_chunk(void *unused)
 {
     size_t n;
-    answer = ppspp_store_write(&depot, 2, 300, 0, &n);
-    keep(&depot, n);
+    answer = ppspp_store_write(&server, 2, 300, 0, &n);
+    keep(&server, n);
     return unused;
 }
 
