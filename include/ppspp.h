@@ -20,14 +20,29 @@
  * takes without const.
  *
  * What you must never do:
- *   - lend rooms that overlap each other or anything else that the same call is given: to take in what stands in a
- *     store's own reply room, copy it first;
+ *   - let a pointer that a call writes through overlap any other pointer of that call: rooms, reply_len, held, whole,
+ *     found, datagram, content, root, bytes. So a pack is not built in place, its content being the chunk room, and
+ *     what stands in a store's own reply room is copied before the store takes it in;
  *   - give NULL, even with a length of 0: any valid address will do then;
  *   - give a length that is more than the room has, or an address that is not aligned for its type;
  *   - change a room between two calls on one store, but for the reply room, whose bytes are yours between calls.
  *     The library answers even so, and every room stays in its bounds; but the pack is then no longer what the theorems
  *     speak of;
  *   - lend one store's rooms to two calls at a time.
+ *
+ * No room needs clearing before a start or a build. Before any other call on a store the state's first word must be
+ * set: 0 will do.
+ *
+ * Two numbers are yours to choose:
+ *   - a clock is any number; by the protocol it is in microseconds. It only goes into the delay of an ACK or the
+ *     timestamp of DATA.
+ *   - an ID of a channel of ours is not 0 and not in use, or else is answered with 14. It is looked at only where a
+ *     channel is opened; ppspp_store_row_of() of ppspp_rooms.h tells after a take whether it was used. IDs that are
+ *     hard to guess keep strangers from naming them.
+ *
+ * The library is for Linux on x86-64, where size_t has 64 bits. It needs memcpy and memset of the C library, nothing
+ * else, and leaves errno alone. A call touches under 8 KiB of stack (measured, tests/c/stack/). This header needs C99
+ * or C++11, the other two C11 or C++11.
  */
 #ifndef PPSPP_H
 #define PPSPP_H
@@ -65,8 +80,9 @@ extern "C" {
 #define PPSPP_REPLY_BYTES PPSPP_MAX_DATAGRAM                              /* uint8_t, the reply */
 
 /*
- * The same, proved, for any number. The chunk room has at least as many bytes as the pack. Rooms that have all of this
- * are never answered with 11; larger ones will do, and those for a pack will do for a shorter one.
+ * The same, proved, for any number. The chunk room has at least as many bytes as the pack. It is also proved that a
+ * start or a build under a length of 1 to 524,288, in rooms of at least these sizes, 74 words of state among them, is
+ * not answered with 11. Larger rooms will do, and so will those for a pack do for a shorter one.
  */
 uint32_t ppspp_chunk_count(uint32_t length);
 size_t ppspp_map_words(uint32_t n);
@@ -87,6 +103,10 @@ size_t ppspp_peer_words(uint32_t n);
  *
  * In every bit row, bit i is bit i % 32 of word i / 32, the low bit first. The rooms has and wants are 16 rows of
  * PPSPP_MAP_WORDS(n) words each, one for each row of the table.
+ *
+ * Chunk i is node 2i of the tree. The hash of node b stands in words 8b to 8b + 7 of the hash room, its bytes in groups
+ * of four, the first of them in the high bits; b is trusted if bit b of the trusted bits is set, and else its words may
+ * be anything.
  */
 #define PPSPP_WORD_VERSION 0u
 #define PPSPP_WORD_ROOT 1u
@@ -113,17 +133,17 @@ size_t ppspp_state_words(void);
 enum ppspp_answer {
     PPSPP_DONE = 0,              /* done */
     PPSPP_SIZE = 1,              /* the datagram has under 4 or over 2,048 bytes */
-    PPSPP_MALFORMED = 2,         /* a message is malformed (type, length, range, options), or added behind DATA */
+    PPSPP_MALFORMED = 2,         /* a message is malformed (type, length, range, node, options), or added behind DATA */
     PPSPP_UNEXPECTED = 3,        /* the channel is not open, or a HANDSHAKE is not alone, not sound or not due */
     PPSPP_OPTIONS_WRONG = 4,     /* the HANDSHAKE has other options than the yard profile's, or another root */
     PPSPP_NO_CHANNEL = 5,        /* no channel of ours has the datagram's destination */
-    PPSPP_CHANNELS_FULL = 6,     /* all 16 channels are in use */
+    PPSPP_CHANNELS_FULL = 6,     /* all 16 rows of the channel table are in use */
     PPSPP_RANGE = 7,             /* a range or a chunk's number runs past the last chunk */
     PPSPP_CHUNK_SIZE_WRONG = 8,  /* the chunk's size is not the one that its number has */
     PPSPP_HASH_MISSING = 9,      /* a hash that is needed to check the chunk did not come with it */
     PPSPP_HASH_MISMATCH = 10,    /* the peaks do not give the root, or the chunk does not lead to a trusted hash */
     PPSPP_ROOM = 11,             /* a room is too small */
-    PPSPP_LENGTH = 12,           /* no order, its length is 0 or over 524,288, or the content has another length */
+    PPSPP_LENGTH = 12,           /* no order, or its length is 0 or over 524,288, or the content has another length */
     PPSPP_NOT_HELD = 13,         /* the chunk to be written is not held */
     PPSPP_ID = 14                /* a channel is to be opened under ID 0 or one in use */
 };
@@ -154,8 +174,8 @@ uint32_t ppspp_open(uint32_t *state, size_t state_n, const uint8_t *chunks, size
                     uint32_t id, size_t *reply_len);
 
 /*
- * Takes in a datagram at a clock in microseconds; the ID is for a channel that the datagram may open. A chunk that is
- * stored, or was held and is the same, is answered by an ACK, a HANDSHAKE to channel 0 by ours; no other has a reply.
+ * Takes in a datagram at a clock; the ID is for a channel that the datagram may open. A chunk that is stored, or was
+ * held and is the same, is answered by an ACK, a HANDSHAKE to channel 0 by ours; no other has a reply.
  */
 uint32_t ppspp_take(uint32_t *state, size_t state_n, uint8_t *chunks, size_t chunks_n, uint32_t *map, size_t map_n,
                     uint32_t *hashes, size_t hashes_n, uint32_t *trusted, size_t trusted_n, uint32_t *has, size_t has_n,
@@ -192,13 +212,13 @@ enum ppspp_type {
 /*
  * A message in numbers: its type; first and last chunk; one more number; and bytes.
  *
- *   type                      first    last              number     bytes
- *   HANDSHAKE                 source   options (below)   0          the root, with the fixed options
- *   DATA                      chunk    the same chunk    timestamp  the chunk
- *   ACK                       first    last              delay      none
- *   HAVE, REQUEST, CANCEL     first    last              0          none
- *   INTEGRITY                 first    last              0          the hash
- *   CHOKE, UNCHOKE            0        0                 0          none
+ *   type                  first  last                                            number    bytes
+ *   HANDSHAKE             source options (below)                                 0         a root, with fixed options
+ *   DATA                  chunk  not looked at; the same chunk where it was read timestamp the chunk
+ *   ACK                   first  last                                            delay     none
+ *   HAVE, REQUEST, CANCEL first  last                                            0         none
+ *   INTEGRITY             first  last                                            0         the hash
+ *   CHOKE, UNCHOKE        0      0                                               0         none
  */
 enum ppspp_options {
     PPSPP_OPTIONS_END = 0,   /* End alone, as a closing HANDSHAKE has */
@@ -212,19 +232,23 @@ uint32_t ppspp_begin(uint8_t *reply, size_t reply_n, uint32_t destination, size_
 /*
  * Adds a message to the datagram in the first `len` bytes of the reply room; *reply_len gets its new length, or 0
  * after a refusal, which leaves the datagram so far as it was. Of the bytes the first 32 count for a root or a hash,
- * all for a chunk. Numbers that the type has no use for are not looked at. DATA comes last, a HANDSHAKE alone.
+ * and fewer are answered with 2; all count for a chunk. Numbers that the type has no use for are not looked at. DATA
+ * comes last, a HANDSHAKE alone.
  */
 uint32_t ppspp_add(uint8_t *reply, size_t reply_n, size_t len, uint32_t type, uint32_t first, uint32_t last,
                    uint64_t number, const uint8_t *bytes, size_t bytes_n, size_t *reply_len);
 
 /* What stands at a place of a datagram; its messages begin at place 4. It is read alone; nothing else is checked. */
 enum ppspp_step {
-    PPSPP_STEP_END = 0,     /* its end */
+    PPSPP_STEP_END = 0,     /* its end: the place is at or past it, also in a datagram under 4 bytes */
     PPSPP_STEP_MESSAGE = 1, /* a message */
     PPSPP_STEP_REFUSED = 2  /* what is refused with 2 */
 };
 
-/* Of a message, `found` gets its type and numbers as in the table, and where its bytes and the next message stand. */
+/*
+ * Of a message, `found` gets its type and numbers as in the table, and where its bytes and the next message stand.
+ * Unless there is a message, it stays as it was.
+ */
 #define PPSPP_FOUND_WORDS 7u
 #define PPSPP_FOUND_TYPE 0u
 #define PPSPP_FOUND_FIRST 1u

@@ -51,10 +51,14 @@ struct ppspp_store {
 
 /* ---- the state: without an order all is 0, and every row is free */
 
-/* Whether the state has an order: it was started or built, under this layout. */
+/* Whether the state has an order: else calls are answered with 12, or with 11 where it is too short. */
 static inline bool ppspp_store_has_order(const struct ppspp_store *store)
 {
-    return store->state_n >= PPSPP_STATE_WORDS && store->state[PPSPP_WORD_VERSION] == PPSPP_LAYOUT_VERSION;
+    if (store->state_n < PPSPP_STATE_WORDS || store->state[PPSPP_WORD_VERSION] != PPSPP_LAYOUT_VERSION) {
+        return false;
+    }
+    const uint32_t length = store->state[PPSPP_WORD_LENGTH];
+    return length >= 1u && length <= PPSPP_MAX_LENGTH;
 }
 
 /* The order's root as bytes; false, and 32 zeros, without an order. */
@@ -149,7 +153,10 @@ static inline bool ppspp_store_peer_has(const struct ppspp_store *store, uint32_
     return ppspp_store_peer_bit(store, store->has, store->has_n, row, chunk);
 }
 
-/* Whether the peer of a row has asked for a chunk, and not got or cancelled it since. */
+/*
+ * Whether the peer of a row has asked for a chunk, and not acknowledged or cancelled it since, by ACK, HAVE or CANCEL.
+ * That we write the chunk changes nothing.
+ */
 static inline bool ppspp_store_peer_wants(const struct ppspp_store *store, uint32_t row, uint32_t chunk)
 {
     return ppspp_store_peer_bit(store, store->wants, store->wants_n, row, chunk);

@@ -9,6 +9,7 @@ void group_exact_rooms(void);
 
 /* layout.c */
 void group_layout(void);
+void group_nodes(void);
 void group_rows(void);
 void group_no_order(void);
 
@@ -16,6 +17,7 @@ void group_no_order(void);
 void group_messages(void);
 void group_effects(void);
 void group_read_back(void);
+void group_read_none(void);
 
 /* numbers_reading.c: 1 to 7; numbers_storing.c: 8 to 14 */
 void group_numbers_reading(void);

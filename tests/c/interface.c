@@ -27,10 +27,12 @@ int main(void)
     run_group("sizes of rooms, macros and functions", group_room_sizes);
     run_group("rooms of exactly those sizes", group_exact_rooms);
     run_group("words of the state", group_layout);
+    run_group("hashes and trusted bits of nodes", group_nodes);
     run_group("rows of the channel table", group_rows);
     run_group("a state without an order, or too short", group_no_order);
     run_group("each message, as added", group_messages);
     run_group("each message, as read", group_read_back);
+    run_group("places without a message", group_read_none);
     run_group("what messages do to a channel", group_effects);
     run_group("numbers 1 to 7", group_numbers_reading);
     run_group("numbers 8 to 14", group_numbers_storing);

@@ -26,6 +26,29 @@ void group_layout(void)
     guarded_end(&g);
 }
 
+/*
+ * The hash of node b is in words 8b to 8b + 7, and its trusted bit is bit b. Of seven chunks the root, node 7, and all
+ * nodes wholly inside the pack are trusted: not 11, which is over chunks 4 to 7, nor 13 and 14.
+ */
+void group_nodes(void)
+{
+    struct guarded g;
+    seven_built(&g);
+    for (size_t node = 0; node < 16; node++) {
+        const bool trusted = node != 11 && node < 13;
+        CHECK(ppspp_bit(g.store.trusted, node) == trusted);
+        for (size_t i = 0; trusted && i < PPSPP_ROOT_BYTES; i++) {
+            const uint32_t word = g.store.hashes[8 * node + i / 4];
+            CHECK(((word >> (24 - 8 * (i % 4))) & 0xffu) == SEVEN_NODES[node][i]);
+        }
+    }
+    CHECK(guarded_start(&g, SEVEN_NODES[SEVEN_ROOT], SEVEN_LENGTH) == PPSPP_DONE);
+    for (size_t node = 0; node < 16; node++) {
+        CHECK(ppspp_bit(g.store.trusted, node) == (node == SEVEN_ROOT));
+    }
+    guarded_end(&g);
+}
+
 /* A row as the readers show it. */
 static bool row_is(const struct guarded *g, uint32_t i, enum ppspp_phase phase, uint32_t id, uint32_t peer, bool choked)
 {
@@ -84,12 +107,22 @@ static void check_refused(struct guarded *g, uint32_t number)
     CHECK(!ppspp_store_peer_has(&g->store, 0, 0) && !ppspp_store_peer_wants(&g->store, 0, 0));
 }
 
-/* A zeroed state and one of another version are 12 until they are started or built; one of 73 words is always 11. */
+/*
+ * A zeroed state, one of another version and one of no sound length are 12 until they are started or built; one of 73
+ * words is always 11.
+ */
 void group_no_order(void)
 {
     static const uint32_t versions[] = {0, 2, 0x01000000u, 0x80000001u, 0xffffffffu};
+    static const uint32_t lengths[] = {0, 524289, 0xffffffffu};
     struct guarded g;
     seven_built(&g);
+    for (size_t i = 0; i < sizeof lengths / sizeof lengths[0]; i++) {
+        g.store.state[PPSPP_WORD_LENGTH] = lengths[i];
+        check_refused(&g, PPSPP_LENGTH);
+    }
+    g.store.state[PPSPP_WORD_LENGTH] = SEVEN_LENGTH;
+    CHECK(ppspp_store_has_order(&g.store) && held_of(&g) == 7);
     for (size_t i = 0; i < sizeof versions / sizeof versions[0]; i++) {
         g.store.state[PPSPP_WORD_VERSION] = versions[i];
         check_refused(&g, PPSPP_LENGTH);

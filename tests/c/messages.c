@@ -100,6 +100,27 @@ static size_t check_found(const struct packet *p, size_t at, uint32_t type, uint
     return (size_t)found[PPSPP_FOUND_NEXT];
 }
 
+/* Whether ppspp_read gives a step that is no message, and leaves `found`. */
+static bool finds_none(const uint8_t *bytes, size_t n, size_t at, uint32_t step)
+{
+    static const uint64_t before[PPSPP_FOUND_WORDS] = {1, 2, 3, 4, 5, 6, 7};
+    uint64_t found[PPSPP_FOUND_WORDS];
+    memcpy(found, before, sizeof found);
+    return ppspp_read(bytes, n, at, found) == step && memcmp(found, before, sizeof found) == 0;
+}
+
+/* A place at or past the end is the end, also in a datagram under 4 bytes; before it, 7 is no type. */
+void group_read_none(void)
+{
+    static const uint8_t bytes[] = {7, 7, 7, 7, 7, 7};
+    for (size_t n = 0; n <= sizeof bytes; n++) {
+        for (size_t at = 0; at < 10; at++) {
+            CHECK(finds_none(bytes, n, at, at < n ? PPSPP_STEP_REFUSED : PPSPP_STEP_END));
+        }
+        CHECK(finds_none(bytes, n, SIZE_MAX, PPSPP_STEP_END));
+    }
+}
+
 void group_read_back(void)
 {
     uint64_t found[PPSPP_FOUND_WORDS];

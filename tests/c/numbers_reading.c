@@ -96,7 +96,6 @@ static void number_2_added(struct guarded *g)
     CHECK(guarded_add(g, 4, PPSPP_HAVE, 1, 0, 0, ROOT, 0) == PPSPP_MALFORMED);
     CHECK(guarded_add(g, 4, PPSPP_INTEGRITY, 0, 2, 0, ROOT, 32) == PPSPP_MALFORMED);
     CHECK(guarded_add(g, 4, PPSPP_INTEGRITY, 0, 1, 0, ROOT, 31) == PPSPP_MALFORMED);
-    CHECK(guarded_add(g, 4, PPSPP_DATA, 0, 1, 0, content(), 1024) == PPSPP_MALFORMED);
     CHECK(guarded_add(g, 4, PPSPP_HANDSHAKE, 17, PPSPP_OPTIONS_OTHER, 0, ROOT, 32) == PPSPP_MALFORMED);
     CHECK(guarded_add(g, 4, PPSPP_HANDSHAKE, 17, PPSPP_OPTIONS_FIXED, 0, ROOT, 31) == PPSPP_MALFORMED);
     CHECK(guarded_add(g, 4, 5, 0, 0, 0, ROOT, 32) == PPSPP_MALFORMED);
