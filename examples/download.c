@@ -207,7 +207,7 @@ static void send_chunk(uint32_t chunk)
     expect(!ppspp_store_peer_wants(&server, 0, chunk), "the van wants it no longer");
 }
 
-/* The van closes: a closing HANDSHAKE frees the server's row, and one to its own ID the van's. */
+/* The van closes: a closing HANDSHAKE frees the server's row; the van frees its own by a call. */
 static void close_both(void)
 {
     size_t len = 0;
@@ -215,10 +215,7 @@ static void close_both(void)
     expect(ppspp_store_add_close(&van, &len) == PPSPP_DONE, "closing is added");
     const struct datagram closing = sent(&van, len);
     deliver(&closing, &server, 0, "van -> server", "HANDSHAKE that closes", PPSPP_DONE);
-    expect(ppspp_store_begin(&van, VAN_ID, &len) == PPSPP_DONE, "the van begins");
-    expect(ppspp_store_add_close(&van, &len) == PPSPP_DONE, "closing is added");
-    const struct datagram own = sent(&van, len);
-    deliver(&own, &van, 0, "van -> van", "HANDSHAKE that closes", PPSPP_DONE);
+    expect(ppspp_store_close(&van, VAN_ID) == PPSPP_DONE, "the van closes its own channel");
     expect(ppspp_store_row(&server, 0).phase == PPSPP_FREE, "the server's row is free");
     expect(ppspp_store_row(&van, 0).phase == PPSPP_FREE, "the van's row is free");
 }

@@ -93,6 +93,34 @@ static inline uint32_t ppspp_store_ask(const struct ppspp_store *store, uint32_t
     return ppspp_ask(store->state, store->state_n, store->map, store->map_n, held, whole);
 }
 
+/*
+ * Frees the row of an ID of ours, open or calling; an ID without a row is PPSPP_NO_CHANNEL. The peer is not told: if it
+ * is to know, send it a closing HANDSHAKE first. What is taken in here, in this order, is a keepalive, which finds out
+ * whether there is a row; for a calling row a HANDSHAKE under the order, as its peer would send it, which opens it; and
+ * a closing HANDSHAKE. None has a reply, and the reply room stays as it was. The datagrams are made on the stack.
+ */
+static inline uint32_t ppspp_store_close(const struct ppspp_store *store, uint32_t id)
+{
+    const struct ppspp_row row = ppspp_store_row(store, ppspp_store_row_of(store, id));
+    uint8_t datagram[PPSPP_MAX_DATAGRAM];
+    uint8_t root[PPSPP_ROOT_BYTES];
+    size_t begun = 0;
+    size_t len = 0;
+    ppspp_store_root(store, root);
+    ppspp_begin(datagram, sizeof datagram, id, &begun);
+    uint32_t answer = ppspp_store_take(store, 0, 0, datagram, begun, &len);
+    if (answer == PPSPP_DONE && row.phase == PPSPP_CALLING) {
+        ppspp_add(datagram, sizeof datagram, begun, PPSPP_HANDSHAKE, 1, PPSPP_OPTIONS_FIXED, 0, root, sizeof root,
+                  &len);
+        answer = ppspp_store_take(store, 0, 0, datagram, len, &len);
+    }
+    if (answer == PPSPP_DONE) {
+        ppspp_add(datagram, sizeof datagram, begun, PPSPP_HANDSHAKE, 0, PPSPP_OPTIONS_END, 0, root, 0, &len);
+        answer = ppspp_store_take(store, 0, 0, datagram, len, &len);
+    }
+    return answer;
+}
+
 /* ---- a datagram of any messages, in the reply room: begin it, then add */
 
 /* Begins a datagram to the peer's channel. */
@@ -182,10 +210,7 @@ static inline uint32_t ppspp_store_add_handshake(const struct ppspp_store *store
     return ppspp_store_add(store, len, PPSPP_HANDSHAKE, source, PPSPP_OPTIONS_FIXED, 0, root, PPSPP_ROOT_BYTES);
 }
 
-/*
- * A closing HANDSHAKE: it frees the peer's row of the channel. To free ours, copy one whose destination is our ID out
- * of the reply room and take it in; that also frees a row whose peer is gone. The row must be open.
- */
+/* A closing HANDSHAKE: it frees the peer's row of the channel. ppspp_store_close() frees ours. */
 static inline uint32_t ppspp_store_add_close(const struct ppspp_store *store, size_t *len)
 {
     return ppspp_store_add_plain(store, len, PPSPP_HANDSHAKE, 0, PPSPP_OPTIONS_END, 0);

@@ -47,7 +47,7 @@ static uint32_t any_call(struct guarded *g)
     uint32_t whole;
     const uint32_t count = 1 + ppspp_store_chunk_count(&g->store) % PPSPP_MAX_CHUNKS;
     struct packet p;
-    switch (below(6)) {
+    switch (below(7)) {
     case 0:
         return guarded_open(g, below(24));
     case 1:
@@ -55,9 +55,11 @@ static uint32_t any_call(struct guarded *g)
     case 2:
         return guarded_ask(g, &held, &whole);
     case 3:
+        return guarded_close(g, below(8));
+    case 4:
         p = any_data(g, count);
         break;
-    case 4:
+    case 5:
         p = any_bytes(below(8));
         break;
     default:

@@ -13,6 +13,9 @@ void group_nodes(void);
 void group_rows(void);
 void group_no_order(void);
 
+/* closing.c */
+void group_closing(void);
+
 /* messages.c */
 void group_messages(void);
 void group_effects(void);

@@ -172,6 +172,13 @@ uint32_t guarded_write(struct guarded *g, uint32_t id, uint32_t chunk, uint64_t 
     return settle(g, answer, len, ONLY(REPLY));
 }
 
+uint32_t guarded_close(struct guarded *g, uint32_t id)
+{
+    keep(g);
+    const uint32_t answer = ppspp_store_close(&g->store, id);
+    return settle(g, answer, 0, ONLY(STATE));
+}
+
 uint32_t guarded_ask(struct guarded *g, uint32_t *held, uint32_t *whole)
 {
     *held = UNSET;

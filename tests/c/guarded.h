@@ -1,6 +1,6 @@
 /*
  * A store in rooms of exactly the sizes that the header names, in one block with guard bytes before, between and behind
- * them. Each call here is one of the library's, and checks of it what holds of every call: the number is one of 01's; a
+ * them. Each call here is one of the header's, and checks of it what holds of every call: the number is one of 01's; a
  * refusal gives the length 0 and leaves every byte; a room that the call takes as const, what stands behind the reply,
  * and every guard stay.
  */
@@ -34,6 +34,7 @@ uint32_t guarded_build(struct guarded *g, uint32_t length, const uint8_t *conten
 uint32_t guarded_open(struct guarded *g, uint32_t id);
 uint32_t guarded_take(struct guarded *g, uint64_t clock, uint32_t id, const uint8_t *datagram, size_t datagram_n);
 uint32_t guarded_write(struct guarded *g, uint32_t id, uint32_t chunk, uint64_t clock);
+uint32_t guarded_close(struct guarded *g, uint32_t id);
 uint32_t guarded_ask(struct guarded *g, uint32_t *held, uint32_t *whole);
 uint32_t guarded_begin(struct guarded *g, uint32_t destination);
 uint32_t guarded_add(struct guarded *g, size_t len, uint32_t type, uint32_t first, uint32_t last, uint64_t number,

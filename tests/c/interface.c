@@ -29,6 +29,7 @@ int main(void)
     run_group("words of the state", group_layout);
     run_group("hashes and trusted bits of nodes", group_nodes);
     run_group("rows of the channel table", group_rows);
+    run_group("closing a channel of ours", group_closing);
     run_group("a state without an order, or too short", group_no_order);
     run_group("each message, as added", group_messages);
     run_group("each message, as read", group_read_back);

@@ -110,7 +110,7 @@ static uint32_t any_call(struct yard *yard, struct guarded *g)
 {
     uint32_t held;
     uint32_t whole;
-    switch (below(6)) {
+    switch (below(7)) {
     case 0:
         return guarded_open(g, below(24));
     case 1:
@@ -121,6 +121,8 @@ static uint32_t any_call(struct yard *yard, struct guarded *g)
         return guarded_start(g, yard->root, one_in(2) ? 0 : PPSPP_MAX_LENGTH + 1 + below(1000));
     case 4:
         return guarded_build(g, yard->length, content(), below(yard->length));
+    case 5:
+        return guarded_close(g, below(24));
     default:
         saw(guarded_begin(g, below(24)));
         return guarded_add(g, one_in(8) ? below(2100) : g->len, below(14), any_chunk(yard->count),

@@ -93,6 +93,11 @@ static void compose(void)
     }
 }
 
+static void close_channel(void)
+{
+    answer = ppspp_store_close(&van, 1);
+}
+
 static void ask(void)
 {
     uint32_t held = 0;
@@ -139,7 +144,7 @@ int main(void)
     static struct call calls[] = {
         {"nothing", nothing}, {"build", build}, {"start", start}, {"open", open_channel},
         {"take a HANDSHAKE", take_handshake}, {"take its answer", take_answer}, {"write a chunk", write_chunk},
-        {"take a chunk", take_chunk}, {"begin and add", compose}, {"ask", ask},
+        {"take a chunk", take_chunk}, {"begin and add", compose}, {"ask", ask}, {"close", close_channel},
     };
     int status = 0;
     for (size_t i = 0; i < sizeof calls / sizeof calls[0]; i++) {
