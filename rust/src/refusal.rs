@@ -10,27 +10,27 @@ use core::fmt;
 pub enum Refusal {
     /// The datagram has under 4 or over 2,048 bytes.
     Size = 1,
-    /// A message cannot be read, or the one to be added cannot be written.
+    /// A message is malformed (type, length, range, node, options), or added behind DATA.
     Malformed = 2,
-    /// A HANDSHAKE that is not alone or not sound, or a message that the channel's phase forbids.
+    /// The channel is not open, or a HANDSHAKE is not alone, not sound or not due.
     Unexpected = 3,
-    /// The HANDSHAKE's options are not the order's.
+    /// The HANDSHAKE has other options than the yard profile's, or another root.
     Options = 4,
     /// No channel of ours has the datagram's destination.
     NoChannel = 5,
     /// All 16 rows of the channel table are in use.
     ChannelsFull = 6,
-    /// A range runs past the last chunk.
+    /// A range or a chunk's number runs past the last chunk.
     Range = 7,
-    /// The chunk has not the size that its number has.
+    /// The chunk's size is not the one that its number has.
     ChunkSize = 8,
-    /// A hash that is needed to check the chunk has not come.
+    /// A hash that is needed to check the chunk did not come with it.
     HashMissing = 9,
-    /// The hashes do not lead to the root, or the chunk not to a trusted hash.
+    /// The peaks do not give the root, or the chunk does not lead to a trusted hash.
     HashMismatch = 10,
     /// A room is too small.
     Room = 11,
-    /// The order's length is 0 or over the limit, or the content has another length.
+    /// No order, or its length is 0 or over 524,288, or the content has another length.
     Length = 12,
     /// The chunk to be written is not held.
     NotHeld = 13,
@@ -83,26 +83,31 @@ impl Refusal {
     }
 }
 
+/// The sentence of the number in the header.
 impl fmt::Display for Refusal {
     fn fmt(&self, f: &mut fmt::Formatter<'_>) -> fmt::Result {
         f.write_str(match self {
             Refusal::Size => "the datagram has under 4 or over 2,048 bytes",
-            Refusal::Malformed => "a message cannot be read or written",
-            Refusal::Unexpected => {
-                "a HANDSHAKE is not alone or not sound, or the channel's phase forbids the message"
+            Refusal::Malformed => {
+                "a message is malformed (type, length, range, node, options), or added behind DATA"
             }
-            Refusal::Options => "the HANDSHAKE's options are not the order's",
-            Refusal::NoChannel => "no channel has the datagram's destination",
+            Refusal::Unexpected => {
+                "the channel is not open, or a HANDSHAKE is not alone, not sound or not due"
+            }
+            Refusal::Options => {
+                "the HANDSHAKE has other options than the yard profile's, or another root"
+            }
+            Refusal::NoChannel => "no channel of ours has the datagram's destination",
             Refusal::ChannelsFull => "all 16 rows of the channel table are in use",
-            Refusal::Range => "a range runs past the last chunk",
-            Refusal::ChunkSize => "the chunk has not the size that its number has",
-            Refusal::HashMissing => "a hash that is needed to check the chunk has not come",
+            Refusal::Range => "a range or a chunk's number runs past the last chunk",
+            Refusal::ChunkSize => "the chunk's size is not the one that its number has",
+            Refusal::HashMissing => "a hash that is needed to check the chunk did not come with it",
             Refusal::HashMismatch => {
-                "the hashes do not lead to the root, or the chunk not to a trusted hash"
+                "the peaks do not give the root, or the chunk does not lead to a trusted hash"
             }
             Refusal::Room => "a room is too small",
             Refusal::Length => {
-                "the order's length is 0 or over the limit, or the content has another length"
+                "no order, or its length is 0 or over 524,288, or the content has another length"
             }
             Refusal::NotHeld => "the chunk to be written is not held",
             Refusal::Id => "a channel is to be opened under ID 0 or one in use",

@@ -1,9 +1,11 @@
-//! The declarations of `sys` against the header: every constant, every function and every parameter.
+//! The declarations of `sys` against the header: every constant, every function and every parameter. And the sentences of
+//! the numbers, which are one text in both headers and the crate.
 
 use ppspp::Refusal;
 use std::collections::BTreeMap;
 
 const HEADER: &str = include_str!("../../include/ppspp.h");
+const STORE_HEADER: &str = include_str!("../../include/ppspp_store.h");
 const SYS: &str = include_str!("../src/sys.rs");
 
 /// The header without its comments.
@@ -88,6 +90,24 @@ fn refusals_are_those_of_the_header() {
         assert!(is_refusal(&name), "{name}");
         assert_eq!(numbers[&name], refusal.number().into(), "{name}");
     }
+}
+
+/// What stands behind a text in a header, up to an end.
+fn between(header: &'static str, start: &str, end: &str) -> &'static str {
+    let (_, rest) = header.split_once(start).expect(start);
+    rest.split_once(end).expect(end).0
+}
+
+#[test]
+fn sentences_are_those_of_the_headers() {
+    let mut displayed = vec!["done".to_string()];
+    displayed.extend(Refusal::ALL.iter().map(Refusal::to_string));
+    let answers = between(HEADER, "enum ppspp_answer {", "};").lines();
+    let beside = answers.filter_map(|line| line.split_once("/* ")?.1.strip_suffix(" */"));
+    assert_eq!(beside.collect::<Vec<_>>(), displayed);
+    let texts = between(STORE_HEADER, "texts[] = {", "};").lines();
+    let texts = texts.filter_map(|line| line.trim().strip_prefix('"')?.strip_suffix("\","));
+    assert_eq!(texts.collect::<Vec<_>>(), displayed);
 }
 
 /// A function: the types and names of its parameters, and its result.

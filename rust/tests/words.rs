@@ -36,7 +36,8 @@ fn refusals_are_told_apart_in_words() {
     assert_eq!(words.len(), 14);
     assert_eq!(Refusal::Room.to_string(), "a room is too small");
     let error: Box<dyn std::error::Error> = Refusal::Range.into();
-    assert_eq!(error.to_string(), "a range runs past the last chunk");
+    let words = "a range or a chunk's number runs past the last chunk";
+    assert_eq!(error.to_string(), words);
     let error: Box<dyn std::error::Error> = Malformed { place: 4 }.into();
     assert_eq!(error.to_string(), "no message can be read at byte 4");
 }

@@ -80,7 +80,7 @@ fn another_number() {
         &format!("line 5: the output says 05, this library says 00: {MEANING}"),
     );
     // It is explained as the output has it, without a reason that is not so.
-    let told = "answer    05 no channel has the datagram's destination\nDIFFERENT ";
+    let told = "answer    05 no channel of ours has the datagram's destination\nDIFFERENT ";
     assert!(ran.text.contains(told), "{}", ran.text);
     assert!(
         ran.text.contains("          05: 1 (no channel"),

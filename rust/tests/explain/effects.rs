@@ -89,7 +89,7 @@ fn end_of_a_trace() {
     let wanted = [
         "the end   held: none; missing: 0",
         "whole     no",
-        "refused   3 of 4 lines 07: 1 (a range runs past the last chunk) 0f: 2 (the line is no frame: no clock and datagram in digits)",
+        "refused   3 of 4 lines 07: 1 (a range or a chunk's number runs past the last chunk) 0f: 2 (the line is no frame: no clock and datagram in digits)",
     ];
     assert_eq!(rows(end), wanted);
     let whole = Trace::abc().take(&[&data(0, 0, 0, b"abc")]);
