@@ -4,10 +4,10 @@
 
 use crate::order::Order;
 use crate::rooms::Lend;
-use crate::sizes;
+use crate::sizes::{self, fixed};
 use crate::store::Store;
 use crate::sys;
-use crate::table::{self, Channel};
+use crate::table::{self, Channel, Phase};
 
 impl<R: Lend> Store<R> {
     /// The order; none where calls are answered with 12, or with 11 for the state room.
@@ -67,20 +67,32 @@ impl<R: Lend> Store<R> {
         self.channels().find(|channel| channel.id == id)
     }
 
-    /// Whether the peer of a row's channel has told that it has a chunk.
+    /// Whether the peer of a row's open channel has told that it has a chunk.
     pub fn peer_has(&self, row: u32, chunk: u32) -> bool {
         self.peer_bit(self.view().has, row, chunk)
     }
 
-    /// Whether the peer of a row's channel has asked for a chunk.
+    /// Whether the peer of a row's open channel has asked for a chunk, and not acknowledged or cancelled it since, by
+    /// ACK, HAVE or CANCEL. That we write the chunk changes nothing.
     pub fn peer_wants(&self, row: u32, chunk: u32) -> bool {
         self.peer_bit(self.view().wants, row, chunk)
     }
 
-    /// The bit of a chunk in the row of a channel; not of a free row, whose bits are left from earlier.
+    /// Whether a node of the tree is trusted, so that its hash is held. Chunk i is node 2i.
+    ///
+    /// The node's bit is bit `node` of the room of trusted bits. Its hash stands in words `8 * node` to `8 * node + 7`
+    /// of the hash room, the first byte of each four in the high bits.
+    pub fn trusts(&self, node: u64) -> bool {
+        let places = |order: Order| fixed::leaf_places(order.chunk_count()) as u64;
+        let nodes = self.order().map_or(0, |order| 2 * places(order) - 1);
+        node < nodes && bit(self.view().trusted, 0, node as u32)
+    }
+
+    /// The bit of a chunk in the row of an open channel; in other rows bits are cleared, or left from earlier.
     fn peer_bit(&self, rows: &[u32], row: u32, chunk: u32) -> bool {
-        let used = self.channels().any(|channel| channel.row == row);
-        used && chunk < self.count()
+        let is_open = |channel: Channel| channel.row == row && channel.phase == Phase::Open;
+        self.channels().any(is_open)
+            && chunk < self.count()
             && bit(rows, row as usize * sizes::map_words(self.count()), chunk)
     }
 

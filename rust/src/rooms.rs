@@ -31,9 +31,9 @@ pub struct Rooms<'a> {
     pub chunks: &'a mut [u8],
     /// A bit for each chunk held.
     pub map: &'a mut [u32],
-    /// The hashes of the tree's nodes, by node number.
+    /// The hashes of the tree's nodes, by node number: eight words each, the first byte of each four in the high bits.
     pub hashes: &'a mut [u32],
-    /// A bit for each trusted node.
+    /// A bit for each trusted node, by node number.
     pub trusted: &'a mut [u32],
     /// What peers have, a row for each channel.
     pub has: &'a mut [u32],
@@ -52,9 +52,9 @@ pub struct View<'a> {
     pub chunks: &'a [u8],
     /// A bit for each chunk held.
     pub map: &'a [u32],
-    /// The hashes of the tree's nodes, by node number.
+    /// The hashes of the tree's nodes, by node number: eight words each, the first byte of each four in the high bits.
     pub hashes: &'a [u32],
-    /// A bit for each trusted node.
+    /// A bit for each trusted node, by node number.
     pub trusted: &'a [u32],
     /// What peers have, a row for each channel.
     pub has: &'a [u32],
@@ -65,6 +65,8 @@ pub struct View<'a> {
 }
 
 /// What has rooms for a store, and lends the same ones each time.
+///
+/// With an implementation that lends other rooms each time, a store gives wrong replies or panics; it is never unsafe.
 pub trait Lend {
     /// Lends the rooms for writing.
     fn lend(&mut self) -> Rooms<'_>;

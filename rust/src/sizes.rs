@@ -1,6 +1,7 @@
 //! The limits of a pack, and the sizes of the rooms for a pack of n chunks.
 //!
-//! The functions are those of the library, proved for every number: rooms of these sizes are never answered with
+//! The functions are those of the library, proved for every number. It is also proved that a start or a build under a
+//! length of 1 to 524,288, in rooms of at least these sizes, [`STATE_WORDS`] of state among them, is not answered with
 //! [`Refusal::Room`](crate::Refusal::Room). For static rooms, whose sizes are wanted at compile time, [`fixed`] has the
 //! header's formulas.
 

@@ -8,6 +8,7 @@ use crate::owned::OwnedRooms;
 use crate::refusal::Refusal;
 use crate::rooms::{Lend, View};
 use crate::sizes;
+use crate::table::{Channel, Phase};
 
 /// A pack under an order, in rooms that it owns or that are lent to it. All that a store is stands in its rooms.
 ///
@@ -20,11 +21,19 @@ pub struct Store<#[cfg(feature = "alloc")] R = OwnedRooms, #[cfg(not(feature = "
 #[cfg(feature = "alloc")]
 impl Store {
     /// Starts an empty store under an order, in rooms that are allocated for its length.
+    ///
+    /// # Panics
+    ///
+    /// If the linked library has another layout of the state than this crate.
     pub fn start(order: Order) -> Result<Store, Refusal> {
         Store::start_in(OwnedRooms::for_length(order.length), order)
     }
 
     /// Builds a whole store from its content, in rooms that are allocated for it; [`order`](Store::order) has the root.
+    ///
+    /// # Panics
+    ///
+    /// If the linked library has another layout of the state than this crate.
     pub fn build(content: &[u8]) -> Result<Store, Refusal> {
         // A length that a u32 cannot hold is over the limit, as its highest number is.
         let length = u32::try_from(content.len()).unwrap_or(u32::MAX);
@@ -34,6 +43,10 @@ impl Store {
 
 impl<R: Lend> Store<R> {
     /// Starts an empty store under an order. Whatever stood in the rooms before counts for nothing.
+    ///
+    /// # Panics
+    ///
+    /// If the linked library has another layout of the state than this crate.
     pub fn start_in(rooms: R, order: Order) -> Result<Store<R>, Refusal> {
         let mut store = Store::resume(rooms);
         store.restart(order)?;
@@ -41,14 +54,22 @@ impl<R: Lend> Store<R> {
     }
 
     /// Builds a whole store of a length from its content, which must have that length.
+    ///
+    /// # Panics
+    ///
+    /// If the linked library has another layout of the state than this crate.
     pub fn build_in(rooms: R, length: u32, content: &[u8]) -> Result<Store<R>, Refusal> {
         let mut store = Store::resume(rooms);
         store.rebuild(length, content)?;
         Ok(store)
     }
 
-    /// The store that stands in rooms as an earlier one left them. In rooms that were never started or built each call
-    /// is answered with [`Refusal::Length`], until they are.
+    /// The store that stands in rooms as an earlier one left them.
+    ///
+    /// Rooms that were never started or built have no order, if the first word of the state room is not the layout's
+    /// version: rooms of zeros will do. Until they are, calls on the store are answered with [`Refusal::Length`], or
+    /// with [`Refusal::Room`] where the state room has under 74 words. Composing needs no order: it looks at the reply
+    /// room alone.
     ///
     /// # Panics
     ///
@@ -68,14 +89,20 @@ impl<R: Lend> Store<R> {
         Refusal::check(calls::build(self.rooms.lend(), length, content))
     }
 
-    /// Opens a channel under an ID; the reply is our HANDSHAKE.
+    /// Opens a channel under an ID that is not 0 and not in use; the reply is our HANDSHAKE.
+    ///
+    /// It calls until its peer answers; [`close`](Store::close) frees the row of one that is never answered.
     pub fn open(&mut self, id: u32) -> Result<&[u8], Refusal> {
         let answered = calls::open(self.rooms.lend(), id);
         self.reply(answered)
     }
 
-    /// Takes in a datagram at a clock in microseconds; the ID is for a channel that the datagram may open. Gives the
-    /// reply: an ACK for a stored chunk, our HANDSHAKE for one that opens a channel, else no byte.
+    /// Takes in a datagram. Gives the reply: an ACK for a stored chunk, our HANDSHAKE for one that opens a channel,
+    /// else no byte.
+    ///
+    /// The clock is any number, in microseconds by the protocol; it only goes into the ACK's delay. The ID is for a
+    /// channel that the datagram may open, and is looked at only then: [`channel`](Store::channel) tells whether it was
+    /// used. IDs that are hard to guess keep strangers from naming them.
     pub fn take(&mut self, clock: u64, id: u32, datagram: &[u8]) -> Result<&[u8], Refusal> {
         let answered = calls::take(self.rooms.lend(), clock, id, datagram);
         self.reply(answered)
@@ -86,6 +113,33 @@ impl<R: Lend> Store<R> {
     pub fn write(&mut self, id: u32, chunk: u32, clock: u64) -> Result<&[u8], Refusal> {
         let answered = calls::write(self.rooms.lend(), id, chunk, clock);
         self.reply(answered)
+    }
+
+    /// Frees the row of an ID of ours, open or calling; an ID without a row is [`Refusal::NoChannel`]. The peer is not
+    /// told: if it is to know, send it a closing HANDSHAKE first. The reply room stays as it was.
+    ///
+    /// ```
+    /// use ppspp::{Order, Refusal, Store};
+    /// let mut van = Store::start(Order { root: [7; 32], length: 4_500 })?;
+    /// van.open(17)?; // and no peer ever answers
+    /// assert_eq!(van.close(17), Ok(()));
+    /// assert_eq!(van.channel(17), None);
+    /// assert_eq!(van.close(17), Err(Refusal::NoChannel));
+    /// # Ok::<(), Refusal>(())
+    /// ```
+    pub fn close(&mut self, id: u32) -> Result<(), Refusal> {
+        let mut room = [0; sizes::REPLY_BYTES];
+        // A keepalive changes nothing, and is refused where there is no row.
+        self.take(0, 0, Composer::begin(&mut room, id)?.finish())?;
+        // A calling row is opened first, by a HANDSHAKE as its peer would send it.
+        let calling = |channel: &Channel| channel.phase == Phase::Calling;
+        if let (Some(_), Some(order)) = (self.channel(id).filter(calling), self.order()) {
+            let opening = Composer::begin(&mut room, id)?.handshake(1, &order.root)?;
+            self.take(0, 0, opening.finish())?;
+        }
+        let closing = Composer::begin(&mut room, id)?.close()?;
+        self.take(0, 0, closing.finish())?;
+        Ok(())
     }
 
     /// How many chunks are held, and whether that is all of them.

@@ -1,7 +1,7 @@
 //! The C interface, exactly as `include/ppspp.h` has it: constants, and the functions of `libloader.a`.
 //!
-//! The rest of the crate stands on it. Whoever calls the functions here must keep the rules of the header: no room
-//! overlaps another one or the bytes that are read, no pointer is null, no length is more than the room has.
+//! The rest of the crate stands on it. Whoever calls the functions here must keep the rules of the header: no pointer
+//! that a call writes through overlaps any other of that call, none is null, no length is more than the room has.
 
 /// Bytes of a chunk; the last one has 1 to 1,024.
 pub const PPSPP_CHUNK_SIZE: u32 = 1024;
@@ -188,7 +188,7 @@ extern "C" {
         reply_len: *mut usize,
     ) -> u32;
 
-    /// Takes in a datagram at a clock in microseconds; the ID is for a channel that the datagram may open.
+    /// Takes in a datagram at a clock; the ID is for a channel that the datagram may open.
     pub fn ppspp_take(
         state: *mut u32,
         state_n: usize,
@@ -255,7 +255,8 @@ extern "C" {
         reply_len: *mut usize,
     ) -> u32;
 
-    /// Adds a message to the datagram in the first `len` bytes of the reply room; `*reply_len` gets its new length.
+    /// Adds a message to the datagram in the first `len` bytes of the reply room; `*reply_len` gets its new length. Of
+    /// DATA the last chunk is not looked at.
     pub fn ppspp_add(
         reply: *mut u8,
         reply_n: usize,
@@ -270,6 +271,6 @@ extern "C" {
     ) -> u32;
 
     /// What stands at a place of a datagram; its messages begin at place 4. Of a message, `found` gets
-    /// [`PPSPP_FOUND_WORDS`] words.
+    /// [`PPSPP_FOUND_WORDS`] words; without one it stays as it was.
     pub fn ppspp_read(datagram: *const u8, datagram_n: usize, at: usize, found: *mut u64) -> u32;
 }

@@ -2,7 +2,7 @@
 
 use crate::support::{any_order, content, SEVEN};
 use ppspp::sizes::{self, fixed};
-use ppspp::{Held, Lend, OwnedRooms, Refusal, Rooms, Store};
+use ppspp::{Held, Lend, OwnedRooms, Refusal, Rooms, Store, View};
 
 /// Rooms for seven chunks, without an allocator. The trusted bits are 2 for each of 8 leaf places.
 struct Fixed {
@@ -110,6 +110,8 @@ fn rooms_that_shrink_between_calls_are_answered() {
         assert_eq!(store.open(2).err(), room, "room {which}");
         assert_eq!(store.take(0, 2, &[0; 4]).err(), room, "room {which}");
         assert_eq!(store.write(1, 0, 0).err(), room, "room {which}");
+        let composed = store.compose(1).err();
+        assert_eq!(composed, room.filter(|_| which == 7), "room {which}");
         // Asking takes the state and the map alone.
         let asked = store.ask().err();
         assert_eq!(
@@ -137,6 +139,32 @@ fn rooms_of_no_element_are_answered() {
     let mut store = Store::resume(rooms);
     assert_eq!(store.ask(), Err(Refusal::Room));
     assert_eq!(store.compose(1).err(), Some(Refusal::Room));
+}
+
+/// Lends rooms for writing, and others for reading, whose reply room is empty.
+struct Others(OwnedRooms, OwnedRooms);
+
+impl Lend for Others {
+    fn lend(&mut self) -> Rooms<'_> {
+        self.0.lend()
+    }
+
+    fn view(&self) -> View<'_> {
+        let reply = &[];
+        View {
+            reply,
+            ..self.1.view()
+        }
+    }
+}
+
+#[test]
+#[should_panic(expected = "out of range")]
+fn rooms_that_are_not_the_same_panic() {
+    let rooms = OwnedRooms::for_length(SEVEN);
+    let others = Others(rooms.clone(), rooms);
+    let mut store = Store::start_in(others, any_order(SEVEN)).expect("rooms of size");
+    let _ = store.open(1);
 }
 
 #[test]

@@ -23,6 +23,9 @@ fn all_refused(mut store: Store, wanted: Refusal) {
     assert_eq!(store.missing().next(), None);
     assert_eq!(store.channels().next(), None);
     assert!(!store.holds(0) && !store.peer_has(0, 0) && !store.peer_wants(0, 0));
+    assert!(!store.trusts(7));
+    // Composing needs no order.
+    assert!(store.compose(1).is_ok());
 }
 
 #[test]
@@ -60,6 +63,27 @@ fn phase_of_no_name_is_free() {
             Some(Refusal::NoChannel)
         );
     }
+}
+
+#[test]
+fn calling_row_has_no_peer() {
+    let mut server = Pair::new(SEVEN).server;
+    let datagram = bytes("00000005 03 00000001 00000001 08 00000002 00000002");
+    server.take(0, 0, &datagram).expect("sound");
+    assert!(server.peer_has(0, 1) && server.peer_wants(0, 2));
+    let at = sys::PPSPP_WORD_ROWS + sys::PPSPP_ROW_PHASE;
+    let calling = with_state(server, |state| state[at] = sys::PPSPP_CALLING);
+    assert_eq!(calling.view().has[0], 0b10);
+    assert!(!calling.peer_has(0, 1) && !calling.peer_wants(0, 2));
+}
+
+#[test]
+fn bits_behind_the_tree_are_no_nodes() {
+    let mut rooms = Store::build(b"abc").expect("its length").into_rooms();
+    rooms.lend().trusted.fill(u32::MAX);
+    let store = Store::resume(rooms);
+    let trusted: Vec<u64> = (0..64).filter(|&node| store.trusts(node)).collect();
+    assert_eq!(trusted, [0]);
 }
 
 /// Numbers that look random, by a linear congruence (Knuth's MMIX).
@@ -110,6 +134,7 @@ fn garbled_rooms_give_an_answer() {
         let _ = store.take(0, numbers.next() % 3, &datagram);
         let _ = store.take(0, 1, &bytes("00000001 03 00000000 00000000"));
         let _ = store.write(numbers.next() % 3, numbers.next() % 20, 0);
+        let _ = store.close(numbers.next() % 3);
         look_everywhere(&store, n);
     }
 }

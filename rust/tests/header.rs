@@ -1,5 +1,5 @@
-//! The declarations of `sys` against the header: every constant, every function and every parameter. And the sentences of
-//! the numbers, which are one text in both headers and the crate.
+//! The declarations of `sys` against the header: every constant, every function and every parameter. And the sentences
+//! of the numbers, which are one text in both headers and the crate.
 
 use ppspp::Refusal;
 use std::collections::BTreeMap;

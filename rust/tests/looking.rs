@@ -105,6 +105,39 @@ fn what_a_peer_has_and_wants() {
     assert_eq!(those(|chunk| server.peer_wants(0, chunk)), [30, 68, 69]);
 }
 
+/// The nodes that a store trusts, some that are no nodes of the tree looked at too.
+fn trusted(store: &Store) -> Vec<u64> {
+    let far = [1 << 32, (1 << 32) + 7, u64::MAX];
+    (0..2_000)
+        .chain(far)
+        .filter(|&node| store.trusts(node))
+        .collect()
+}
+
+#[test]
+fn nodes_that_are_trusted() {
+    let mut pair = Pair::new(SEVEN);
+    // The root is node 7. All nodes wholly inside the pack: 11 is over chunks 4 to 7, 13 over 6 and 7.
+    let inside = [0, 1, 2, 3, 4, 5, 6, 7, 8, 9, 10, 12];
+    assert_eq!(trusted(&pair.server), inside);
+    assert_eq!(trusted(&pair.van), [7]);
+    // With chunk 0 come the peaks 3, 9 and 12, its leaf, node 1 above it, and the siblings 2 and 5.
+    let datagram = pair.written(0, 0);
+    pair.van.take(0, 0, &datagram).expect("a true chunk");
+    assert_eq!(trusted(&pair.van), [0, 1, 2, 3, 5, 7, 9, 12]);
+}
+
+#[test]
+fn hashes_stand_by_node_number() {
+    let server = Pair::new(SEVEN).server;
+    let content = content(SEVEN);
+    for (chunk, bytes) in content.chunks(1_024).enumerate() {
+        let words = server.view().hashes[16 * chunk..][..8].iter();
+        let hash = words.flat_map(|word| word.to_be_bytes());
+        assert!(hash.eq(second::sha256::sha256(bytes)), "chunk {chunk}");
+    }
+}
+
 #[test]
 fn rows_are_told_apart() {
     let Pair {

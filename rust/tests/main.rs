@@ -2,6 +2,7 @@
 //! program.
 
 mod borrowed;
+mod closing;
 mod composing;
 mod downloads;
 mod garbled;
