@@ -28,12 +28,27 @@ static void check_alone(void)
     CHECK(ppspp_store_add_close(&desk, &len) == PPSPP_DONE && written(len, &p) && len == 10);
 }
 
+/* The last chunk of DATA is not looked at: its range is the one chunk. */
+static void check_data(void)
+{
+    static const uint32_t lasts[] = {0, 4, 5, 6, 0xffffffffu};
+    for (size_t i = 0; i < sizeof lasts / sizeof lasts[0]; i++) {
+        struct packet p = packet_to(PEERS);
+        size_t len = 0;
+        put_data(&p, 5, 7, content(), 10);
+        CHECK(ppspp_store_begin(&desk, PEERS, &len) == PPSPP_DONE);
+        CHECK(ppspp_store_add(&desk, &len, PPSPP_DATA, 5, lasts[i], 7, content(), 10) == PPSPP_DONE);
+        CHECK(written(len, &p));
+    }
+}
+
 /* One of each other message, DATA last. A refused one leaves the datagram so far and its length. */
 void group_messages(void)
 {
     struct packet p = packet_to(0xfedcba98u);
     size_t len = 0;
     check_alone();
+    check_data();
     CHECK(ppspp_store_begin(&desk, 0xfedcba98u, &len) == PPSPP_DONE && written(len, &p));
     put_range(&p, 3, 0, 0xffffffffu);
     CHECK(ppspp_store_add_have(&desk, &len, 0, 0xffffffffu) == PPSPP_DONE && written(len, &p));
