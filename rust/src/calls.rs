@@ -1,24 +1,40 @@
-//! The calls of the library on slices: the only unsafe code of this crate.
+//! The calls with the library's own numbers, on slices of any length: for tests, and for loaders that keep numbers.
+//! [`Store`](crate::Store), [`Composer`](crate::Composer) and [`messages`](crate::messages()) are made of them.
 //!
-//! Each call hands over pointers and lengths of slices. A slice's pointer is never null and is aligned, its length is
-//! what it has; mutable slices overlap nothing; and the library keeps no pointer. So the header's rules hold, whatever
-//! the slices contain.
+//! Each call gives back a number of the header's `enum ppspp_answer`, and any numbers and bytes get one.
+//!
+//! ```
+//! use ppspp::{calls, Lend, OwnedRooms};
+//! let mut rooms = OwnedRooms::for_length(1_500);
+//! assert_eq!(calls::build(rooms.lend(), 1_500, &[7; 1_500]), 0);
+//! assert_eq!(calls::open(rooms.lend(), 17), (0, 60));
+//! assert_eq!(calls::open(rooms.lend(), 17), (14, 0));
+//! assert_eq!(calls::ask(rooms.view().state, rooms.view().map), (0, 2, 1));
+//! ```
 
-use crate::numbers::Numbers;
+// The only unsafe code of this crate. Each call hands over pointers and lengths of slices. A slice's pointer is never null
+// and is aligned, its length is what it has; mutable slices overlap nothing; and the library keeps no pointer. So the
+// header's rules hold, whatever the slices contain.
+
+pub use crate::numbers::Numbers;
+
 use crate::rooms::Rooms;
 use crate::sys;
 
-/// A number given back, and the reply's length.
+/// A number given back, and the length of the reply or of the datagram so far, 0 after a refusal.
 pub type Answered = (u32, usize);
 
+/// What stands where a call is to write a length, until it does. No reply is so long: a call that wrote none would show.
+const NO_LENGTH: usize = usize::MAX;
+
 /// The chunks of a pack of a length.
-pub fn chunk_count(length: u32) -> u32 {
+pub(crate) fn chunk_count(length: u32) -> u32 {
     // SAFETY: it takes and gives a number.
     unsafe { sys::ppspp_chunk_count(length) }
 }
 
 /// The words of the map, of the hashes, of the trusted bits, and of what peers have, for n chunks.
-pub fn words(n: u32) -> [usize; 4] {
+pub(crate) fn words(n: u32) -> [usize; 4] {
     // SAFETY: they take and give numbers.
     unsafe {
         [
@@ -31,7 +47,7 @@ pub fn words(n: u32) -> [usize; 4] {
 }
 
 /// The library's layout version and words of a state.
-pub fn layout() -> (u32, usize) {
+pub(crate) fn layout() -> (u32, usize) {
     // SAFETY: they give numbers.
     unsafe { (sys::ppspp_layout_version(), sys::ppspp_state_words()) }
 }
@@ -65,40 +81,41 @@ macro_rules! on_rooms {
     };
 }
 
-/// Starts an empty store.
+/// Starts an empty store under an order.
 pub fn start(rooms: Rooms<'_>, root: &[u8; sys::PPSPP_ROOT_BYTES], length: u32) -> u32 {
     on_rooms!(ppspp_start, rooms, root.as_ptr(), length)
 }
 
-/// Builds a whole store.
+/// Builds a whole store of a length from its content; the root found is in the state.
 pub fn build(rooms: Rooms<'_>, length: u32, content: &[u8]) -> u32 {
     on_rooms!(ppspp_build, rooms, length, content.as_ptr(), content.len())
 }
 
-/// Opens a channel.
+/// Opens a channel under an ID; the reply is our HANDSHAKE.
 pub fn open(rooms: Rooms<'_>, id: u32) -> Answered {
-    let mut len = 0;
+    let mut len = NO_LENGTH;
     (on_rooms!(ppspp_open, rooms, id, &mut len), len)
 }
 
-/// Takes in a datagram.
+/// Takes in a datagram at a clock in microseconds; the ID is for a channel that it may open.
 pub fn take(rooms: Rooms<'_>, clock: u64, id: u32, datagram: &[u8]) -> Answered {
-    let mut len = 0;
+    let mut len = NO_LENGTH;
     let (bytes, count) = (datagram.as_ptr(), datagram.len());
     let number = on_rooms!(ppspp_take, rooms, clock, id, bytes, count, &mut len);
     (number, len)
 }
 
-/// Writes the datagram of a chunk.
+/// Writes the datagram of a chunk, with its hashes, for the channel open under an ID; the clock is its timestamp.
 pub fn write(rooms: Rooms<'_>, id: u32, chunk: u32, clock: u64) -> Answered {
-    let mut len = 0;
+    let mut len = NO_LENGTH;
     let number = on_rooms!(ppspp_write, rooms, id, chunk, clock, &mut len);
     (number, len)
 }
 
-/// The number given back, how many chunks are held, and 1 where that is all.
+/// The number given back, how many chunks are held, and 1 where that is all, else 0; after a refusal both are 0.
 pub fn ask(state: &[u32], map: &[u32]) -> (u32, u32, u32) {
-    let (mut held, mut whole) = (0, 0);
+    // As with lengths: no count is so high, and no flag.
+    let (mut held, mut whole) = (u32::MAX, u32::MAX);
     // SAFETY: slices, valid for their lengths, and two places of this function.
     let number = unsafe {
         sys::ppspp_ask(
@@ -113,9 +130,9 @@ pub fn ask(state: &[u32], map: &[u32]) -> (u32, u32, u32) {
     (number, held, whole)
 }
 
-/// Begins a datagram in a room.
+/// Begins a datagram in a room; its destination is the peer's channel.
 pub fn begin(room: &mut [u8], destination: u32) -> Answered {
-    let mut len = 0;
+    let mut len = NO_LENGTH;
     // SAFETY: a slice, valid for its length, and a place of this function.
     let number = unsafe { sys::ppspp_begin(room.as_mut_ptr(), room.len(), destination, &mut len) };
     (number, len)
@@ -123,7 +140,7 @@ pub fn begin(room: &mut [u8], destination: u32) -> Answered {
 
 /// Adds a message to the datagram in the first `so_far` bytes of a room.
 pub fn add(room: &mut [u8], so_far: usize, message: Numbers<'_>) -> Answered {
-    let mut len = 0;
+    let mut len = NO_LENGTH;
     // SAFETY: two slices, valid for their lengths, the mutable one overlaps nothing, and a place of this function.
     let number = unsafe {
         sys::ppspp_add(
@@ -142,11 +159,9 @@ pub fn add(room: &mut [u8], so_far: usize, message: Numbers<'_>) -> Answered {
     (number, len)
 }
 
-/// What stands at a place of a datagram, and the words of a message.
-pub fn read(datagram: &[u8], at: usize) -> (u32, [u64; sys::PPSPP_FOUND_WORDS]) {
-    let mut found = [0; sys::PPSPP_FOUND_WORDS];
+/// What stands at a place of a datagram, a number of the header's `enum ppspp_step`. Of a message, `found` gets the
+/// words; else it stays as it is.
+pub fn read(datagram: &[u8], at: usize, found: &mut [u64; sys::PPSPP_FOUND_WORDS]) -> u32 {
     // SAFETY: a slice, valid for its length, and an array of as many words as the library writes.
-    let step =
-        unsafe { sys::ppspp_read(datagram.as_ptr(), datagram.len(), at, found.as_mut_ptr()) };
-    (step, found)
+    unsafe { sys::ppspp_read(datagram.as_ptr(), datagram.len(), at, found.as_mut_ptr()) }
 }

@@ -42,6 +42,8 @@
 //! # Ok::<(), Refusal>(())
 //! ```
 //!
+//! [`calls`] has the same calls with the library's own numbers, and [`sys`] the C interface itself.
+//!
 //! Without the feature `alloc`, which is on by default, the crate needs neither the standard library nor an allocator:
 //! lend static rooms with [`Store::start_in`].
 
@@ -53,7 +55,7 @@
 extern crate alloc;
 
 #[allow(unsafe_code)]
-mod calls;
+pub mod calls;
 mod composer;
 mod display;
 mod look;

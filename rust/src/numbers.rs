@@ -3,13 +3,18 @@
 use crate::message::{Message, Options};
 use crate::sys;
 
-/// A message in numbers: type, first, last, number, and bytes, as the header's table has them.
-#[derive(Clone, Copy)]
+/// A message in numbers and bytes, as the header's table has it. Numbers that its type has no use for are not looked at.
+#[derive(Clone, Copy, Debug, PartialEq, Eq, Hash)]
 pub struct Numbers<'a> {
+    /// The type.
     pub kind: u32,
+    /// The first chunk; of a HANDSHAKE the source.
     pub first: u32,
+    /// The last chunk, of DATA the same as the first; of a HANDSHAKE the number of its options.
     pub last: u32,
+    /// The timestamp of DATA, the delay of an ACK.
     pub number: u64,
+    /// The chunk, the hash, or the root of the fixed options. Of a hash or a root the first 32 bytes count.
     pub bytes: &'a [u8],
 }
 

@@ -1,8 +1,7 @@
 //! Reading a datagram, message by message.
 
-use crate::calls;
+use crate::calls::{self, Numbers};
 use crate::message::Message;
-use crate::numbers::Numbers;
 use crate::sizes::MIN_DATAGRAM;
 use crate::sys;
 use core::error::Error;
@@ -39,8 +38,8 @@ impl<'a> Iterator for Messages<'a> {
 
     fn next(&mut self) -> Option<Self::Item> {
         let place = self.at.take()?;
-        let (step, found) = calls::read(self.datagram, place);
-        match step {
+        let mut found = [0; sys::PPSPP_FOUND_WORDS];
+        match calls::read(self.datagram, place, &mut found) {
             sys::PPSPP_STEP_END => None,
             sys::PPSPP_STEP_MESSAGE => {
                 let (message, next) = message(self.datagram, found);
