@@ -18,5 +18,6 @@ pub mod packets;
 pub mod packs;
 pub mod proved;
 pub mod random;
+pub mod runs;
 pub mod takes;
 pub mod words;
