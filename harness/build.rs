@@ -1,12 +1,13 @@
 //! Links the static libraries of the proved code, which stand in the directory
 //! that the environment variable PROVED_LIB_DIR names, or else in
-//! `target/staticlib` of the repository.
+//! `target/staticlib` of the repository. The loader's library is linked by
+//! `ppspp`.
 
 use std::path::{Path, PathBuf};
 
 /// The crates that the libraries are made of. Each library exports the
 /// functions of its own crate alone, so that none clashes.
-const CRATES: [&str; 4] = ["hash_c", "store_c", "wire_c", "channel_c"];
+const CRATES: [&str; 3] = ["hash_c", "store_c", "wire_c"];
 
 fn main() {
     println!("cargo::rerun-if-env-changed=PROVED_LIB_DIR");

@@ -1,84 +1,139 @@
-//! What the benchmarks share.
+//! What the benchmarks share: jobs that several programs do in turn, and tables
+//! of their best times in Markdown.
 
 use std::time::{Duration, Instant};
 
-/// The machine's kind, as it names itself.
-pub fn machine() -> String {
-    let cpuinfo = std::fs::read_to_string("/proc/cpuinfo").unwrap_or_default();
-    cpuinfo
-        .lines()
-        .find_map(|line| line.strip_prefix("model name")?.split_once(": "))
-        .map_or("unknown".to_string(), |(_, name)| name.to_string())
+/// The contenders of most tables.
+pub const NAMES: [&str; 2] = ["proved", "second"];
+
+/// How a time is told.
+#[derive(Clone, Copy)]
+pub enum Unit {
+    /// The microseconds of a run, divided by so many pieces of work.
+    Microseconds(usize),
+    /// The same in nanoseconds.
+    Nanoseconds(usize),
+    /// The speed of a run over so many bytes, in 10^6 bytes a second.
+    Megabytes(usize),
 }
 
-/// Work for the proved code and for `second`: each run gives the time it took.
+impl Unit {
+    fn name(self) -> &'static str {
+        match self {
+            Unit::Microseconds(_) => "µs",
+            Unit::Nanoseconds(_) => "ns",
+            Unit::Megabytes(_) => "MB/s",
+        }
+    }
+
+    fn value(self, time: Duration) -> f64 {
+        let seconds = time.as_secs_f64();
+        match self {
+            Unit::Microseconds(pieces) => seconds * 1e6 / pieces as f64,
+            Unit::Nanoseconds(pieces) => seconds * 1e9 / pieces as f64,
+            Unit::Megabytes(bytes) => bytes as f64 / seconds / 1e6,
+        }
+    }
+}
+
+/// One who does a job: each run gives the time that it took.
+struct Contender<'a> {
+    run: Box<dyn Fn() -> Duration + 'a>,
+    best: Duration,
+}
+
+/// Work for the proved code, for `second` and perhaps for others.
 pub struct Job<'a> {
     name: String,
-    proved: Box<dyn Fn() -> Duration + 'a>,
-    second: Box<dyn Fn() -> Duration + 'a>,
-    proved_best: Duration,
-    second_best: Duration,
+    unit: Unit,
+    contenders: Vec<Contender<'a>>,
 }
 
 impl<'a> Job<'a> {
+    /// A job for the proved code and for `second`.
     pub fn new(
-        name: String,
+        name: impl Into<String>,
+        unit: Unit,
         proved: impl Fn() -> Duration + 'a,
         second: impl Fn() -> Duration + 'a,
     ) -> Self {
-        Job {
-            name,
-            proved: Box::new(proved),
-            second: Box::new(second),
-            proved_best: Duration::MAX,
-            second_best: Duration::MAX,
+        let job = Job {
+            name: name.into(),
+            unit,
+            contenders: Vec::new(),
+        };
+        job.beside(proved).beside(second)
+    }
+
+    /// The same job for one more.
+    pub fn beside(mut self, run: impl Fn() -> Duration + 'a) -> Self {
+        self.contenders.push(Contender {
+            run: Box::new(run),
+            best: Duration::MAX,
+        });
+        self
+    }
+
+    /// One run of each; the next one goes first in the next round.
+    fn run(&mut self, round: usize) {
+        let count = self.contenders.len();
+        for i in 0..count {
+            let contender = &mut self.contenders[(round + i) % count];
+            contender.best = contender.best.min((contender.run)());
         }
     }
 
-    pub fn name(&self) -> &str {
-        &self.name
-    }
-
-    /// One run of each.
-    fn run(&mut self, proved_first: bool) {
-        if proved_first {
-            self.proved_best = self.proved_best.min((self.proved)());
-        }
-        self.second_best = self.second_best.min((self.second)());
-        if !proved_first {
-            self.proved_best = self.proved_best.min((self.proved)());
-        }
-    }
-
-    /// The microseconds of the best run of the proved code and of `second`.
-    pub fn microseconds(&self) -> [f64; 2] {
-        [self.proved_best, self.second_best].map(|time| time.as_secs_f64() * 1e6)
+    /// The cells of the table's row: the best of each, and by how much the proved
+    /// code is faster than each other.
+    fn cells(&self) -> Vec<String> {
+        let best = self.contenders.iter().map(|contender| contender.best);
+        let values = best.clone().map(|time| figure(self.unit.value(time)));
+        let [proved, others @ ..] = &self.contenders[..] else {
+            return Vec::new();
+        };
+        let ratio = |other: &Contender| other.best.as_secs_f64() / proved.best.as_secs_f64();
+        let ratios = others.iter().map(|other| format!("{:.3}", ratio(other)));
+        values.chain(ratios).collect()
     }
 }
 
-/// Gives each job to both in turn, for so long, and prints how often.
-pub fn run(jobs: &mut [Job], long: Duration) {
+/// Gives each job to all in turn, for so long, and prints a table of the best
+/// times. The names are those of the jobs' contenders, the proved code first.
+pub fn measure(caption: &str, names: &[&str], mut jobs: Vec<Job>, long: Duration) {
     let start = Instant::now();
     let mut rounds = 0;
     while start.elapsed() < long {
-        for job in &mut *jobs {
-            job.run(rounds % 2 == 0);
+        for job in &mut jobs {
+            job.run(rounds);
         }
         rounds += 1;
     }
-    println!("machine: {}", machine());
-    println!("rounds: {rounds}, of one run of each job for each; the best counts");
-    println!("the ratio is one of speeds, larger is faster");
+    println!("{caption}, the best of {rounds} runs of each in turn:");
+    println!();
+    let ratios = names.iter().skip(1);
+    let ratios = ratios.map(|other| format!("{} / {other}", names[0]));
+    let header = names.iter().map(|name| name.to_string()).chain(ratios);
+    let header: Vec<String> = header.collect();
+    println!("| what | {} |", header.join(" | "));
+    println!("|---|{}", "---|".repeat(header.len()));
+    for job in &jobs {
+        let cells = job.cells().join(" | ");
+        println!("| {}, {} | {cells} |", job.name, job.unit.name());
+    }
     println!();
 }
 
-/// A row for each job: the times and the ratio.
-pub fn print_table(jobs: &[Job]) {
-    print!("{:44}{:>11}{:>11}", "best times, us", "proved", "second");
-    println!("{:>16}", "proved/second");
-    for job in jobs {
-        let [proved, second] = job.microseconds();
-        print!("{:44}{proved:>11.1}{second:>11.1}", job.name());
-        println!("{:>16.3}", second / proved);
-    }
+/// A number with four digits that count, more before the point, fewer where it is
+/// very small.
+fn figure(value: f64) -> String {
+    let whole_digits = value.log10().floor() as i32 + 1;
+    let decimals = (4 - whole_digits).clamp(1, 7) as usize;
+    format!("{value:.decimals$}")
+}
+
+/// The time that some work took.
+pub fn timed(work: impl FnOnce()) -> Duration {
+    let start = Instant::now();
+    work();
+    start.elapsed()
 }

@@ -1,10 +1,9 @@
 //! The entry points as values: a call with its arguments, which the proved code
 //! and `second` can both be given, and what it gives back.
 
-use crate::datagrams::message_words;
-use crate::proved::channel::{self as proved, Rooms};
-use crate::proved::wire;
-use crate::words::words;
+use crate::numbers::numbers;
+use crate::rooms::Rooms;
+use ppspp::calls::{self, Answered};
 use second::channel::{self as channel, Outcome, State};
 use second::hex;
 use second::sha256::Digest;
@@ -48,22 +47,42 @@ pub enum Call {
     },
 }
 
-/// What a call gives back: its number, and the words for its results. These are
-/// the length of the reply or of the datagram so far or, for asking, the held
-/// count and 1 where all are held.
-#[derive(Clone, Debug, PartialEq, Eq)]
+/// What a call gives back.
+#[derive(Clone, Debug, Default, PartialEq, Eq)]
 pub struct Told {
     pub number: u32,
-    pub words: Vec<u64>,
+    /// The length of the reply or of the datagram so far; 0 for a call that has
+    /// neither.
+    pub len: usize,
+    /// What asking tells: the held count, and 1 where all are held. Zeros for
+    /// other calls.
+    pub held: [u32; 2],
+}
+
+impl Told {
+    /// A number, and nothing else.
+    pub fn number(number: u32) -> Self {
+        Told {
+            number,
+            ..Told::default()
+        }
+    }
+}
+
+impl From<Answered> for Told {
+    fn from((number, len): Answered) -> Self {
+        Told {
+            number,
+            len,
+            held: [0; 2],
+        }
+    }
 }
 
 impl Call {
-    /// How many words the results have.
-    pub fn results(&self) -> usize {
-        match self {
-            Call::Ask => 2,
-            _ => 1,
-        }
+    /// Whether it starts or builds a store, and so has no reply.
+    pub fn starts(&self) -> bool {
+        matches!(self, Call::Start { .. } | Call::Build { .. })
     }
 
     /// Whether it begins or adds, and so is lent the reply room alone: no state,
@@ -72,36 +91,48 @@ impl Call {
         matches!(self, Call::Begin { .. } | Call::Add { .. })
     }
 
+    /// Whether it is lent a state that it may change.
+    pub fn changes_state(&self) -> bool {
+        !self.composes() && !matches!(self, Call::Write { .. } | Call::Ask)
+    }
+
     /// Gives it to the proved code.
-    pub fn to_proved(&self, state: &mut [u32], rooms: &mut Rooms, out: &mut [u64]) -> u32 {
+    pub fn to_proved(&self, state: &mut [u32], rooms: &mut Rooms) -> Told {
         match self {
-            Call::Start { root, length } => proved::start(state, rooms, &words(root), *length, out),
-            Call::Build { length, content } => proved::build(state, rooms, *length, content, out),
-            Call::Open { id } => proved::open(state, rooms, *id, out),
+            Call::Start { root, length } => {
+                Told::number(calls::start(rooms.lend(state), root, *length))
+            }
+            Call::Build { length, content } => {
+                Told::number(calls::build(rooms.lend(state), *length, content))
+            }
+            Call::Open { id } => calls::open(rooms.lend(state), *id).into(),
             Call::Take {
                 clock,
                 id,
                 datagram,
-            } => proved::take(state, rooms, *clock, *id, datagram, out),
+            } => calls::take(rooms.lend(state), *clock, *id, datagram).into(),
             Call::Write { id, chunk, clock } => {
-                proved::write(state, rooms, *id, *chunk, *clock, out)
+                calls::write(rooms.lend(state), *id, *chunk, *clock).into()
             }
-            Call::Ask => proved::ask(state, &rooms.map, out),
-            Call::Begin { destination } => wire::begin(&mut rooms.reply, *destination, out),
+            Call::Ask => {
+                let (number, held, whole) = calls::ask(state, &rooms.map);
+                Told {
+                    held: [held, whole],
+                    ..Told::number(number)
+                }
+            }
+            Call::Begin { destination } => calls::begin(&mut rooms.reply, *destination).into(),
             Call::Add {
                 len,
                 message,
                 source,
-            } => {
-                let fields = message_words(message);
-                wire::add(&mut rooms.reply, *len, &fields, source, out)
-            }
+            } => calls::add(&mut rooms.reply, *len, numbers(message, source)).into(),
         }
     }
 
     /// Gives it to `second`.
     pub fn to_second(&self, state: &mut State, rooms: &mut Rooms) -> Told {
-        let lent = &mut second_rooms(rooms);
+        let lent = &mut rooms.lend_to_second();
         let outcome = match self {
             Call::Start { root, length } => channel::start(state, lent, root, *length),
             Call::Build { length, content } => channel::build(state, lent, *length, content),
@@ -115,8 +146,8 @@ impl Call {
             Call::Ask => {
                 let held = channel::ask(state, &rooms.map);
                 return Told {
-                    number: held.number.into(),
-                    words: vec![held.count.into(), held.whole.into()],
+                    held: [held.count, held.whole.into()],
+                    ..Told::number(held.number.into())
                 };
             }
             Call::Begin { destination } => channel::begin(lent.reply, *destination),
@@ -127,10 +158,7 @@ impl Call {
             } => channel::add(lent.reply, *len, message, source),
         };
         let Outcome { number, length } = outcome;
-        Told {
-            number: number.into(),
-            words: vec![length as u64],
-        }
+        Told::from((number.into(), length))
     }
 }
 
@@ -166,18 +194,5 @@ impl fmt::Display for Call {
                 write!(f, "add to {len} bytes {message:?} from {source}")
             }
         }
-    }
-}
-
-/// Rooms in the form in which `second` is lent them.
-pub fn second_rooms(rooms: &mut Rooms) -> channel::Rooms<'_> {
-    channel::Rooms {
-        chunks: &mut rooms.chunks,
-        map: &mut rooms.map,
-        hashes: &mut rooms.hashes,
-        trusted: &mut rooms.trusted,
-        has: &mut rooms.has,
-        wants: &mut rooms.wants,
-        reply: &mut rooms.reply,
     }
 }

@@ -6,13 +6,21 @@
 
 use crate::beside::difference;
 use crate::calls::{Call, Told};
-use crate::proved::channel::{Rooms, STATE_WORDS};
+use crate::rooms::Rooms;
 use crate::words::{digest, words};
+use ppspp::sizes::STATE_WORDS;
 use second::channel::{Phase, Row, State, CHANNELS};
 use second::{answer, hex};
 
-/// The words for a call's results, before it.
-const OUT: [u64; 3] = [u64::MAX; 3];
+/// The places of a state's words: the layout's version, the root, the length,
+/// and the rows, of four words each.
+pub const VERSION: usize = 0;
+pub const ROOT: usize = 1;
+pub const LENGTH: usize = 9;
+pub const ROWS: usize = 10;
+
+/// The version of the words. A state of another one has no order.
+const THIS_VERSION: u32 = 1;
 
 /// A store of each, with the same state and the same in their rooms.
 #[derive(Clone)]
@@ -43,25 +51,20 @@ impl Both {
     /// Has both make a call, and gives what they give back.
     pub fn call(&mut self, case: &str, call: &Call) -> Told {
         let before = self.clone();
-        let mut out = OUT;
-        let number = call.to_proved(&mut self.words, &mut self.rooms, &mut out);
-        let told = call.to_second(&mut self.state, &mut self.second);
-        let wanted = told.number;
-        let differing = if wanted == 0 {
+        let told = call.to_proved(&mut self.words, &mut self.rooms);
+        let wanted = call.to_second(&mut self.state, &mut self.second);
+        let differing = if wanted.number == 0 {
             self.after_done(&before, call)
         } else {
             self.after_refusal(&before)
         };
-        let mut wanted_out = OUT;
-        wanted_out[..call.results()].copy_from_slice(&told.words);
-        let results = difference("out", &out, &wanted_out);
         assert!(
-            number == wanted && differing.is_empty() && results.is_none(),
-            "{case}: {call}\n{}:\nthe proved code answers {number}, wanted is {wanted}; what \
-             differs: {differing:?}, {results:?}",
+            told == wanted && differing.is_empty(),
+            "{case}: {call}\n{}:\nthe proved code gives {told:?}, wanted is {wanted:?}; what \
+             differs: {differing:?}",
             before.about(call)
         );
-        told
+        wanted
     }
 
     /// What a call meets: the datagram that it adds to, or the state.
@@ -77,10 +80,11 @@ impl Both {
     }
 
     /// What differs after a call that was done: the words of a new state, and
-    /// the rooms. Asking, beginning and adding write no state.
+    /// the rooms. Writing and asking leave the words as they are, also those
+    /// that no call writes.
     fn after_done(&self, before: &Both, call: &Call) -> Vec<String> {
         let mut wanted = before.words.clone();
-        if !matches!(call, Call::Ask) && !call.composes() {
+        if call.changes_state() {
             wanted[..STATE_WORDS].copy_from_slice(&words_of(&self.state));
         }
         let mut differing = differences(&self.rooms, &self.second);
@@ -99,18 +103,30 @@ impl Both {
         differing
     }
 
-    /// The proved call alone with so many words of the state and for the
-    /// results, too few, which it must refuse with 11, leaving all as it is.
-    pub fn refused(&self, case: &str, call: &Call, state_len: usize, out_len: usize) {
-        let before = &self.words[..state_len];
+    /// The proved call alone in a state room of so many words, too few, which it
+    /// must refuse, leaving all as it is. Gives the number.
+    pub fn call_short(&self, case: &str, call: &Call, count: usize) -> u32 {
+        let before = &self.words[..count];
         let (mut words, mut rooms) = (before.to_vec(), self.rooms.clone());
-        let mut out = vec![u64::MAX; out_len];
-        let number = call.to_proved(&mut words, &mut rooms, &mut out);
-        let wanted = u32::from(answer::ROOM_TOO_SMALL);
-        assert_eq!(number, wanted, "{case}: {call}");
-        assert_eq!(words, before, "{case}: {call}");
-        assert_eq!(out, vec![u64::MAX; out_len], "{case}: {call}");
-        assert!(rooms == self.rooms, "{case}: {call}: a room is changed");
+        let told = call.to_proved(&mut words, &mut rooms);
+        let wanted = self.short_number(call);
+        let case = format!("{case}: {call}, with {count} words of state");
+        assert_eq!(told, Told::number(wanted), "{case}");
+        assert_eq!(words, before, "{case}");
+        let differing = differences(&rooms, &self.rooms);
+        assert!(differing.is_empty(), "{case}: {differing:?}");
+        wanted
+    }
+
+    /// The number for a state room that is too short: 11, but before it 12 where
+    /// a start or a building is refused with that, which looks at no room.
+    fn short_number(&self, call: &Call) -> u32 {
+        let (mut state, mut rooms) = (self.state.clone(), self.second.clone());
+        let bad_length = u32::from(answer::BAD_LENGTH);
+        if call.starts() && call.to_second(&mut state, &mut rooms).number == bad_length {
+            return bad_length;
+        }
+        answer::ROOM_TOO_SMALL.into()
     }
 
     /// Changes both states and rooms, the states by their words.
@@ -128,9 +144,19 @@ impl Both {
         &self.rooms
     }
 
+    /// Whether the words of the state are of the version that has an order.
+    pub fn has_version(&self) -> bool {
+        self.words[VERSION] == THIS_VERSION
+    }
+
+    /// Whether a call would write the state in the words that it has.
+    pub fn is_canonical(&self) -> bool {
+        self.words[..STATE_WORDS] == words_of(&self.state)
+    }
+
     /// The first bytes of the reply room.
     pub fn reply(&self, told: &Told) -> Vec<u8> {
-        self.rooms.reply[..told.words[0] as usize].to_vec()
+        self.rooms.reply[..told.len].to_vec()
     }
 
     /// Whether a node's hash is trusted.
@@ -150,10 +176,14 @@ fn is_set(row: &[u32], bit: usize) -> bool {
         .is_some_and(|word| word >> (bit % 32) & 1 == 1)
 }
 
-/// The state of the first words, in `second`'s form.
+/// The state of the first words, in `second`'s form. One of another version is
+/// that of a store without an order.
 pub fn state_of(words: &[u32]) -> State {
+    if words[VERSION] != THIS_VERSION {
+        return State::default();
+    }
     let row = |i: usize| {
-        let row = &words[9 + 4 * i..][..4];
+        let row = &words[ROWS + 4 * i..][..4];
         Row {
             phase: match row[0] {
                 1 => Phase::Calling,
@@ -166,8 +196,8 @@ pub fn state_of(words: &[u32]) -> State {
         }
     };
     State {
-        root: digest(&std::array::from_fn(|i| words[i])),
-        length: words[8],
+        root: digest(&std::array::from_fn(|i| words[ROOT + i])),
+        length: words[LENGTH],
         rows: std::array::from_fn(row),
     }
 }
@@ -175,8 +205,9 @@ pub fn state_of(words: &[u32]) -> State {
 /// The words of a state.
 pub fn words_of(state: &State) -> [u32; STATE_WORDS] {
     let mut all = [0; STATE_WORDS];
-    all[..8].copy_from_slice(&words(&state.root));
-    all[8] = state.length;
+    all[VERSION] = THIS_VERSION;
+    all[ROOT..LENGTH].copy_from_slice(&words(&state.root));
+    all[LENGTH] = state.length;
     for i in 0..CHANNELS {
         let row = &state.rows[i];
         let phase = match row.phase {
@@ -184,7 +215,7 @@ pub fn words_of(state: &State) -> [u32; STATE_WORDS] {
             Phase::Calling => 1,
             Phase::Open => 2,
         };
-        all[9 + 4 * i..][..4].copy_from_slice(&[phase, row.id, row.peer, row.choked.into()]);
+        all[ROWS + 4 * i..][..4].copy_from_slice(&[phase, row.id, row.peer, row.choked.into()]);
     }
     all
 }

@@ -26,11 +26,10 @@ pub struct Composing {
 impl Composing {
     /// Keeps the length of what a call wrote into the reply room.
     pub fn keep(&mut self, call: &Call, told: &Told) {
-        let length = told.words[0] as usize;
         if call.composes() && told.number == 0 {
-            self.so_far = length;
-        } else if !matches!(call, Call::Ask) && length > 0 {
-            self.reply = length;
+            self.so_far = told.len;
+        } else if told.len > 0 {
+            self.reply = told.len;
         }
     }
 

@@ -3,12 +3,15 @@
 //! must be the same. What is wanted is what `second` gives. A difference panics
 //! with the datagram in hexadecimal and what both gave.
 
-use crate::proved::wire::{self as proved, ENTRY_WORDS, FOUND_WORDS, MESSAGE_WORDS};
+use crate::numbers::{self, numbers};
+use crate::proved::wire::{self as proved, ENTRY_WORDS, LAID_WORDS};
+use ppspp::calls::{self, Numbers};
 use second::wire::{self, Layout, Message, Options, Step};
 use second::{answer, hex};
 use std::fmt::Debug;
 
-const TOO_SMALL: u32 = answer::ROOM_TOO_SMALL as u32;
+/// The words of a message that was read.
+pub type Found = [u64; 7];
 
 /// Has both check the layout of a datagram, with such rooms for the entries and
 /// for what is found, and gives the number.
@@ -20,46 +23,46 @@ pub fn layout(datagram: &[u8], entries: &[u64], found: &[u64]) -> u32 {
     wanted.number
 }
 
-/// Has both read what stands at a place, with such a room for it; gives the
-/// place behind the message, if there is one.
-pub fn read(datagram: &[u8], at: usize, found: &[u64]) -> Option<usize> {
-    let mut out = found.to_vec();
-    let kind = proved::read(datagram, at, &mut out);
-    let (wanted_kind, wanted_out, next) = second_read(datagram, at, found);
-    compare(
-        "read",
-        || format!("{} at {at}", hex::encode(datagram)),
-        &(kind, out),
-        &(wanted_kind, wanted_out),
-    );
-    next
+/// Has both read what stands at a place, with such words before; gives 0 for its
+/// end, 1 for a message and 2 for what is refused, and the place behind a message.
+pub fn read(datagram: &[u8], at: usize, before: &Found) -> (u32, Option<usize>) {
+    let mut found = *before;
+    let step = calls::read(datagram, at, &mut found);
+    let (wanted, next) = match wire::step(datagram, at) {
+        Step::End => ((0, *before), None),
+        Step::Read { message, next } => {
+            let words = numbers::found(&message, datagram, next);
+            ((1, words), Some(next))
+        }
+        Step::Refused => ((2, *before), None),
+    };
+    let about = || format!("{} at {at}", hex::encode(datagram));
+    compare("read", about, &(step, found), &wanted);
+    (step, next)
 }
 
-/// Has both begin a datagram in such a room, for the length such words, and
-/// gives the number, the room and the length.
-pub fn begin(room: &[u8], destination: u32, length: &[u64]) -> Sent {
-    let mut got = Sent::before(room, length);
-    got.number = proved::begin(&mut got.room, destination, &mut got.length);
-    let wanted = second_sent(room, length, |room| wire::begin(room, destination));
+/// Has both begin a datagram in such a room.
+pub fn begin(room: &[u8], destination: u32) -> Sent {
+    let got = Sent::after(room, |room| calls::begin(room, destination));
+    let wanted = Sent::after_second(room, |room| wire::begin(room, destination));
     compare("begin", || format!("to {destination}"), &got, &wanted);
     wanted
 }
 
 /// Has both add a message to the datagram in the first `len` bytes of such a
-/// room, for the length such words, and gives the number, the room and the
-/// length.
-pub fn add(room: &[u8], len: usize, message: &Message, source: &[u8], length: &[u64]) -> Sent {
-    let mut got = Sent::before(room, length);
-    let fields = message_words(message);
-    got.number = proved::add(&mut got.room, len, &fields, source, &mut got.length);
-    let wanted = second_sent(room, length, |room| wire::add(room, len, message, source));
+/// room.
+pub fn add(room: &[u8], len: usize, message: &Message, source: &[u8]) -> Sent {
+    add_as(room, len, numbers(message, source), message, source)
+}
+
+/// The same, with the numbers in which the proved code is given the message.
+pub fn add_as(room: &[u8], len: usize, numbers: Numbers, message: &Message, source: &[u8]) -> Sent {
+    let got = Sent::after(room, |room| calls::add(room, len, numbers));
+    let wanted = Sent::after_second(room, |room| wire::add(room, len, message, source));
     let about = || {
         let so_far = hex::encode(&room[..len.min(room.len())]);
-        let source = hex::encode(source);
-        format!(
-            "{so_far} of {len} bytes in {}, {message:?} from {source}",
-            room.len()
-        )
+        let size = room.len();
+        format!("{so_far} of {len} bytes in {size}, {message:?} as {numbers:?}")
     };
     compare("add", about, &got, &wanted);
     wanted
@@ -84,27 +87,29 @@ impl Laid {
     }
 }
 
-/// What beginning and adding leave.
+/// What beginning and adding leave: the number, the datagram's length, 0 after a
+/// refusal, and the room.
 #[derive(Debug, PartialEq, Eq)]
 pub struct Sent {
     pub number: u32,
+    pub len: usize,
     pub room: Vec<u8>,
-    pub length: Vec<u64>,
 }
 
 impl Sent {
-    /// The rooms as they are before, with 0 for the number.
-    fn before(room: &[u8], length: &[u64]) -> Self {
-        Sent {
-            number: 0,
-            room: room.to_vec(),
-            length: length.to_vec(),
-        }
+    /// After a call of the proved code in such a room.
+    fn after(before: &[u8], call: impl FnOnce(&mut [u8]) -> calls::Answered) -> Self {
+        let mut room = before.to_vec();
+        let (number, len) = call(&mut room);
+        Sent { number, len, room }
     }
 
-    /// The length of the datagram that is now in the room.
-    pub fn datagram_len(&self) -> usize {
-        self.length[0] as usize
+    /// After one of `second`.
+    fn after_second(before: &[u8], call: impl FnOnce(&mut [u8]) -> Result<usize, u8>) -> Self {
+        Sent::after(before, |room| match call(room) {
+            Ok(len) => (0, len),
+            Err(number) => (number.into(), 0),
+        })
     }
 }
 
@@ -112,8 +117,8 @@ impl Sent {
 /// a value, so only here can their rooms be too small.
 fn second_layout(datagram: &[u8], entries: &[u64], found: &[u64]) -> Laid {
     let mut laid = Laid::before(entries, found);
-    if entries.len() < ENTRY_WORDS || found.len() < FOUND_WORDS {
-        laid.number = TOO_SMALL;
+    if entries.len() < ENTRY_WORDS || found.len() < LAID_WORDS {
+        laid.number = answer::ROOM_TOO_SMALL.into();
         return laid;
     }
     let mut nodes = Vec::new();
@@ -124,86 +129,22 @@ fn second_layout(datagram: &[u8], entries: &[u64], found: &[u64]) -> Laid {
         .collect();
     laid.entries[..words.len()].copy_from_slice(&words);
     match layout {
-        Ok(layout) => {
-            laid.found[..FOUND_WORDS].copy_from_slice(&layout_words(&layout, words.len()))
-        }
+        Ok(layout) => laid.found[..LAID_WORDS].copy_from_slice(&layout_words(&layout, words.len())),
         Err(number) => laid.number = number.into(),
     }
     laid
 }
 
-fn second_read(datagram: &[u8], at: usize, found: &[u64]) -> (u32, Vec<u64>, Option<usize>) {
-    let mut found = found.to_vec();
-    if found.len() < FOUND_WORDS {
-        return (TOO_SMALL, found, None);
-    }
-    match wire::step(datagram, at) {
-        Step::End => (0, found, None),
-        Step::Read { message, next } => {
-            found[..MESSAGE_WORDS].copy_from_slice(&message_words(&message));
-            found[MESSAGE_WORDS] = next as u64;
-            (1, found, Some(next))
-        }
-        Step::Refused => (2, found, None),
-    }
-}
-
-fn second_sent(
-    room: &[u8],
-    length: &[u64],
-    call: impl FnOnce(&mut [u8]) -> Result<usize, u8>,
-) -> Sent {
-    let mut sent = Sent::before(room, length);
-    let Some(first) = sent.length.first_mut() else {
-        sent.number = TOO_SMALL;
-        return sent;
-    };
-    match call(&mut sent.room) {
-        Ok(len) => *first = len as u64,
-        Err(number) => (*first, sent.number) = (0, number.into()),
-    }
-    sent
-}
-
-/// A message in the proved code's words.
-pub fn message_words(message: &Message) -> [u64; MESSAGE_WORDS] {
-    let range =
-        |kind: u64, first: u32, last: u32, third: u64| [kind, first.into(), last.into(), third, 0];
-    match *message {
-        Message::Handshake { source, options } => {
-            let [kind, root] = options_words(options);
-            [0, source.into(), kind, root, 0]
-        }
-        Message::Data {
-            chunk,
-            time,
-            start,
-            len,
-        } => [1, chunk.into(), time, start as u64, len as u64],
-        Message::Ack { first, last, delay } => range(2, first, last, delay),
-        Message::Have { first, last } => range(3, first, last, 0),
-        Message::Integrity { first, last, hash } => range(4, first, last, hash as u64),
-        Message::Request { first, last } => range(8, first, last, 0),
-        Message::Cancel { first, last } => range(9, first, last, 0),
-        Message::Choke => [10, 0, 0, 0, 0],
-        Message::Unchoke => [11, 0, 0, 0, 0],
-    }
-}
-
-fn options_words(options: Options) -> [u64; 2] {
-    match options {
-        Options::Fixed { root } => [1, root as u64],
-        Options::EndOnly => [2, 0],
-        Options::Other => [0, 0],
-    }
-}
-
 /// A layout in the proved code's words, with so many words of entries.
-fn layout_words(layout: &Layout, entries: usize) -> [u64; FOUND_WORDS] {
+fn layout_words(layout: &Layout, entries: usize) -> [u64; LAID_WORDS] {
     let entries = entries as u64;
     match *layout {
         Layout::HandshakeAlone { source, options } => {
-            let [kind, root] = options_words(options);
+            let (kind, root) = match options {
+                Options::Fixed { root } => (1, root as u64),
+                Options::EndOnly => (2, 0),
+                Options::Other => (0, 0),
+            };
             [1, source.into(), kind, root, 0, entries]
         }
         Layout::Messages => [2, 0, 0, 0, 0, entries],

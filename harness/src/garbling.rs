@@ -1,14 +1,14 @@
 //! Changes of a store's state and rooms that no call makes.
 
-use crate::channels::Both;
-use crate::proved::channel::Rooms;
+use crate::channels::{Both, LENGTH, ROOT, ROWS, VERSION};
 use crate::random::Random;
+use crate::rooms::Rooms;
 use second::channel::CHANNELS;
 
 /// Changes something in the state or in a room of a store of a pack of such a
 /// length.
 pub fn garble(random: &mut Random, store: &mut Both, length: u32) {
-    match random.below(13) {
+    match random.below(15) {
         0..4 => {
             let row = random.place(CHANNELS);
             garble_row(random, store, row);
@@ -17,29 +17,28 @@ pub fn garble(random: &mut Random, store: &mut Both, length: u32) {
         5 => {
             let other = 1 + random.below(2 * length);
             let length = random.one_of(&[0, 524_289, u32::MAX, other, other]);
-            store.change(|state, _| state[8] = length);
+            store.change(|state, _| state[LENGTH] = length);
         }
         6 => {
-            let at = random.place(8);
+            let at = ROOT + random.place(8);
             store.change(|state, _| state[at] ^= 1);
         }
         7 => {
             let (at, bit) = (random.place(64), 1 << random.below(8));
             store.change(|_, rooms| rooms.reply[at] ^= bit);
         }
+        8 | 9 => {
+            // Where it was another one, 1 brings the state back.
+            let version = random.one_of(&[0, 1, 1, 2, 3, 257, 1 << 24, u32::MAX]);
+            store.change(|state, _| state[VERSION] = version);
+        }
         room => {
-            let bit = 1 << random.below(32);
-            let rooms = store.rooms();
-            let lengths = [
-                rooms.map.len(),
-                rooms.hashes.len(),
-                rooms.trusted.len(),
-                rooms.has.len(),
-                rooms.wants.len(),
-            ];
-            let room = room as usize - 8;
-            let at = random.place(lengths[room]);
-            store.change(|_, rooms| word_rooms(rooms)[room][at] ^= bit);
+            let (at, bit) = (random.number() as usize, 1 << random.below(32));
+            store.change(|_, rooms| {
+                let words = &mut word_rooms(rooms)[room as usize - 10];
+                let at = at % words.len();
+                words[at] ^= bit;
+            });
         }
     }
 }
@@ -54,7 +53,7 @@ pub fn garble_row(random: &mut Random, store: &mut Both, row: usize) {
         random.one_of(&[0, 5, 6]),
         random.one_of(&[0, 1, 1, 2, 7]),
     ];
-    store.change(|state, _| state[9 + 4 * row..][..4].copy_from_slice(&words));
+    store.change(|state, _| state[ROWS + 4 * row..][..4].copy_from_slice(&words));
 }
 
 /// The rooms that have bits or hashes.

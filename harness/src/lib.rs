@@ -1,5 +1,6 @@
 //! The outside comparisons: the proved code, linked as static libraries, beside
-//! the independent implementation in `second`. The tests stand in `tests/`, the
+//! the independent implementation in `second`. The loader's calls go through
+//! `ppspp`, with the library's own numbers. The tests stand in `tests/`, the
 //! benchmarks in `src/bin/`.
 
 #![deny(unsafe_code)]
@@ -7,17 +8,21 @@
 pub mod arriving;
 pub mod bench;
 pub mod beside;
+pub mod by_hand;
 pub mod calls;
 pub mod came;
 pub mod channels;
 pub mod composing;
+pub mod counts;
 pub mod datagrams;
 pub mod garbling;
 pub mod lists;
+pub mod numbers;
 pub mod packets;
 pub mod packs;
 pub mod proved;
 pub mod random;
+pub mod rooms;
 pub mod runs;
 pub mod takes;
 pub mod words;

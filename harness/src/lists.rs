@@ -2,14 +2,15 @@
 
 use crate::arriving::{clock, Peer};
 use crate::calls::{Call, Told};
-use crate::channels::Both;
+use crate::channels::{Both, LENGTH, VERSION};
 use crate::composing::Composing;
 use crate::garbling::garble_row;
 use crate::packets::{datagram, fixed, handshake, sent_to};
 use crate::packs::Pack;
-use crate::proved::channel::{Rooms, STATE_WORDS};
 use crate::random::Random;
-use second::channel::{Phase, Sizes, CHANNELS};
+use crate::rooms::Rooms;
+use ppspp::sizes::STATE_WORDS;
+use second::channel::{Phase, CHANNELS};
 
 /// Lengths that no order has.
 const BAD_LENGTHS: [u32; 3] = [0, 524_289, u32::MAX];
@@ -23,16 +24,19 @@ pub struct List<'a> {
 }
 
 impl<'a> List<'a> {
-    /// A store without an order, or in one case of four with any state, in rooms
-    /// with anything in them.
+    /// A store without an order, or in one case of four with any state, mostly of
+    /// the right version, in rooms with anything in them.
     pub fn new(mut random: Random, pack: &'a Pack) -> Self {
-        let rooms = random_rooms(&mut random, pack.length());
+        let rooms = Rooms::random(&mut random, pack.length());
         let extra = random.place(3);
         let mut store = Both::new(vec![0; STATE_WORDS + extra], rooms);
         if random.one_in(4) {
             let words = random.words(STATE_WORDS + extra);
             store.change(|state, _| state.copy_from_slice(&words));
-            store.change(|state, _| state[8] = pack.length());
+            store.change(|state, _| state[LENGTH] = pack.length());
+            if !random.one_in(8) {
+                store.change(|state, _| state[VERSION] = 1);
+            }
             for i in 0..CHANNELS {
                 garble_row(&mut random, &mut store, i);
             }
@@ -202,37 +206,9 @@ impl<'a> List<'a> {
     }
 }
 
-/// Rooms with anything in them, each just large enough or a little larger.
-pub fn random_rooms(random: &mut Random, length: u32) -> Rooms {
-    let sizes = Sizes::of(length);
-    let mut more = |least: usize| match random.below(3) {
-        0 => least + 1 + random.place(20),
-        _ => least,
-    };
-    let [chunks, reply] = [sizes.chunks, sizes.reply].map(&mut more);
-    let words = [
-        sizes.map,
-        sizes.hashes,
-        sizes.trusted,
-        sizes.has,
-        sizes.wants,
-    ]
-    .map(&mut more);
-    let [map, hashes, trusted, has, wants] = words.map(|length| random.words(length));
-    Rooms {
-        chunks: random.bytes(chunks),
-        map,
-        hashes,
-        trusted,
-        has,
-        wants,
-        reply: random.bytes(reply),
-    }
-}
-
 /// A whole store of a pack, with a channel that a peer opened.
 pub fn sender<'a>(random: &mut Random, pack: &'a Pack) -> Peer<'a> {
-    let rooms = random_rooms(random, pack.length());
+    let rooms = Rooms::random(random, pack.length());
     let mut sender = Both::unstarted(rooms);
     let build = Call::Build {
         length: pack.length(),

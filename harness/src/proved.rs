@@ -1,7 +1,6 @@
 //! The proved SHA-256, through the C functions of `libhash_c.a`, in [`store`] the
-//! proved chunk store, in [`tree`] the numbers of its tree, in [`wire`] the proved
-//! reader and writer of datagrams, and in [`channel`] the proved entry points of
-//! the channels.
+//! proved chunk store, in [`tree`] the numbers of its tree, and in [`wire`] the
+//! proved layout checks of datagrams. The rest is called through `ppspp::calls`.
 //!
 //! A proof holds only where the caller ensures what the function requires, and
 //! nothing at this boundary proves that a caller does. So each wrapper tests it
@@ -9,7 +8,6 @@
 
 #![allow(unsafe_code)]
 
-pub mod channel;
 pub mod store;
 pub mod tree;
 pub mod wire;

@@ -3,12 +3,12 @@
 //! code. A failure names the seed, which makes the same calls again, and the
 //! call.
 
-use harness::calls::{Call, Told};
+use harness::calls::Call;
 use harness::channels::Both;
+use harness::counts::{count, demand, Counts};
 use harness::garbling::garble;
-use harness::lists::{random_rooms, List};
+use harness::lists::List;
 use harness::packs::{random_length, Pack};
-use harness::proved::channel::{self as proved, STATE_WORDS};
 use harness::random::Random;
 use second::channel::Sizes;
 use second::wire::MIN_SIZE;
@@ -19,12 +19,39 @@ const LISTS: u32 = 1_000;
 const CALLS: u32 = 190;
 const OFTEN: usize = 200;
 
+/// How often each number must come in a state of another version, and how often
+/// a chunk must be written, and it be asked, in words that no call writes.
+const IN_ODD_STATES: usize = 50;
+
 /// How many rooms there are, and which of them is the reply room.
 const ROOMS: usize = 7;
 const REPLY: usize = 6;
 
 /// The numbers of chunks of which there is a list in any case.
 const COUNTS: [u32; 6] = [1, 32, 33, 257, 511, 512];
+
+/// What beginning and adding can answer.
+const OF_COMPOSING: [(&str, &[usize]); 2] = [("begin", &[0, 11]), ("add", &[0, 1, 2, 3, 11])];
+
+/// What is answered where the state room is too short.
+const OF_SHORT: [(&str, &[usize]); 6] = [
+    ("start", &[11, 12]),
+    ("build", &[11, 12]),
+    ("open", &[11]),
+    ("take", &[11]),
+    ("write", &[11]),
+    ("ask", &[11]),
+];
+
+/// What is answered in a state of another version, the refused starts left out.
+const OF_VERSIONS: [(&str, &[usize]); 6] = [
+    ("start", &[0]),
+    ("build", &[0]),
+    ("open", &[12]),
+    ("take", &[12]),
+    ("write", &[12]),
+    ("ask", &[12]),
+];
 
 #[test]
 fn random_lists() {
@@ -44,14 +71,11 @@ fn random_lists() {
         let times = counts.of(number);
         assert!(times >= OFTEN, "{number} is rare: {times} times");
     }
-    for (call, numbers) in OF_COMPOSING {
-        for &number in numbers {
-            let times = counts.numbers[call][number];
-            let name = NAMES[call];
-            assert!(times >= OFTEN, "{name}: {number} is rare: {times} times");
-        }
-    }
+    demand("all", &counts.numbers, &OF_COMPOSING, OFTEN);
+    demand("too short", &counts.short, &OF_SHORT, OFTEN);
+    demand("versions", &counts.versions, &OF_VERSIONS, IN_ODD_STATES);
     let Counts {
+        uncanonical: [written, asked],
         opened,
         stored,
         again,
@@ -60,21 +84,9 @@ fn random_lists() {
         by_peer,
         ..
     } = counts;
+    assert!(written.min(asked) >= IN_ODD_STATES);
     assert!(opened.min(stored).min(again) >= OFTEN);
     assert!(own.min(chunks).min(by_peer) >= OFTEN);
-}
-
-#[test]
-fn a_root_of_another_length() {
-    let mut random = Random::new(0);
-    let before = random_rooms(&mut random, 7_162);
-    for size in [0, 7, 9, 16] {
-        let (mut state, mut rooms, mut out) = ([7; STATE_WORDS], before.clone(), [7]);
-        let root = vec![7; size];
-        let number = proved::start(&mut state, &mut rooms, &root, 7_162, &mut out);
-        assert_eq!((number, state, out), (11, [7; STATE_WORDS], [7]), "{size}");
-        assert!(rooms == before, "{size}: a room is changed");
-    }
 }
 
 /// One list of calls on a store of a pack.
@@ -94,18 +106,25 @@ fn run(seed: u32, mut random: Random, length: u32, counts: &mut Counts) {
         if list.random.one_in(10) {
             small_room(&mut list, &case, &call, counts);
         }
-        if list.random.one_in(20) {
-            few_words(&mut list.random, &list.store, &case, &call);
+        if call.starts() || list.random.one_in(20) {
+            short_state(&mut list.random, &list.store, &case, &call, counts);
         }
-        let held = list.held();
-        let own = is_in_reply_room(&list.store, &call);
-        let told = list.call(&case, &call);
-        counts.add(&call, told.number);
-        if !call.composes() {
-            counts.taken(&told, held != list.held(), own);
-        } else if let Some(take) = list.taken_by_peer(&told) {
-            peer_takes(&list, &case, &take, counts);
-        }
+        made(&mut list, &case, &call, counts);
+    }
+}
+
+/// The call itself.
+fn made(list: &mut List, case: &str, call: &Call, counts: &mut Counts) {
+    let held = list.held();
+    let own = is_in_reply_room(&list.store, call);
+    let (has_version, canonical) = (list.store.has_version(), list.store.is_canonical());
+    let told = list.call(case, call);
+    counts.add(call, told.number);
+    counts.add_state(call, told.number, has_version, canonical);
+    if !call.composes() {
+        counts.taken(&told, held != list.held(), own);
+    } else if let Some(take) = list.taken_by_peer(&told) {
+        peer_takes(list, case, &take, counts);
     }
 }
 
@@ -152,109 +171,17 @@ fn small_room(list: &mut List, case: &str, call: &Call, counts: &mut Counts) {
         _ => rooms.reply.truncate(shorter(least.reply)),
     });
     let case = format!("{case}, with room {room} smaller");
+    if list.random.one_in(4) {
+        short_state(&mut list.random, &store, &case, call, counts);
+    }
     counts.add(call, store.call(&case, call).number);
 }
 
-/// The same call with too few words for its results or, if it is lent one, for
-/// the state.
-fn few_words(random: &mut Random, store: &Both, case: &str, call: &Call) {
-    let results = call.results();
-    store.refused(case, call, STATE_WORDS, results - 1);
+/// The same call, if it is lent a state, with too few words of it.
+fn short_state(random: &mut Random, store: &Both, case: &str, call: &Call, counts: &mut Counts) {
     if !call.composes() {
-        let fewer = random.one_of(&[0, 1, 8, 9, 72]);
-        store.refused(case, call, fewer, results);
-        store.refused(case, call, fewer, 0);
-    }
-}
-
-/// The bytes of our HANDSHAKE and of an ACK as datagrams.
-const HANDSHAKE_SIZE: u64 = 60;
-const ACK_SIZE: u64 = 21;
-
-/// What the calls gave.
-#[derive(Default)]
-struct Counts {
-    /// How often each number, by the call.
-    numbers: [[usize; 15]; 8],
-    /// How often a channel was opened.
-    opened: usize,
-    /// How often a chunk was stored, and how often a held one came again.
-    stored: usize,
-    again: usize,
-    /// How many datagrams a store took in from its own reply room, how many of
-    /// them brought a chunk, and how many the peer's store took in from there.
-    own: usize,
-    chunks: usize,
-    by_peer: usize,
-}
-
-const NAMES: [&str; 8] = [
-    "start", "build", "open", "take", "write", "ask", "begin", "add",
-];
-const BEGIN: usize = 6;
-const ADD: usize = 7;
-
-/// What beginning and adding can answer.
-const OF_COMPOSING: [(usize, &[usize]); 2] = [(BEGIN, &[0, 11]), (ADD, &[0, 1, 2, 3, 11])];
-
-impl Counts {
-    fn add(&mut self, call: &Call, number: u32) {
-        let name = match call {
-            Call::Start { .. } => 0,
-            Call::Build { .. } => 1,
-            Call::Open { .. } => 2,
-            Call::Take { .. } => 3,
-            Call::Write { .. } => 4,
-            Call::Ask => 5,
-            Call::Begin { .. } => BEGIN,
-            Call::Add { .. } => ADD,
-        };
-        self.numbers[name][number as usize] += 1;
-    }
-
-    /// Counts a call by its reply, after which other chunks are held or not, and
-    /// which may have taken in a datagram from the store's own reply room.
-    fn taken(&mut self, told: &Told, more: bool, own: bool) {
-        if own && told.number == 0 {
-            self.own += 1;
-            self.chunks += usize::from(told.words == [ACK_SIZE]);
-        }
-        match told.words[..] {
-            [HANDSHAKE_SIZE] => self.opened += 1,
-            [ACK_SIZE] if more => self.stored += 1,
-            [ACK_SIZE] => self.again += 1,
-            _ => {}
-        }
-    }
-
-    /// How often a number was given by any call.
-    fn of(&self, number: usize) -> usize {
-        self.numbers.iter().map(|call| call[number]).sum()
-    }
-}
-
-impl std::fmt::Display for Counts {
-    fn fmt(&self, f: &mut std::fmt::Formatter) -> std::fmt::Result {
-        write!(f, "{:6}{:>8}", "", "calls")?;
-        for number in 0..15 {
-            write!(f, "{number:>7}")?;
-        }
-        for (name, numbers) in NAMES.iter().zip(&self.numbers) {
-            write!(f, "\n{name:6}{:>8}", numbers.iter().sum::<usize>())?;
-            for times in numbers {
-                write!(f, "{times:>7}")?;
-            }
-        }
-        let all: usize = self.numbers.iter().flatten().sum();
-        write!(f, "\n{:6}{all:>8}", "all")?;
-        for number in 0..15 {
-            write!(f, "{:>7}", self.of(number))?;
-        }
-        let (opened, stored, again) = (self.opened, self.stored, self.again);
-        write!(f, "\n{opened} channels opened, {stored} chunks stored, ")?;
-        writeln!(f, "{again} held ones taken again")?;
-        let (own, chunks, by_peer) = (self.own, self.chunks, self.by_peer);
-        write!(f, "{own} datagrams taken in from the own reply room, ")?;
-        write!(f, "{chunks} of them with a chunk; {by_peer} by the peer")
+        let words = random.one_of(&[0, 1, 8, 9, 10, 72, 73]);
+        let number = store.call_short(case, call, words);
+        count(&mut counts.short, call, number);
     }
 }

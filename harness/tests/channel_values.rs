@@ -5,10 +5,10 @@
 use harness::calls::{Call, Told};
 use harness::came::leave_least;
 use harness::channels::Both;
-use harness::lists::random_rooms;
 use harness::packets::*;
 use harness::packs::Pack;
 use harness::random::Random;
+use harness::rooms::Rooms;
 use second::channel::Phase;
 use second::sha256::Digest;
 use second::{answer, hex};
@@ -22,7 +22,7 @@ struct Caller(Both);
 impl Caller {
     /// Without an order, in rooms with anything in them.
     fn new(random: &mut Random, length: u32) -> Self {
-        Caller(Both::unstarted(random_rooms(random, length)))
+        Caller(Both::unstarted(Rooms::random(random, length)))
     }
 
     /// With an order, and nothing else.
@@ -66,9 +66,9 @@ impl Caller {
     }
 
     /// The number, the held count and whether all are held.
-    fn ask(&mut self) -> (u32, u64, u64) {
-        let Told { number, words } = self.0.call("asked by hand", &Call::Ask);
-        (number, words[0], words[1])
+    fn ask(&mut self) -> (u32, u32, u32) {
+        let Told { number, held, .. } = self.0.call("asked by hand", &Call::Ask);
+        (number, held[0], held[1])
     }
 
     /// The place of the row that is in use under an ID.
@@ -126,8 +126,7 @@ impl<'a> Download<'a> {
 
     /// All of the pack is there, and nothing else.
     fn check_whole(&mut self) {
-        let count = u64::from(self.pack.count());
-        assert_eq!(self.store.ask(), (0, count, 1));
+        assert_eq!(self.store.ask(), (0, self.pack.count(), 1));
         let chunks = &self.store.0.rooms().chunks;
         assert!(chunks.starts_with(&self.pack.content));
     }
@@ -143,7 +142,7 @@ fn seven_chunks_in_order() {
     let (number, first) = download.whole.write(ITS, 0, 0);
     assert_eq!((number, first.len()), (0, 1_250));
     for (chunk, wanted) in (0..).zip([5, 0, 1, 0, 1, 0, 0]) {
-        assert_eq!(download.store.ask(), (0, u64::from(chunk), 0));
+        assert_eq!(download.store.ask(), (0, chunk, 0));
         assert_eq!(download.chunk(chunk, true), wanted, "chunk {chunk}");
     }
     download.check_whole();

@@ -4,7 +4,7 @@
 
 use harness::packets::{datagram, ranged, INTEGRITY};
 use harness::proved::tree as proved;
-use harness::proved::wire::{layout, ENTRY_WORDS, FOUND_WORDS};
+use harness::proved::wire::{layout, ENTRY_WORDS, LAID_WORDS};
 use harness::random::Random;
 use second::tree;
 
@@ -87,7 +87,7 @@ fn ranges() {
     let (mut nodes, mut others) = (0, 0);
     for (first, last) in near.chain(FAR_RANGES).chain(any) {
         let message = [ranged(INTEGRITY, first, last), vec![7; 32]].concat();
-        let (mut entries, mut found) = ([0; ENTRY_WORDS], [0; FOUND_WORDS]);
+        let (mut entries, mut found) = ([0; ENTRY_WORDS], [0; LAID_WORDS]);
         let number = layout(&datagram(5, &[message]), &mut entries, &mut found);
         let wanted = match tree::node_of_range(first, last) {
             Some(node) => (0, node),

@@ -1,98 +1,10 @@
-//! Adding to datagrams: cases made by hand, mostly 121 to 124 of the list of
-//! traps. The numbers and the bytes are worked out on paper from 01, "Adding a
+//! Adding to datagrams: cases made by hand, mostly 121, 122 and 124 of the list
+//! of traps. The numbers and the bytes are worked out on paper from 01, "Adding a
 //! message" and "Numbers given back"; no program gave them.
 
-use harness::datagrams::message_words;
-use harness::proved::wire as proved;
-use second::by_hand::parse;
+use harness::by_hand::*;
+use ppspp::calls::begin;
 use second::wire::{Message, Options};
-
-/// What stands in a room behind the datagram.
-const BEHIND: u8 = 0xc5;
-
-/// Hashes, chunks and roots are taken from the bytes 0, 1, 2 and so on.
-fn source() -> Vec<u8> {
-    (0..=255).cycle().take(3_000).collect()
-}
-
-/// The bytes that hexadecimal digits name, in groups, `xx*N` for N times xx.
-fn bytes(text: &str) -> Vec<u8> {
-    let line = format!("0 {text} # by hand");
-    parse(&line).expect(text).remove(0).datagram
-}
-
-/// A room of a size that begins with these bytes.
-fn room(size: usize, so_far: &[u8]) -> Vec<u8> {
-    let mut room = so_far.to_vec();
-    room.resize(size, BEHIND);
-    room
-}
-
-/// Adds a message to these bytes in a room of 2,048: it must be taken, and
-/// then these bytes stand behind them, and nothing else has changed.
-fn taken(so_far: &str, message: Message, added: &str) {
-    for size in [2_048, 2_049, 3_000] {
-        let before = bytes(so_far);
-        let after = [before.clone(), bytes(added)].concat();
-        let (mut got, mut length) = (room(size, &before), [7, 7]);
-        let fields = message_words(&message);
-        let number = proved::add(&mut got, before.len(), &fields, &source(), &mut length);
-        let wanted = [after.len() as u64, 7];
-        assert_eq!((number, length), (0, wanted), "{so_far}, {message:?}");
-        assert_eq!(got, room(size, &after), "{so_far}, {message:?}");
-    }
-}
-
-/// The same for a message that must be refused with a number: every byte stays.
-fn refused(so_far: &str, message: Message, wanted: u32) {
-    let before = bytes(so_far);
-    refused_in(2_048, before.len(), so_far, message, wanted);
-    refused_in(3_000, before.len(), so_far, message, wanted);
-}
-
-/// The same with a size of the room and the length that the call is told.
-fn refused_in(size: usize, len: usize, so_far: &str, message: Message, wanted: u32) {
-    let before = room(size, &bytes(so_far));
-    let (mut got, mut length) = (before.clone(), [7, 7]);
-    let fields = message_words(&message);
-    let number = proved::add(&mut got, len, &fields, &source(), &mut length);
-    assert_eq!((number, length), (wanted, [0, 7]), "{so_far}, {message:?}");
-    assert_eq!(got, before, "{so_far}, {message:?}");
-}
-
-const CHOKE: Message = Message::Choke;
-
-fn have(first: u32, last: u32) -> Message {
-    Message::Have { first, last }
-}
-
-fn integrity(first: u32, last: u32, hash: usize) -> Message {
-    Message::Integrity { first, last, hash }
-}
-
-/// DATA of the first bytes of the source.
-fn data(chunk: u32, len: usize) -> Message {
-    Message::Data {
-        chunk,
-        time: 0x2a,
-        start: 0,
-        len,
-    }
-}
-
-fn handshake(source: u32, options: Options) -> Message {
-    Message::Handshake { source, options }
-}
-
-const FIXED: Options = Options::Fixed { root: 1 };
-/// The 32 bytes of the source from place 1 on.
-const ROOT: &str = "0102030405060708090a0b0c0d0e0f101112131415161718191a1b1c1d1e1f20";
-
-/// Datagrams that end in DATA, that are a HANDSHAKE, and that are refused.
-const WITH_DATA: &str = "00000005 01 00000003 00000003 000000000000002a 61";
-const WITH_HANDSHAKE: &str = "00000005 00 00000011 ff";
-const REFUSED_TYPE: &str = "00000005 0a 07";
-const HANDSHAKE_BEHIND: &str = "00000005 0a 00 00000011 ff";
 
 #[test]
 fn each_message_is_written_as_the_table_says() {
@@ -222,99 +134,17 @@ fn bad_messages() {
     taken(&with_node, integrity(4, 7, 1), &added);
 }
 
-/// A message whose bytes do not all lie in the source, of 3,000 bytes, or with
-/// options that 01 has no words for writing.
-#[test]
-fn messages_that_cannot_be_written() {
-    for hash in [2_969, 3_000, usize::MAX - 31, usize::MAX] {
-        refused("00000005", integrity(0, 0, hash), 2);
-        let options = Options::Fixed { root: hash };
-        refused("00000005", handshake(5, options), 2);
-        refused(WITH_HANDSHAKE, integrity(0, 0, hash), 2);
-    }
-    let (chunk, time) = (3, 0);
-    for (start, len) in [
-        (2_999, 2),
-        (3_000, 1),
-        (3_001, 0),
-        (usize::MAX, 1),
-        (1, usize::MAX),
-    ] {
-        let chunk = Message::Data {
-            chunk,
-            time,
-            start,
-            len,
-        };
-        refused("00000005", chunk, 2);
-    }
-    refused("00000005", handshake(5, Options::Other), 2);
-    let last =
-        "04 00000000 00000000 98999a9b9c9d9e9fa0a1a2a3a4a5a6a7a8a9aaabacadaeafb0b1b2b3b4b5b6b7";
-    taken("00000005", integrity(0, 0, 2_968), last);
-}
-
-/// 123: a datagram so far that is itself refused gives its number, whatever is
-/// to be added.
-#[test]
-fn onto_a_refused_datagram() {
-    let messages = [
-        CHOKE,
-        have(5, 4),
-        integrity(0, 0, 5_000),
-        data(3, 2_500),
-        handshake(0, FIXED),
-        handshake(0, Options::Other),
-    ];
-    for message in messages {
-        for short in ["", "00", "000000"] {
-            refused(short, message, 1);
-        }
-        refused(REFUSED_TYPE, message, 2);
-        refused("00000005 03 00000005 00000004", message, 2);
-        refused("00000005 01 00000003 00000003 000000000000", message, 2);
-        refused(HANDSHAKE_BEHIND, message, 3);
-        refused("00000000 00 00000000 ff", message, 3);
-        refused("00000005 00 00000011 ff 0a", message, 3);
-        for len in [2_049, 2_060, 3_000, 3_001, usize::MAX] {
-            refused_in(3_000, len, "00000005", message, 1);
-        }
-        refused_in(2_048, 2_049, "00000005", message, 1);
-    }
-}
-
-/// 124, and 11 before all else: a room under 2,048 bytes.
-#[test]
-fn rooms_too_small() {
-    for so_far in [
-        "00000005",
-        WITH_DATA,
-        REFUSED_TYPE,
-        HANDSHAKE_BEHIND,
-        "000000",
-    ] {
-        for size in [100, 2_047] {
-            for message in [CHOKE, have(5, 4), handshake(0, FIXED), data(3, 2_500)] {
-                refused_in(size, bytes(so_far).len(), so_far, message, 11);
-                refused_in(size, usize::MAX, so_far, message, 11);
-            }
-        }
-    }
-}
-
 /// 124: beginning writes the destination, big-endian, and nothing else.
 #[test]
 fn beginning() {
     for size in [2_048, 3_000] {
-        let (mut got, mut length) = (room(size, &[]), [7, 7]);
-        assert_eq!(proved::begin(&mut got, 0x0102_0304, &mut length), 0);
-        assert_eq!(length, [4, 7]);
+        let mut got = room(size, &[]);
+        assert_eq!(begin(&mut got, 0x0102_0304), (0, 4));
         assert_eq!(got, room(size, &bytes("01020304")));
     }
     for size in [0, 4, 2_047] {
-        let (mut got, mut length) = (room(size, &[]), [7, 7]);
-        assert_eq!(proved::begin(&mut got, 0x0102_0304, &mut length), 11);
-        assert_eq!(length, [0, 7]);
+        let mut got = room(size, &[]);
+        assert_eq!(begin(&mut got, 0x0102_0304), (11, 0));
         assert_eq!(got, room(size, &[]));
     }
 }

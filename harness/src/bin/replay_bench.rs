@@ -1,22 +1,23 @@
 //! How fast the proved replay program is, beside `second`'s: lines that are
-//! refused at layout, and lines whose chunks are taken. Both are programs that
-//! read a file and write to nowhere, so that the start of a process counts too.
+//! refused at layout, and lines whose chunks are taken. Both are processes of
+//! their own that read a file and write to nowhere, so that they are measured as
+//! they are used, and the start of a process counts too.
 //!
 //! They get each input in turn, for some seconds, and the best time of each
-//! counts. The numbers are printed; none decides anything.
+//! counts. The table is printed; no number decides anything.
 
-use harness::bench::{print_table, run, Job};
+use harness::bench::{self, timed, Job, Unit, NAMES};
 use second::bulk::{self, Kind};
 use std::fs::File;
 use std::io::{self, BufWriter};
 use std::path::{Path, PathBuf};
 use std::process::{Command, ExitCode, Stdio};
-use std::time::{Duration, Instant};
+use std::time::Duration;
 
 /// The bytes of an input, at least.
-const BYTES: u64 = 100_000_000;
+const BYTES: usize = 100_000_000;
 
-/// How long the whole run takes.
+/// How long it takes.
 const RUN: Duration = Duration::from_secs(20);
 
 const USAGE: &str = "usage: replay_bench REPLAY SECOND DIRECTORY
@@ -40,36 +41,33 @@ fn main() -> ExitCode {
 }
 
 fn measure(replay: &Path, second: &Path, directory: &Path) -> io::Result<()> {
-    let refused = input(Kind::Layout, &directory.join("layout.hex"))?;
-    let taken = input(Kind::Taken, &directory.join("taken.hex"))?;
-    let megabytes = BYTES / 1_000_000;
-    let job = |what: &str, file: PathBuf| {
+    let job = |what: &str, kind: Kind, file: &str| {
+        let file = input(kind, directory.join(file))?;
         let same = file.clone();
-        Job::new(
-            format!("{megabytes} MB of hex, {what}"),
+        io::Result::Ok(Job::new(
+            what,
+            Unit::Megabytes(BYTES),
             move || time(Command::new(replay), &file),
             move || time(with_argument(second), &same),
-        )
+        ))
     };
-    let mut jobs = [
-        job("refused at layout", refused),
-        job("chunks taken", taken),
+    let jobs = vec![
+        job(
+            "lines of 4,112 digits, refused at layout",
+            Kind::Layout,
+            "layout.hex",
+        )?,
+        job("lines whose chunks are taken", Kind::Taken, "taken.hex")?,
     ];
-    run(&mut jobs, RUN);
-    print_table(&jobs);
-    println!();
-    for job in &jobs {
-        // Bytes a microsecond are megabytes a second.
-        let [proved, second] = job.microseconds().map(|time| BYTES as f64 / time);
-        println!("{:44}{proved:>7.0} and {second:.0} MB/s", job.name());
-    }
+    let caption = "The replay programs, processes of their own, on files of 100 MB";
+    bench::measure(caption, &NAMES, jobs, RUN);
     Ok(())
 }
 
 /// Writes an input to a file, and gives its path.
-fn input(kind: Kind, file: &Path) -> io::Result<PathBuf> {
-    bulk::write(kind, BYTES, BufWriter::new(File::create(file)?))?;
-    Ok(file.to_path_buf())
+fn input(kind: Kind, file: PathBuf) -> io::Result<PathBuf> {
+    bulk::write(kind, BYTES as u64, BufWriter::new(File::create(&file)?))?;
+    Ok(file)
 }
 
 /// `second` has several commands.
@@ -83,9 +81,11 @@ fn with_argument(second: &Path) -> Command {
 fn time(mut command: Command, file: &Path) -> Duration {
     let input = File::open(file).expect("the input was written");
     command.stdin(input).stdout(Stdio::null());
-    let began = Instant::now();
-    let status = command.status().expect("the program can be run");
-    let time = began.elapsed();
-    assert!(status.success(), "{status}");
+    let mut status = None;
+    let time = timed(|| status = command.status().ok());
+    assert!(
+        status.is_some_and(|status| status.success()),
+        "{command:?} cannot be run, or fails"
+    );
     time
 }

@@ -1,62 +1,58 @@
-//! How fast the proved reader and writer of datagrams are, beside `second`'s:
-//! the layout checks of four datagrams, and ten messages added to a datagram.
+//! How fast the proved reader and writer of datagrams are, beside `second`'s: the
+//! layout checks of four datagrams, and ten messages added to a datagram.
 //!
-//! One process gives each job to both in turn, for some seconds, and the best
-//! time of each counts. A run does its work a thousand times. The numbers are
-//! printed; none decides anything.
+//! One process gives each job to all in turn, for some seconds, and the best time
+//! of each counts. The table is printed; no number decides anything.
 
-use harness::bench::{print_table, run, Job};
-use harness::datagrams::message_words;
-use harness::proved::wire::{self as proved, ENTRY_WORDS, FOUND_WORDS, MESSAGE_WORDS};
+use harness::bench::{measure, timed, Job, Unit, NAMES};
+use harness::numbers::numbers;
+use harness::proved::wire::{self as proved, ENTRY_WORDS, LAID_WORDS};
+use ppspp::calls;
 use second::wire::{self, Layout, Message, MAX_SIZE};
 use std::hint::black_box;
-use std::time::{Duration, Instant};
+use std::time::Duration;
 
 /// How often a run does its work.
-const TIMES: u32 = 1_000;
+const TIMES: usize = 1_000;
 
-/// How long the whole run takes.
+/// How long it takes.
 const RUN: Duration = Duration::from_secs(6);
 
 fn main() {
-    let mut jobs = [
+    let jobs = vec![
         layout_job("2,044 one-byte messages", &[Message::Choke; 2_044]),
         layout_job("49 INTEGRITY", &integrity(49)),
         layout_job("9 INTEGRITY and DATA of 1,024 bytes", &chunk_messages()),
         layout_job("one HAVE", &[Message::Have { first: 5, last: 10 }]),
         add_job(ten_messages()),
     ];
-    run(&mut jobs, RUN);
-    println!("a time is that of {TIMES} times the work");
-    print_table(&jobs);
+    measure("Datagrams", &NAMES, jobs, RUN);
 }
 
 /// Runs the work, and gives the time that all of it took.
-fn timed(mut work: impl FnMut()) -> Duration {
-    let start = Instant::now();
-    for _ in 0..TIMES {
-        work();
-    }
-    start.elapsed()
+fn repeated(mut work: impl FnMut()) -> Duration {
+    timed(|| {
+        for _ in 0..TIMES {
+            work();
+        }
+    })
 }
 
 /// The bytes that hashes and chunks are taken from.
-const SOURCE: [u8; 1_024] = [7; 1_024];
+static SOURCE: [u8; 1_024] = [7; 1_024];
 
 /// The layout checks over the datagram of these messages.
 fn layout_job(name: &str, messages: &[Message]) -> Job<'static> {
     let datagram = written(messages);
-    let wanted = wire::layout(&datagram, &mut Vec::new());
-    assert!(wanted.is_ok(), "{name}");
-    let kind = match wanted {
+    let kind = match wire::layout(&datagram, &mut Vec::new()) {
         Ok(Layout::MessagesAndData { .. }) => 3,
-        _ => 2,
+        Ok(_) => 2,
+        Err(number) => panic!("{name}: second refuses it with {number}"),
     };
-    let name = format!("layout, {name}");
     let for_second = datagram.clone();
     let proved = move || {
-        let (mut entries, mut found) = ([1; ENTRY_WORDS], [1; FOUND_WORDS]);
-        let time = timed(|| {
+        let (mut entries, mut found) = ([1; ENTRY_WORDS], [1; LAID_WORDS]);
+        let time = repeated(|| {
             let number = proved::layout(black_box(&datagram), &mut entries, &mut found);
             black_box((number, &entries, &found));
         });
@@ -65,34 +61,35 @@ fn layout_job(name: &str, messages: &[Message]) -> Job<'static> {
     };
     let second = move || {
         let mut nodes = Vec::with_capacity(ENTRY_WORDS / 2);
-        timed(|| {
+        repeated(|| {
             let layout = wire::layout(black_box(&for_second), &mut nodes);
             black_box((layout.is_ok(), &layout, &nodes));
         })
     };
-    Job::new(name, proved, second)
+    let name = format!("the layout of {name}");
+    Job::new(name, Unit::Nanoseconds(TIMES), proved, second)
 }
 
 /// A datagram begun and the messages added to it.
 fn add_job(messages: [Message; 10]) -> Job<'static> {
     let wanted = written(&messages);
     let for_second = wanted.clone();
-    let words: [[u64; MESSAGE_WORDS]; 10] = messages.each_ref().map(message_words);
+    let in_numbers = messages.each_ref().map(|message| numbers(message, &SOURCE));
     let proved = move || {
-        let (mut room, mut length) = ([1; MAX_SIZE], [1]);
-        let time = timed(|| {
-            proved::begin(&mut room, black_box(5), &mut length);
-            for fields in black_box(&words) {
-                proved::add(&mut room, length[0] as usize, fields, &SOURCE, &mut length);
+        let (mut room, mut len) = ([1; MAX_SIZE], 0);
+        let time = repeated(|| {
+            (_, len) = calls::begin(&mut room, black_box(5));
+            for message in black_box(&in_numbers) {
+                (_, len) = calls::add(&mut room, len, *message);
             }
-            black_box((&room, &length));
+            black_box((&room, &len));
         });
-        assert_eq!(&room[..length[0] as usize], wanted);
+        assert_eq!(&room[..len], wanted);
         time
     };
     let second = move || {
         let (mut room, mut len) = ([1; MAX_SIZE], 0);
-        let time = timed(|| {
+        let time = repeated(|| {
             len = wire::begin(&mut room, black_box(5)).unwrap_or(0);
             for message in black_box(&messages) {
                 len = wire::add(&mut room, len, message, &SOURCE).unwrap_or(0);
@@ -102,7 +99,8 @@ fn add_job(messages: [Message; 10]) -> Job<'static> {
         assert_eq!(&room[..len], for_second);
         time
     };
-    Job::new("begin and add, 10 messages".to_string(), proved, second)
+    let name = "a datagram begun and 10 messages added";
+    Job::new(name, Unit::Nanoseconds(TIMES), proved, second)
 }
 
 /// The datagram of these messages.

@@ -1,13 +1,8 @@
-//! The proved reader and writer of datagrams, through the C functions of
-//! `libwire_c.a`.
-//!
-//! These require nothing: any bytes, rooms and numbers get an answer.
+//! The proved layout checks of datagrams, through the C function of
+//! `libwire_c.a`. It requires nothing: any bytes and rooms get an answer.
 
-/// The words of a message: its type, and four for its fields.
-pub const MESSAGE_WORDS: usize = 5;
-
-/// The words that `layout` and `read` write.
-pub const FOUND_WORDS: usize = 6;
+/// The words that `layout` writes of what it finds.
+pub const LAID_WORDS: usize = 6;
 
 /// The words of the room for entries, at least.
 pub const ENTRY_WORDS: usize = 98;
@@ -18,34 +13,6 @@ unsafe extern "C" {
         datagram_n: usize,
         entries: *mut u64,
         entries_n: usize,
-        out: *mut u64,
-        out_n: usize,
-    ) -> u32;
-
-    fn wire_read(
-        datagram: *const u8,
-        datagram_n: usize,
-        at: usize,
-        out: *mut u64,
-        out_n: usize,
-    ) -> u32;
-
-    fn wire_begin(
-        room: *mut u8,
-        room_n: usize,
-        destination: u32,
-        out: *mut u64,
-        out_n: usize,
-    ) -> u32;
-
-    fn wire_add(
-        room: *mut u8,
-        room_n: usize,
-        len: usize,
-        fields: *const u64,
-        fields_n: usize,
-        bytes: *const u8,
-        bytes_n: usize,
         out: *mut u64,
         out_n: usize,
     ) -> u32;
@@ -65,57 +32,6 @@ pub fn layout(datagram: &[u8], entries: &mut [u64], out: &mut [u64]) -> u32 {
             datagram.len(),
             entries.as_mut_ptr(),
             entries.len(),
-            out.as_mut_ptr(),
-            out.len(),
-        )
-    }
-}
-
-/// What stands at a place of a datagram: 0 for its end, 1 for a message, 2 for
-/// what is refused. Of a message, `out` gets its words and the place behind it.
-#[inline]
-pub fn read(datagram: &[u8], at: usize, out: &mut [u64]) -> u32 {
-    // SAFETY: as in `layout`.
-    unsafe {
-        wire_read(
-            datagram.as_ptr(),
-            datagram.len(),
-            at,
-            out.as_mut_ptr(),
-            out.len(),
-        )
-    }
-}
-
-/// Begins a datagram; `out` gets its length, 0 after a refusal.
-#[inline]
-pub fn begin(room: &mut [u8], destination: u32, out: &mut [u64]) -> u32 {
-    // SAFETY: as in `layout`.
-    unsafe {
-        wire_begin(
-            room.as_mut_ptr(),
-            room.len(),
-            destination,
-            out.as_mut_ptr(),
-            out.len(),
-        )
-    }
-}
-
-/// Adds the message of these words to the datagram in the first `len` bytes of
-/// the room; `out` gets the datagram's length, 0 after a refusal.
-#[inline]
-pub fn add(room: &mut [u8], len: usize, fields: &[u64], bytes: &[u8], out: &mut [u64]) -> u32 {
-    // SAFETY: as in `layout`.
-    unsafe {
-        wire_add(
-            room.as_mut_ptr(),
-            room.len(),
-            len,
-            fields.as_ptr(),
-            fields.len(),
-            bytes.as_ptr(),
-            bytes.len(),
             out.as_mut_ptr(),
             out.len(),
         )

@@ -1,0 +1,147 @@
+//! How often the calls of random lists gave what.
+
+use crate::calls::{Call, Told};
+use std::fmt;
+
+/// The names of the calls.
+pub const NAMES: [&str; 8] = [
+    "start", "build", "open", "take", "write", "ask", "begin", "add",
+];
+
+/// The place of a call in [`NAMES`].
+fn place(call: &Call) -> usize {
+    match call {
+        Call::Start { .. } => 0,
+        Call::Build { .. } => 1,
+        Call::Open { .. } => 2,
+        Call::Take { .. } => 3,
+        Call::Write { .. } => 4,
+        Call::Ask => 5,
+        Call::Begin { .. } => 6,
+        Call::Add { .. } => 7,
+    }
+}
+
+/// The bytes of our HANDSHAKE and of an ACK as datagrams.
+const HANDSHAKE_SIZE: usize = 60;
+const ACK_SIZE: usize = 21;
+
+/// How often each number, by the call.
+pub type Numbers = [[usize; 15]; 8];
+
+/// What the calls gave.
+#[derive(Default)]
+pub struct Counts {
+    /// In rooms of any size but for the state's.
+    pub numbers: Numbers,
+    /// Where the state room was too short.
+    pub short: Numbers,
+    /// Where the state was of another version.
+    pub versions: Numbers,
+    /// How often a chunk was written, and how often it was asked, in a state of
+    /// words that no call writes.
+    pub uncanonical: [usize; 2],
+    /// How often a channel was opened.
+    pub opened: usize,
+    /// How often a chunk was stored, and how often a held one came again.
+    pub stored: usize,
+    pub again: usize,
+    /// How many datagrams a store took in from its own reply room, how many of
+    /// them brought a chunk, and how many the peer's store took in from there.
+    pub own: usize,
+    pub chunks: usize,
+    pub by_peer: usize,
+}
+
+/// Counts a call by its number.
+pub fn count(numbers: &mut Numbers, call: &Call, number: u32) {
+    numbers[place(call)][number as usize] += 1;
+}
+
+impl Counts {
+    /// Counts a call that was made.
+    pub fn add(&mut self, call: &Call, number: u32) {
+        count(&mut self.numbers, call, number);
+    }
+
+    /// Counts a call that was made in a state of another version, or in one of
+    /// words that no call writes.
+    pub fn add_state(&mut self, call: &Call, number: u32, has_version: bool, canonical: bool) {
+        if !has_version {
+            count(&mut self.versions, call, number);
+        } else if !canonical && number == 0 {
+            match call {
+                Call::Write { .. } => self.uncanonical[0] += 1,
+                Call::Ask => self.uncanonical[1] += 1,
+                _ => {}
+            }
+        }
+    }
+
+    /// Counts a call by its reply, after which other chunks are held or not, and
+    /// which may have taken in a datagram from the store's own reply room.
+    pub fn taken(&mut self, told: &Told, more: bool, own: bool) {
+        if own && told.number == 0 {
+            self.own += 1;
+            self.chunks += usize::from(told.len == ACK_SIZE);
+        }
+        match told.len {
+            HANDSHAKE_SIZE => self.opened += 1,
+            ACK_SIZE if more => self.stored += 1,
+            ACK_SIZE => self.again += 1,
+            _ => {}
+        }
+    }
+
+    /// How often a number was given by any call.
+    pub fn of(&self, number: usize) -> usize {
+        self.numbers.iter().map(|call| call[number]).sum()
+    }
+}
+
+/// Panics where a call gave one of these numbers less often than so many times.
+pub fn demand(what: &str, numbers: &Numbers, wanted: &[(&str, &[usize])], often: usize) {
+    for (name, of_call) in wanted {
+        let call = NAMES.iter().position(|known| known == name);
+        let given = numbers[call.expect("the name of a call")];
+        for &number in *of_call {
+            let times = given[number];
+            assert!(
+                times >= often,
+                "{what}, {name}: {number} is rare: {times} times"
+            );
+        }
+    }
+}
+
+impl fmt::Display for Counts {
+    fn fmt(&self, f: &mut fmt::Formatter) -> fmt::Result {
+        table(f, "all", &self.numbers)?;
+        table(f, "the state room too short", &self.short)?;
+        table(f, "a state of another version", &self.versions)?;
+        let [written, asked] = self.uncanonical;
+        write!(f, "{written} chunks written, {asked} times asked, ")?;
+        writeln!(f, "in a state of words that no call writes")?;
+        let (opened, stored, again) = (self.opened, self.stored, self.again);
+        write!(f, "{opened} channels opened, {stored} chunks stored, ")?;
+        writeln!(f, "{again} held ones taken again")?;
+        let (own, chunks, by_peer) = (self.own, self.chunks, self.by_peer);
+        write!(f, "{own} datagrams taken in from the own reply room, ")?;
+        write!(f, "{chunks} of them with a chunk; {by_peer} by the peer")
+    }
+}
+
+/// A row for each call: how often it was made, and how often it gave each number.
+fn table(f: &mut fmt::Formatter, what: &str, numbers: &Numbers) -> fmt::Result {
+    let row = |f: &mut fmt::Formatter, name: &str, times: &[usize; 15]| {
+        write!(f, "{name:6}{:>8}", times.iter().sum::<usize>())?;
+        times.iter().try_for_each(|times| write!(f, "{times:>7}"))?;
+        writeln!(f)
+    };
+    writeln!(f, "{what}: calls, and the numbers 0 to 14")?;
+    for (name, times) in NAMES.iter().zip(numbers) {
+        row(f, name, times)?;
+    }
+    let all = std::array::from_fn(|i| numbers.iter().map(|call| call[i]).sum());
+    row(f, "all", &all)
+}

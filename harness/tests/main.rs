@@ -1,0 +1,13 @@
+//! The comparisons. What is wanted comes from the independent second program, or
+//! is worked out by hand from the papers.
+
+mod channel;
+mod channel_values;
+mod sha256;
+mod state_room;
+mod store;
+mod tree;
+mod wire;
+mod wire_adding;
+mod wire_by_hand;
+mod wire_by_hand_refused;
