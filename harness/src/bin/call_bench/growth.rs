@@ -1,6 +1,6 @@
 //! How the cost of the calls grows with the number of chunks.
 
-use crate::jobs::{any_order, ask, build, take, write, written, Ready, Told};
+use crate::jobs::{any_order, ask, build, take, write, written, Ready, Task};
 use harness::bench::{self, Job, Unit, NAMES};
 use harness::packs::Pack;
 use harness::random::Random;
@@ -45,7 +45,7 @@ impl OfCount {
     /// A job for each call, its time divided by the chunks.
     fn jobs(&self) -> [Job<'_>; 4] {
         let count = self.order.len();
-        let told = |call: &str, times: usize| Told {
+        let task = |call: &str, times: usize| Task {
             name: format!("{call}, N = {count}"),
             unit: Unit::Microseconds(times * count),
             times,
@@ -53,14 +53,14 @@ impl OfCount {
         let again = BUILT / count;
         let stores = (TAKEN / count).max(1);
         [
-            build(told("build", again), &self.whole, &self.pack),
+            build(task("build", again), &self.whole, &self.pack),
             take(
-                told("take in all chunks", stores),
+                task("take in all chunks", stores),
                 &self.fresh,
                 &self.datagrams,
             ),
-            write(told("write all chunks", again), &self.whole, &self.order),
-            ask(told("ask", ASKED), &self.whole),
+            write(task("write all chunks", again), &self.whole, &self.order),
+            ask(task("ask", ASKED), &self.whole),
         ]
     }
 }

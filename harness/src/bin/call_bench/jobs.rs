@@ -20,7 +20,7 @@ pub const CHANNEL: u32 = 5;
 const CLOCK: u64 = 42;
 
 /// What a job is called, how its time is told, and how often a run does it.
-pub struct Told {
+pub struct Task {
     pub name: String,
     pub unit: Unit,
     pub times: usize,
@@ -85,8 +85,8 @@ fn done(calls: impl FnOnce() -> u32) -> Duration {
 }
 
 /// The pack built, in the rooms of a store of it.
-pub fn build<'a>(told: Told, ready: &'a Ready, pack: &'a Pack) -> Job<'a> {
-    let (times, length) = (told.times, pack.length());
+pub fn build<'a>(task: Task, ready: &'a Ready, pack: &'a Pack) -> Job<'a> {
+    let (times, length) = (task.times, pack.length());
     let content = pack.content.as_slice();
     let proved = move || {
         let (mut state, mut rooms) = ready.in_words();
@@ -102,13 +102,13 @@ pub fn build<'a>(told: Told, ready: &'a Ready, pack: &'a Pack) -> Job<'a> {
         };
         done(|| (0..times).map(build).sum())
     };
-    Job::new(told.name, told.unit, proved, second)
+    Job::new(task.name, task.unit, proved, second)
 }
 
 /// The datagrams taken in one behind the other, by as many stores as the job is
 /// done times.
-pub fn take<'a>(told: Told, ready: &'a Ready, datagrams: &'a [Vec<u8>]) -> Job<'a> {
-    let times = told.times;
+pub fn take<'a>(task: Task, ready: &'a Ready, datagrams: &'a [Vec<u8>]) -> Job<'a> {
+    let times = task.times;
     let proved = move || {
         let mut stores = vec![ready.in_words(); times];
         let take_all = |(state, rooms): &mut (Vec<u32>, Rooms)| {
@@ -134,12 +134,12 @@ pub fn take<'a>(told: Told, ready: &'a Ready, datagrams: &'a [Vec<u8>]) -> Job<'
         };
         done(|| stores.iter_mut().map(take_all).sum())
     };
-    Job::new(told.name, told.unit, proved, second)
+    Job::new(task.name, task.unit, proved, second)
 }
 
 /// Each of these chunks written.
-pub fn write<'a>(told: Told, ready: &'a Ready, chunks: &'a [u32]) -> Job<'a> {
-    let times = told.times;
+pub fn write<'a>(task: Task, ready: &'a Ready, chunks: &'a [u32]) -> Job<'a> {
+    let times = task.times;
     let proved = move || {
         let (mut state, mut rooms) = ready.in_words();
         let mut write = |&chunk: &u32| {
@@ -161,12 +161,12 @@ pub fn write<'a>(told: Told, ready: &'a Ready, chunks: &'a [u32]) -> Job<'a> {
         let mut write_all = |_| black_box(chunks).iter().map(&mut write).sum::<u32>();
         done(|| (0..times).map(&mut write_all).sum())
     };
-    Job::new(told.name, told.unit, proved, second)
+    Job::new(task.name, task.unit, proved, second)
 }
 
 /// Asked.
-pub fn ask(told: Told, ready: &Ready) -> Job<'_> {
-    let times = told.times;
+pub fn ask(task: Task, ready: &Ready) -> Job<'_> {
+    let times = task.times;
     let proved = move || {
         let (state, rooms) = ready.in_words();
         let ask = |_| {
@@ -185,5 +185,5 @@ pub fn ask(told: Told, ready: &Ready) -> Job<'_> {
         };
         done(|| (0..times).map(ask).sum())
     };
-    Job::new(told.name, told.unit, proved, second)
+    Job::new(task.name, task.unit, proved, second)
 }

@@ -3,7 +3,7 @@
 //! held; writing each chunk; and datagrams that do next to nothing, which show
 //! what the state costs that is decoded and encoded.
 
-use crate::jobs::{any_order, build, take, write, written, Ready, Told, CHANNEL};
+use crate::jobs::{any_order, build, take, write, written, Ready, Task, CHANNEL};
 use harness::bench::{self, Unit, NAMES};
 use harness::calls::Call;
 use harness::came::leave_least;
@@ -29,12 +29,12 @@ pub fn measure() {
     let whole = Ready::new(&pack, true);
     let have = vec![datagram(CHANNEL, &[ranged(HAVE, 5, 10)]); DATAGRAMS];
     let keepalive = vec![datagram(CHANNEL, &[]); DATAGRAMS];
-    let once = |name: &str| Told {
+    let once = |name: &str| Task {
         name: name.to_string(),
         unit: Unit::Microseconds(1),
         times: 1,
     };
-    let of_one = |name: &str| Told {
+    let of_one = |name: &str| Task {
         unit: Unit::Nanoseconds(DATAGRAMS),
         ..once(name)
     };
