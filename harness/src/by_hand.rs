@@ -76,13 +76,18 @@ pub fn room(size: usize, so_far: &[u8]) -> Vec<u8> {
 /// Adds a message to these bytes in a room of 2,048 and more: it must be taken,
 /// and then these bytes stand behind them, and nothing else has changed.
 pub fn taken(so_far: &str, message: Message, added: &str) {
+    taken_as(so_far, numbers(&message, &source()), added);
+}
+
+/// The same with the numbers of a message.
+pub fn taken_as(so_far: &str, numbers: Numbers, added: &str) {
     for size in [2_048, 2_049, 3_000] {
         let before = bytes(so_far);
         let after = [before.clone(), bytes(added)].concat();
         let mut got = room(size, &before);
-        let told = add(&mut got, before.len(), numbers(&message, &source()));
-        assert_eq!(told, (0, after.len()), "{so_far}, {message:?}");
-        assert_eq!(got, room(size, &after), "{so_far}, {message:?}");
+        let told = add(&mut got, before.len(), numbers);
+        assert_eq!(told, (0, after.len()), "{so_far}, {numbers:?}");
+        assert_eq!(got, room(size, &after), "{so_far}, {numbers:?}");
     }
 }
 

@@ -107,6 +107,8 @@ pub fn with_unused<'a>(
     }
     if [CHOKE, UNCHOKE].contains(&message.kind) {
         changed.first = random.number();
+    }
+    if [DATA, CHOKE, UNCHOKE].contains(&message.kind) {
         changed.last = random.number();
     }
     let with_root = message.kind == HANDSHAKE && message.last == FIXED;
@@ -117,19 +119,14 @@ pub fn with_unused<'a>(
 }
 
 /// Numbers that no message has, made of those of one: a type that the table
-/// lacks, in a byte or in more, whose low byte may then be a type; DATA whose
-/// first and last chunk differ; or a HANDSHAKE with options that the table lacks
-/// or that are never written.
+/// lacks, in a byte or in more, whose low byte may then be a type; or a HANDSHAKE
+/// with options that the table lacks or that are never written.
 pub fn of_no_message<'a>(random: &mut Random, message: Numbers<'a>) -> Numbers<'a> {
     let mut changed = message;
-    match random.below(5) {
+    match random.below(4) {
         0 => changed.kind = 5 + random.below(3),
         1 => changed.kind = 12 + random.below(244),
         2 => changed.kind = message.kind + 256 * (1 + random.below((1 << 24) - 1)),
-        3 => {
-            changed.kind = DATA;
-            changed.last = message.first ^ 1 << random.below(32);
-        }
         _ => {
             changed.kind = HANDSHAKE;
             let any = 2 + random.below(u32::MAX - 1);

@@ -3,7 +3,7 @@
 //! message" and "Numbers given back"; no program gave them.
 
 use harness::by_hand::*;
-use ppspp::calls::begin;
+use ppspp::calls::{begin, Numbers};
 use second::wire::{Message, Options};
 
 #[test]
@@ -32,6 +32,27 @@ fn each_message_is_written_as_the_table_says() {
     let added = format!("00 00000011 00010101020020 {ROOT} 030104020602090000 0400ff");
     taken("00000000", handshake(0x11, FIXED), &added);
     taken("00000005", handshake(0, Options::EndOnly), "00 00000000 ff");
+}
+
+/// The header's table: DATA has one chunk, and its last is not looked at; nor are
+/// the numbers and bytes of a CHOKE, or the number and bytes of a HAVE.
+#[test]
+fn what_has_no_use_is_not_looked_at() {
+    let with = |kind, last| Numbers {
+        kind,
+        first: 3,
+        last,
+        number: 0x2a,
+        bytes: &[0x61, 0x62],
+    };
+    for last in [3, 4, 2, 0, 512, u32::MAX] {
+        let data = "01 00000003 00000003 000000000000002a 6162";
+        taken_as("00000005", with(1, last), data);
+        taken_as("00000005", with(10, last), "0a");
+        taken_as("00000005", with(11, last), "0b");
+    }
+    taken_as("00000005", with(3, 4), "03 00000003 00000004");
+    taken_as("00000005", with(0, 0), "00 00000003 ff");
 }
 
 /// 121: 2,048 bytes are taken, and 2,049 are refused with 1.

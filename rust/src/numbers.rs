@@ -10,7 +10,7 @@ pub struct Numbers<'a> {
     pub kind: u32,
     /// The first chunk; of a HANDSHAKE the source.
     pub first: u32,
-    /// The last chunk, of DATA the same as the first; of a HANDSHAKE the number of its options.
+    /// The last chunk, which is not looked at for DATA; of a HANDSHAKE the number of its options.
     pub last: u32,
     /// The timestamp of DATA, the delay of an ACK.
     pub number: u64,
