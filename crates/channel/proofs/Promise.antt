@@ -13,7 +13,7 @@ use Rattle.channel.proofs.DemandLaws as demand
 use Rattle.channel.proofs.ReplyLaws as reply
 use Rattle.channel.proofs.ShorterLaws as shorter
 use Rattle.channel.proofs.ShapeLaws as shape
-pub use Rattle.channel.specs.World.{Channels, channelsOf, World, worldOf, Out, outOf, orderRoot, orderLength, chunkCount, tableRows, Shaped}
+pub use Rattle.channel.specs.World.{Channels, channelsOf, World, worldOf, Out, outOf, Unaltered, orderRoot, orderLength, chunkCount, tableRows, Shaped}
 pub use Rattle.channel.specs.Opening.{openSpec}
 pub use Rattle.channel.specs.Starting.{startSpec, buildSpec}
 pub use Rattle.channel.specs.Take.{takeSpec}
@@ -21,8 +21,7 @@ pub use Rattle.channel.specs.Write.{writeSpec}
 pub use Rattle.channel.specs.Ask.{Asked, askedOf, askSpec}
 pub use Rattle.channel.specs.Run.{Call, opening, taking, writing, asking, lend, step, run, FreshOrBuilt, fresh, built, firstBrought}
 pub use Rattle.channel.specs.Demand.{BothWhole, Demand}
-pub use Rattle.channel.proofs.RefusedLaws.{Unaltered}
-pub use Rattle.channel.proofs.ShorterLaws.{EnoughFor}
+pub use Rattle.channel.specs.Answers.{EnoughFor}
 
 -- ---- demand 1: a refusal gives a reply length of 0 and changes neither store, channel table nor any lent room
 

@@ -9,16 +9,12 @@ use lib.ListN.{length}
 use Rattle.bits.proofs.Promise.{rowWords}
 use Rattle.table.proofs.Promise.{rowCount}
 use Rattle.wire.proofs.Promise.{maxSize}
-use Rattle.store.proofs.Promise.{both-zero, countOf, roomsAnswer, order-accepted, length-accepted, order-shorter, row-mono, count-mono, lengthAnswer, Enough, order-enough, build-enough as store-build-enough}
+use Rattle.store.proofs.Promise.{both-zero, countOf, roomsAnswer, order-accepted, length-accepted, order-shorter, row-mono, count-mono, lengthAnswer, order-enough, build-enough as store-build-enough}
 use Rattle.store.specs.declared.calls.Order.{Order}
 use Rattle.channel.specs.World.{World, outOf, unless}
-use Rattle.channel.specs.Answers.{channelRoomsAnswer, channelsAnswer, allRoomsAnswer}
+use Rattle.channel.specs.Answers.{channelRoomsAnswer, PeersEnough, channelsAnswer, allRoomsAnswer, EnoughFor}
 use Rattle.channel.specs.Starting.{startSpec, buildNumber, buildSpec}
 use Rattle.channel.proofs.AcceptLaws.{channel-rooms-accepted}
-
--- The rooms for what the peers have and want hold their rows under an order of length L, and the reply room a datagram.
-abbrev pub PeersEnough : ℕ → ℕ → ℕ → ℕ → Type 0
-PeersEnough L h w r = (rowCount * rowWords (countOf L) ≤ h) × (rowCount * rowWords (countOf L) ≤ w) × (maxSize ≤ r)
 
 channel-rooms-enough : (L h w r : ℕ) → PeersEnough L h w r → channelRoomsAnswer L h w r ≡ 0
 unfolding channelRoomsAnswer
@@ -29,12 +25,6 @@ channel-rooms-shorter K L l h w r e =
     let p = channel-rooms-accepted L h w r e in
     let q = row-mono (countOf K) (countOf L) (count-mono K L l) in
     channel-rooms-enough K h w r (omega arith, omega arith, p .2)
-
--- Large enough rooms for an order of length L.
-abbrev pub EnoughFor : ℕ → World → Type 0
-EnoughFor L w =
-    Enough L (length (w .rooms .bytes)) (length (w .rooms .map)) (length (w .rooms .hashes)) (length (w .rooms .trusted))
-    × PeersEnough L (length (w .channels .has)) (length (w .channels .wants)) (length (w .channels .reply))
 
 -- The number of a start and of a building, in rooms of these lengths.
 number : (n : ℕ) (w new : World) → unless n w (outOf 0 0 new) .answer ≡ n

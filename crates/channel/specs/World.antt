@@ -1,6 +1,7 @@
 -- A store and its lent rooms (01, "What a store works under"), and what a call gives and leaves. Assumes nothing.
 use Prim.Native.Nat.{ℕ, zero, suc, _*_, _+_}
 use mathlib.Core.Path.{_≡_}
+use mathlib.Core.Logic.{_≢_}
 use mathlib.Core.List.{List}
 use lib.ListN.{length}
 use Rattle.hash.proofs.Promise.{bytesOf}
@@ -44,6 +45,10 @@ outOf n len w = record { answer = n; len = len; after = w }
 abbrev pub unless : {W : Type 0} → ℕ → W → Out W → Out W
 unless zero old out = out
 unless (suc n) old out = outOf (suc n) 0 old
+
+-- Where a call is refused, its reply has length 0 and all is as it was.
+abbrev pub Unaltered : {W : Type 0} → W → Out W → Type 0
+Unaltered old out = out .answer ≢ 0 → (out .len ≡ 0) × (out .after ≡ old)
 
 -- A call that changes the channels alone leaves the chunk rooms as they are.
 abbrev pub beside : Rooms → Out Channels → Out World

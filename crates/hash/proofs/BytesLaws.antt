@@ -8,16 +8,8 @@ use native.Mathlib.Omega.{arith}
 use lib.ListN.{length, getD, take, drop, set, replicate, length-append, length-replicate}
 use lib.Seq.{sets, getD-drop, drop-drop, take-suc, take-length, length-take-le}
 use lib.Pow.{shr-shr}
-use Rattle.hash.specs.Word.{word32, words, be, bytesOf}
+use Rattle.hash.specs.Word.{Words, Bytes, word32, words, be, bytesOf}
 use Rattle.hash.proofs.Cells.{cells, cells-is}
-
--- Each element fits a word of 32 bits.
-abbrev pub Words : List ℕ → Type 0
-Words w = (i : ℕ) → getD w i 0 < 2 ^ 32
-
--- Each element fits a byte.
-abbrev pub Bytes : List ℕ → Type 0
-Bytes s = (i : ℕ) → getD s i 0 < 2 ^ 8
 
 pub length-words : (n : ℕ) (s : List ℕ) → length (words n s) ≡ n
 unfolding words

@@ -12,10 +12,9 @@ use Rattle.hash.proofs.BytesLaws as bytes
 use Rattle.hash.proofs.SameLaws as same-laws
 pub use Rattle.lists.specs.Same.{same}
 pub use Rattle.lists.proofs.SameLaws.{same-refl, same-not, same-is}
-pub use Rattle.hash.specs.Word.{words, bytesOf}
+pub use Rattle.hash.specs.Word.{Words, Bytes, words, bytesOf}
 pub use Rattle.hash.specs.Message.{H0, after, finished}
 pub use Rattle.hash.specs.Sha256.{sha256}
-pub use Rattle.hash.proofs.BytesLaws.{Words, Bytes}
 
 -- ---- SHA-256
 

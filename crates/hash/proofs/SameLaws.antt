@@ -9,8 +9,8 @@ use lib.ListN.{length, getD}
 use lib.Seq.{ext-getD}
 use Rattle.lists.specs.Same.{same}
 use Rattle.lists.proofs.SameLaws.{same-refl, same-not}
-use Rattle.hash.specs.Word.{bytesOf}
-use Rattle.hash.proofs.BytesLaws.{Words, words-bytes}
+use Rattle.hash.specs.Word.{Words, bytesOf}
+use Rattle.hash.proofs.BytesLaws.{words-bytes}
 
 -- Equal bytes, equal words.
 pub bytes-injective : (u v : List ℕ) → Words u → Words v → length u ≡ length v → bytesOf u ≡ bytesOf v → u ≡ v

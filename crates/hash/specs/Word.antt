@@ -1,9 +1,17 @@
 -- FIPS 180-4, sections 2.2.2, 3.1, 3.2 and 4.1.2: words of 32 bits, their bytes, and the operations on them.
 -- A word is a number below 2 ^ 32, a byte a number below 2 ^ 8. Assumes nothing.
-use Prim.Native.Nat.{ℕ, zero, suc, _+_, _-_, _*_, _/_, _%_, _^_}
+use Prim.Native.Nat.{ℕ, zero, suc, _+_, _-_, _*_, _/_, _%_, _^_, _<_}
 use mathlib.Core.List.{List, [], _∷_, _++_}
 use lib.ListN.{getD, drop}
 use lib.Bits.{bitAnd, bitOr, bitXor}
+
+-- Each element fits a word of 32 bits.
+abbrev pub Words : List ℕ → Type 0
+Words w = (i : ℕ) → getD w i 0 < 2 ^ 32
+
+-- Each element fits a byte.
+abbrev pub Bytes : List ℕ → Type 0
+Bytes s = (i : ℕ) → getD s i 0 < 2 ^ 8
 
 -- 3.1: the word whose four bytes, the highest first, stand at a place.
 unfoldable pub word32 : List ℕ → ℕ → ℕ

@@ -13,8 +13,8 @@ use lib.Seq.{sets-eq, take-at}
 use Rattle.tree.specs.Pick.{pick}
 use Rattle.tree.specs.Node.{Node, num, above}
 use Rattle.tree.specs.Pack.{chunkSize, maxLength, chunks, levels}
-use Rattle.tree.specs.Peaks.{sent}
-use Rattle.tree.specs.Steps.{peakBit, peakAt, siblingAt, peakTurn, sentBelow, listed}
+use Rattle.tree.specs.Peaks.{sent, peakBit}
+use Rattle.tree.specs.Steps.{peakAt, siblingAt, peakTurn, sentBelow, listed}
 use Rattle.tree.proofs.NodeLaws.{above-in}
 use Rattle.tree.proofs.SentLaws.{sent-is}
 use Rattle.tree.proofs.StepLaws.{sent-short}

@@ -22,11 +22,10 @@ pub use Rattle.verdict.specs.Room.{filler, hashIn}
 unfoldable pub use Rattle.verdict.specs.Room.{Digest}
 pub use Rattle.verdict.proofs.RoomLaws.{hash-length}
 pub use Rattle.store.proofs.AnswerLaws.{levels-small, places-small}
-pub use Rattle.store.proofs.ShorterLaws.{Enough}
 pub use Rattle.verdict.specs.Integrity.{Integrity, integrityOf}
 pub use Rattle.verdict.specs.Rooms.{Rooms, roomsOf, countOf, chunkIn, stateOf, SoundRooms}
 pub use Rattle.store.specs.Building.{rootOf}
-pub use Rattle.store.specs.Answers.{refuse, earlier, lengthAnswer, roomAnswer, orderAnswer, chunkAnswer}
+pub use Rattle.store.specs.Answers.{refuse, earlier, lengthAnswer, roomAnswer, Enough, orderAnswer, chunkAnswer}
 pub use Rattle.store.specs.Calls.{Out, outOf, roomsAnswer, startSpec, buildAnswer, buildSpec, foundRoot, takeSpec}
 pub use Rattle.store.specs.Whole.{Roomy, SameSizes, Running, HangsIn, Alike}
 unfoldable pub use Rattle.store.specs.Whole.{Whole}

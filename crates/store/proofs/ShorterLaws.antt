@@ -8,14 +8,10 @@ use Rattle.bits.proofs.Promise.{rowWords, row-least, row-words}
 use Rattle.tree.specs.Pack.{leafPlaces}
 use Rattle.tree.proofs.PackLaws.{levels-mono}
 use Rattle.verdict.specs.Rooms.{countOf}
-use Rattle.store.specs.Answers.{lengthAnswer, roomAnswer, orderAnswer}
+use Rattle.store.specs.Answers.{lengthAnswer, roomAnswer, Enough, orderAnswer}
 use Rattle.store.specs.Calls.{buildAnswer}
 use Rattle.store.proofs.AnswerLaws.{earlier-zero, length-right, room-facts}
 use Rattle.store.proofs.AcceptLaws.{order-accepted, length-accepted}
-
--- Rooms for an order of length L are large enough.
-abbrev pub Enough : ℕ → ℕ → ℕ → ℕ → ℕ → Type 0
-Enough L b m h t = (L ≤ b) × (rowWords (countOf L) ≤ m) × (16 * leafPlaces (countOf L) ≤ h) × (rowWords (2 * leafPlaces (countOf L)) ≤ t)
 
 module _ (L b m h t : ℕ) where
   rooms-enough : Enough L b m h t → roomAnswer L b m h t ≡ 0

@@ -1,6 +1,6 @@
 -- The numbers given back before any hash is looked at, in 01's order: 12, 11, 7, 8 (01, "Numbers given back").
 -- Assumes nothing.
-use Prim.Native.Nat.{ℕ, _*_}
+use Prim.Native.Nat.{ℕ, _*_, _≤_}
 use mathlib.Core.Bool.{Bool, true, false, not}
 use lib.Dec.{leb, ltb, eqb}
 use Rattle.bits.proofs.Promise.{rowWords}
@@ -24,6 +24,10 @@ roomAnswer L b m h t =
     (refuse (ltb m (rowWords (countOf L))) 11
     (refuse (ltb h (16 * leafPlaces (countOf L))) 11
     (refuse (ltb t (rowWords (2 * leafPlaces (countOf L)))) 11 0)))
+
+-- Rooms of these sizes are large enough for an order of length L.
+abbrev pub Enough : ℕ → ℕ → ℕ → ℕ → ℕ → Type 0
+Enough L b m h t = (L ≤ b) × (rowWords (countOf L) ≤ m) × (16 * leafPlaces (countOf L) ≤ h) × (rowWords (2 * leafPlaces (countOf L)) ≤ t)
 
 -- 12, then 11.
 unfoldable pub orderAnswer : ℕ → ℕ → ℕ → ℕ → ℕ → ℕ

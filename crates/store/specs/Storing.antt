@@ -10,8 +10,7 @@ use Rattle.tree.specs.Pick.{pick}
 use Rattle.tree.specs.Bin.{bin}
 use Rattle.tree.specs.Node.{above, other}
 use Rattle.tree.specs.Pack.{chunkSize, levels}
-use Rattle.tree.specs.Peaks.{peaks}
-use Rattle.tree.specs.Steps.{peakBit}
+use Rattle.tree.specs.Peaks.{peaks, peakBit}
 use Rattle.tree.specs.Tree.{climb}
 use Rattle.tree.specs.Verdicts.{every}
 use Rattle.tree.specs.declared.verdict.Verdict.{Verdict}

@@ -13,8 +13,8 @@ use lib.Pow.{pow-pos}
 use Rattle.tree.specs.Pick.{pick}
 use Rattle.tree.specs.Node.{Node, node, other, above}
 use Rattle.tree.specs.Pack.{levels}
-use Rattle.tree.specs.Peaks.{peaks, peakOf, siblings, before, insert, sort, sent}
-use Rattle.tree.specs.Steps.{peakBit, peakAt, siblingAt, peakTurn, peaksBelow, sentBelow}
+use Rattle.tree.specs.Peaks.{peaks, peakOf, siblings, before, insert, sort, sent, peakBit}
+use Rattle.tree.specs.Steps.{peakAt, siblingAt, peakTurn, peaksBelow, sentBelow}
 use Rattle.tree.proofs.NodeLaws.{split, above-in, down-above, whole-below}
 use Rattle.tree.proofs.PackLaws.{high-bound}
 use Rattle.tree.proofs.PeakLaws.{peaks-bits, peak-of, peak-past}

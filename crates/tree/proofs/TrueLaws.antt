@@ -12,11 +12,11 @@ use Rattle.lists.proofs.SameLaws.{same-refl}
 use Rattle.tree.specs.Pick.{pick}
 use Rattle.tree.specs.Node.{Node, other, above}
 use Rattle.tree.specs.Pack.{levels}
-use Rattle.tree.specs.Peaks.{peaks, peakOf, siblings}
+use Rattle.tree.specs.Peaks.{peaks, peakOf, siblings, peakBit}
 use Rattle.tree.specs.Tree.{tree, root, combined, joined, climb}
 use Rattle.tree.specs.State.{State, isPeak, adopted}
 use Rattle.tree.specs.Verdicts.{Came, isThere, orElse, got, every, peaksTrusted, counted, reached, complete, rooted, met, verdict}
-use Rattle.tree.specs.Steps.{peakBit, peakAt, siblingAt, peaksBelow}
+use Rattle.tree.specs.Steps.{peakAt, siblingAt, peaksBelow}
 use Rattle.tree.specs.declared.verdict.Verdict.the-variants.{Fits}
 use Rattle.tree.proofs.NodeLaws.{down-above, whole-below, above-aligned}
 use Rattle.tree.proofs.PackLaws.{high-bound}

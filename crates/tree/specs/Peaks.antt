@@ -1,6 +1,6 @@
 -- The peaks of N chunks, and what goes out with a chunk in 01's order (RFC 7574, 5.4 to 5.6; 01, "Nodes and the tree" and
 -- "Writing a chunk"). Assumes nothing.
-use Prim.Native.Nat.{ℕ, zero, suc, _+_, _^_}
+use Prim.Native.Nat.{ℕ, zero, suc, _+_, _/_, _%_, _^_}
 use mathlib.Core.Bool.{Bool}
 use mathlib.Core.List.{List, [], _∷_, _++_}
 use lib.Dec.{leb, ltb, eqb}
@@ -15,6 +15,10 @@ peaksFrom N (suc h) a = pick (leb (a + 2 ^ h) N) (node h a ∷ peaksFrom N h (a 
 
 unfoldable pub peaks : ℕ → List Node
 peaks N = peaksFrom N (suc (levels N)) 0
+
+-- N has a peak of height h: one per one bit of N.
+abbrev pub peakBit : ℕ → ℕ → Bool
+peakBit N h = eqb (N / 2 ^ h % 2) 1
 
 -- The peak above chunk c, for c below N.
 unfoldable pub peakFrom : ℕ → ℕ → ℕ → ℕ → Node

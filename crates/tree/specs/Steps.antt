@@ -1,15 +1,11 @@
 -- One turn of a loop, as the code takes it; no paper has these. Assumes nothing.
-use Prim.Native.Nat.{ℕ, zero, suc, _+_, _/_, _%_, _^_}
-use mathlib.Core.Bool.{Bool}
+use Prim.Native.Nat.{ℕ, zero, suc, _+_, _^_}
 use mathlib.Core.List.{List, [], _∷_, _++_, map}
 use lib.Dec.{eqb, leb}
 use lib.Seq.{sets}
 use Rattle.tree.specs.Pick.{pick}
 use Rattle.tree.specs.Node.{Node, node, num, other, above}
-
--- N has a peak of height h.
-abbrev pub peakBit : ℕ → ℕ → Bool
-peakBit N h = eqb (N / 2 ^ h % 2) 1
+use Rattle.tree.specs.Peaks.{peakBit}
 
 -- The peak of height h, if there is one, and the sibling of height h of the node above c.
 abbrev pub peakAt : ℕ → ℕ → Node

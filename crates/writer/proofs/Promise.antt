@@ -17,10 +17,9 @@ pub use Rattle.writer.specs.Message.{within, bytesOf}
 unfoldable pub use Rattle.writer.specs.Message.{writable, writableOptions, sizeOf, optionSpan}
 pub use Rattle.writer.specs.Add.{Written, writtenOf, decide, addAnswer, addSpec}
 unfoldable pub use Rattle.writer.specs.Add.{beginSpec}
-pub use Rattle.writer.specs.Lists.{Item, itemOf, encode, AllFit, AreBytes, atZeroOptions, atZero, contentsOf, onStep, readAll, Rewritable, writeAll, datagramOf}
+pub use Rattle.writer.specs.Lists.{Item, itemOf, encode, AllFit, AreBytes, atZeroOptions, atZero, contentsOf, onStep, readAll, Reads, Rewritable, writeAll, datagramOf}
 unfoldable pub use Rattle.writer.specs.Lists.{readFrom}
 pub use Rattle.writer.proofs.PlaceLaws.{size32}
-pub use Rattle.writer.proofs.RoundTrips.{Reads}
 
 -- A message that can be written has the size that the table says.
 pub message-size : (s : List ℕ) (m : Message) → writable (length s) m ≡ true → length (bytesOf s m) ≡ sizeOf m

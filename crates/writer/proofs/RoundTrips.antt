@@ -18,7 +18,7 @@ use Rattle.wire.proofs.ExtendLaws.{layout-is, over}
 use Rattle.wire.proofs.FaultLaws.{passed}
 use Rattle.writer.specs.Bytes.{bytes32}
 use Rattle.writer.specs.Add.{writtenOf, beginSpec}
-use Rattle.writer.specs.Lists.{Item, encode, AllFit, AreBytes, contentsOf, readAll, Rewritable, addAll, writeAll, datagramOf}
+use Rattle.writer.specs.Lists.{Item, encode, AllFit, AreBytes, readAll, Reads, Rewritable, addAll, writeAll, datagramOf}
 use Rattle.writer.proofs.PlaceLaws.{size32}
 use Rattle.writer.proofs.NumberLaws.{joined32, split-word}
 use Rattle.writer.proofs.ReadBackLaws.{added, list-back}
@@ -48,13 +48,6 @@ alone d e = layout-is d (omega arith) (omega arith) ∙ over (length d) d [] min
 destination : (to : ℕ) (r : List ℕ) → to < 2 ^ 32 → be32 (bytes32 to ++ r) 0 ≡ to
 unfolding bytes32
 destination to r h = joined32 to h
-
--- What was written is read: the destination and the same messages, their hashes, chunks and roots included; the datagram
--- passes the checks.
-pub record Reads (d : List ℕ) (to : ℕ) (is : List Item) : Type 0 where
-  pub to-channel : be32 d 0 ≡ to
-  pub messages : contentsOf (readAll d) ≡ contentsOf is
-  pub passes : numberOf (layoutOf d .layout) ≡ 0
 
 -- Every list of messages that begin and add accepted, whose numbers have their widths, reads back as exactly those messages.
 pub written-reads : (room : List ℕ) (to : ℕ) (is : List Item) → to < 2 ^ 32 → AllFit is → writeAll room to is .answer ≡ 0 → Reads (datagramOf (writeAll room to is)) to is

@@ -3,8 +3,11 @@
 use Prim.Native.Nat.{ℕ, zero, suc, _+_, _<_, _^_}
 use mathlib.Core.List.{List, [], _∷_, _++_}
 use lib.ListN.{length, getD, take}
+use mathlib.Core.Path.{_≡_}
+use Rattle.wire.specs.Bytes.{be32}
 use Rattle.wire.specs.Limits.{minSize}
 use Rattle.wire.specs.Read.{stepAt}
+use Rattle.wire.specs.Layout.{numberOf, layoutOf}
 use Rattle.wire.specs.declared.message.Options.{Options}
 use Rattle.wire.specs.declared.message.Options.the-variants.{Fixed, EndOnly, Other}
 use Rattle.wire.specs.declared.message.Message.{Message}
@@ -105,6 +108,13 @@ readFrom (suc n) s at = onStep s (stepAt s at) (λ next. readFrom n s next)
 -- The messages of a datagram.
 abbrev pub readAll : List ℕ → List Item
 readAll s = readFrom (length s) s minSize
+
+-- What was written is read: the destination and the same messages, their hashes, chunks and roots included; the datagram
+-- passes the checks.
+pub record Reads (d : List ℕ) (to : ℕ) (is : List Item) : Type 0 where
+  pub to-channel : be32 d 0 ≡ to
+  pub messages : contentsOf (readAll d) ≡ contentsOf is
+  pub passes : numberOf (layoutOf d .layout) ≡ 0
 
 -- A datagram whose messages can be written: a HANDSHAKE has the fixed options or End alone.
 abbrev pub Rewritable : Layout → Type 0

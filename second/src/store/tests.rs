@@ -2,6 +2,7 @@
 //! the tests give.
 
 mod building;
+mod hashes;
 mod starting;
 mod taking;
 
