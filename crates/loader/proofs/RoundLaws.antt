@@ -14,7 +14,7 @@ use Rattle.table.specs.declared.rows.Phase.the-variants.{Free, Calling, Open}
 use Rattle.table.specs.declared.rows.Row.{Row}
 use Rattle.channel.specs.declared.state.State.{State}
 use Rattle.channel.proofs.Promise.{Shaped}
-use Rattle.loader.specs.State.{layoutVersion, stateWords, rowsPlace, phaseOf, rowIn, rowsIn, orderIn, stateIn, phaseWord, flag, rowCells, tableWords, orderWords, statePut}
+use Rattle.loader.specs.State.{layoutVersion, stateWords, rowsPlace, rowSize, phaseOf, rowIn, rowsIn, orderIn, stateIn, phaseWord, flag, rowCells, tableWords, orderWords, statePut}
 
 -- ---- a cell of a list of stores
 
@@ -61,23 +61,23 @@ module _ (r : Row) (rest l : List ℕ) (at : ℕ) (h : at + length (rowCells r +
 
 -- ---- the rows
 
-place-next : (at : ℕ) → suc (suc (suc (suc at))) ≡ at + 4
+place-next : (at : ℕ) → suc (suc (suc (suc at))) ≡ at + rowSize
 place-next at = omega arith
 
-table-length : (rs : List Row) → length (tableWords rs) ≡ 4 * length rs
+table-length : (rs : List Row) → length (tableWords rs) ≡ rowSize * length rs
 unfolding tableWords
 table-length [] = refl
 table-length (r ∷ rs) = let e = table-length rs in omega (arith, e)
 
-rows-back : (rs : List Row) (l : List ℕ) (at : ℕ) → at + 4 * length rs ≤ length l → rowsIn (length rs) (sets l at (tableWords rs)) at ≡ rs
+rows-back : (rs : List Row) (l : List ℕ) (at : ℕ) → at + rowSize * length rs ≤ length l → rowsIn (length rs) (sets l at (tableWords rs)) at ≡ rs
 unfolding rowsIn tableWords
 rows-back [] l at h = refl
 rows-back (r ∷ rs) l at h =
     let k = table-length rs in
     let l′ = set (set (set (set l at (phaseWord (r .phase))) (suc at) (r .id)) (suc (suc at)) (r .peer)) (suc (suc (suc at))) (flag (r .choked)) in
     let n : length l′ ≡ length l = simp length-set in
-    let e : rowsIn (length rs) (sets l′ (at + 4) (tableWords rs)) (at + 4) ≡ rs = rows-back rs l′ (at + 4) (rw n (omega arith)) in
-    let f : rowsIn (length rs) (sets l′ (suc (suc (suc (suc at)))) (tableWords rs)) (at + 4) ≡ rs = rw (place-next at) e in
+    let e : rowsIn (length rs) (sets l′ (at + rowSize) (tableWords rs)) (at + rowSize) ≡ rs = rows-back rs l′ (at + rowSize) (rw n (omega arith)) in
+    let f : rowsIn (length rs) (sets l′ (suc (suc (suc (suc at)))) (tableWords rs)) (at + rowSize) ≡ rs = rw (place-next at) e in
     rw (row-back r (tableWords rs) l at (omega (arith, k)), f)
 
 -- ---- the order

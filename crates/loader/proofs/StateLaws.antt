@@ -16,7 +16,7 @@ use Rattle.table.specs.declared.rows.Row.{Row}
 use Rattle.table.specs.declared.rows.Table.{Table}
 use Rattle.store.specs.declared.calls.Order.{Order}
 use Rattle.channel.specs.declared.state.State.{State}
-use Rattle.loader.specs.State.{layoutVersion, rowsPlace, phaseOf, rowIn, rowsIn, orderIn, unstarted, stateIn, phaseWord, flag, rowCells, tableWords, orderWords, statePut}
+use Rattle.loader.specs.State.{layoutVersion, rowsPlace, rowSize, phaseOf, rowIn, rowsIn, orderIn, unstarted, stateIn, phaseWord, flag, rowCells, tableWords, orderWords, statePut}
 
 -- ---- read
 
@@ -39,11 +39,14 @@ module _ (w : List ℕ) where
   unfolding rowIn
   row-read at e = rw e
 
+  abbrev row-at : ℕ → Row
+  row-at i = rowIn w (rowsPlace + rowSize * i)
+
   pub rows-read : {r₀ r₁ r₂ r₃ r₄ r₅ r₆ r₇ r₈ r₉ ra rb rc rd re rf : Row}
-      → r₀ ≡ rowIn w 10 → r₁ ≡ rowIn w 14 → r₂ ≡ rowIn w 18 → r₃ ≡ rowIn w 22
-      → r₄ ≡ rowIn w 26 → r₅ ≡ rowIn w 30 → r₆ ≡ rowIn w 34 → r₇ ≡ rowIn w 38
-      → r₈ ≡ rowIn w 42 → r₉ ≡ rowIn w 46 → ra ≡ rowIn w 50 → rb ≡ rowIn w 54
-      → rc ≡ rowIn w 58 → rd ≡ rowIn w 62 → re ≡ rowIn w 66 → rf ≡ rowIn w 70
+      → r₀ ≡ row-at 0 → r₁ ≡ row-at 1 → r₂ ≡ row-at 2 → r₃ ≡ row-at 3
+      → r₄ ≡ row-at 4 → r₅ ≡ row-at 5 → r₆ ≡ row-at 6 → r₇ ≡ row-at 7
+      → r₈ ≡ row-at 8 → r₉ ≡ row-at 9 → ra ≡ row-at 10 → rb ≡ row-at 11
+      → rc ≡ row-at 12 → rd ≡ row-at 13 → re ≡ row-at 14 → rf ≡ row-at 15
       → r₀ ∷ r₁ ∷ r₂ ∷ r₃ ∷ r₄ ∷ r₅ ∷ r₆ ∷ r₇ ∷ r₈ ∷ r₉ ∷ ra ∷ rb ∷ rc ∷ rd ∷ re ∷ rf ∷ [] ≡ rowsIn rowCount w rowsPlace
   unfolding rowsIn
   rows-read e₀ e₁ e₂ e₃ e₄ e₅ e₆ e₇ e₈ e₉ ea eb ec ed ee ef = rw (e₀, e₁, e₂, e₃, e₄, e₅, e₆, e₇, e₈, e₉, ea, eb, ec, ed, ee, ef)
@@ -93,20 +96,20 @@ pub order-stored : (l w : List ℕ) (n : ℕ) → length w ≡ 8
 order-stored l w n h = ap (λ (u : List ℕ). sets l 0 (layoutVersion ∷ u ++ n ∷ [])) (eight-cells w h)
 
 -- the place of the next row
-place-next : (i : ℕ) → suc (suc (suc (suc (rowsPlace + 4 * i)))) ≡ rowsPlace + 4 * suc i
+place-next : (i : ℕ) → suc (suc (suc (suc (rowsPlace + rowSize * i)))) ≡ rowsPlace + rowSize * suc i
 place-next i = omega arith
 
 module _ (w : List ℕ) (rs : List Row) where
   -- a turn: the row at i is stored, and those behind it are left
-  pub rows-next : (i : ℕ) (l : List ℕ) {l′ : List ℕ} → i < length rs → sets l (rowsPlace + 4 * i) (tableWords (drop i rs)) ≡ sets w rowsPlace (tableWords rs)
-      → l′ ≡ sets l (rowsPlace + 4 * i) (rowCells (getD rs i freeRow)) → sets l′ (rowsPlace + 4 * (i + 1)) (tableWords (drop (i + 1) rs)) ≡ sets w rowsPlace (tableWords rs)
+  pub rows-next : (i : ℕ) (l : List ℕ) {l′ : List ℕ} → i < length rs → sets l (rowsPlace + rowSize * i) (tableWords (drop i rs)) ≡ sets w rowsPlace (tableWords rs)
+      → l′ ≡ sets l (rowsPlace + rowSize * i) (rowCells (getD rs i freeRow)) → sets l′ (rowsPlace + rowSize * (i + 1)) (tableWords (drop (i + 1) rs)) ≡ sets w rowsPlace (tableWords rs)
   unfolding tableWords
   rows-next i l h e s =
       let d : drop i rs ≡ getD rs i freeRow ∷ drop (suc i) rs = drop-cons rs i freeRow h in
       rw (s, add-one i, ← place-next i) (rw d at e)
 
   -- the end: none is left
-  pub rows-end : (i : ℕ) {l : List ℕ} → i ≡ length rs → sets l (rowsPlace + 4 * i) (tableWords (drop i rs)) ≡ sets w rowsPlace (tableWords rs) → l ≡ sets w rowsPlace (tableWords rs)
+  pub rows-end : (i : ℕ) {l : List ℕ} → i ≡ length rs → sets l (rowsPlace + rowSize * i) (tableWords (drop i rs)) ≡ sets w rowsPlace (tableWords rs) → l ≡ sets w rowsPlace (tableWords rs)
   unfolding tableWords
   rows-end i h e =
       let d : drop i rs ≡ [] = rw h (drop-length rs) in

@@ -1,5 +1,6 @@
--- What the calls answer and leave: the entry point's equation of the crate channel, through decode and encode. Where the
--- room for the state is too short, no room is looked at: 11; for starting and building 12 comes before it. Assumes nothing.
+-- What the calls answer and leave (01, "Entry points"): the entry point's equation of the crate channel, through decode and
+-- encode. Where the room for the state is too short, no room is looked at: 11; for starting and building 12 comes before it
+-- ("Order: 12, 11"). Assumes nothing.
 use Prim.Native.Nat.{ℕ, zero, suc}
 use mathlib.Core.List.{List}
 use mathlib.Core.Bool.{not}
@@ -46,6 +47,7 @@ abbrev pub wordsAfter : ℕ → List ℕ → State → List ℕ
 wordsAfter zero w st = statePut w st
 wordsAfter (suc n) w st = w
 
+-- The same, with the state encoded.
 abbrev pub encoded : Lent → Out World → Out Lent
 encoded l o = leaving (wordsAfter (o .answer) (l .words) (o .after .channels .state)) o
 
@@ -56,8 +58,9 @@ callOn n l call = pick (ltb (length (l .words)) stateWords) (outOf n 0 l) (encod
 unfoldable pub callBeside : Lent → (World → Out World) → Out Lent
 callBeside l call = pick (ltb (length (l .words)) stateWords) (outOf 11 0 l) (leaving (l .words) (call (worldIn l)))
 
--- ---- beginning a store, which has no reply
+-- ---- starting and building, which have no reply
 
+-- The number, and the rooms afterwards.
 pub record Answered : Type 0 where
   pub answer : ℕ
   pub left : Lent
@@ -72,10 +75,11 @@ answered o = answeredOf (o .answer) (o .after)
 abbrev pub orderOf : List ℕ → ℕ → Order
 orderOf root L = record { root = record { words = words 8 root }; length = L }
 
--- 12 for the order's length, then 11.
+-- Where the room for the state is too short: 12 for the order's length, then 11.
 unfoldable pub startShort : ℕ → ℕ
 startShort L = earlier (lengthAnswer L) 11
 
+-- "start a store", and "build a whole store from content".
 abbrev pub startOn : Lent → List ℕ → ℕ → Answered
 startOn l root L = answered (callOn (startShort L) l (λ w. startSpec w (orderOf root L)))
 
@@ -100,5 +104,6 @@ countedOf n held whole = record { answer = n; held = held; whole = whole }
 abbrev pub counted : Asked → Counted
 counted a = countedOf (a .answer) (a .held) (flag (a .whole))
 
+-- "ask held count and whole or not": the words of the state and the map are all that it is lent.
 unfoldable pub askOn : List ℕ → List ℕ → Counted
 askOn words map = pick (ltb (length words) stateWords) (countedOf 11 0 0) (counted (askSpec (stateIn words) map))

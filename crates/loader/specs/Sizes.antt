@@ -1,4 +1,5 @@
--- The sizes of the rooms for a pack of n chunks (01, "What a store works under"). Assumes nothing.
+-- The sizes of the rooms for a pack of n chunks (01, "What a store works under": "Rooms lent by the loader"). Assumes
+-- nothing.
 use Prim.Native.Nat.{ℕ, _*_, _≤_}
 use lib.ListN.{length}
 use Rattle.bits.proofs.Promise.{rowWords}

@@ -1,5 +1,5 @@
 -- A store's state as 74 words, layout version 1: the version, the root's eight words, the length, and four words for each of
--- the 16 rows of the channel table. Assumes nothing.
+-- the 16 rows of the channel table. The layout is ours; include/ppspp.h has the same table. Assumes nothing.
 use Prim.Native.Nat.{ℕ, zero, suc, _+_}
 use mathlib.Core.Bool.{Bool, true, false}
 use mathlib.Core.List.{List, [], _∷_, _++_}
@@ -14,7 +14,7 @@ use Rattle.table.specs.declared.rows.Row.{Row}
 use Rattle.store.specs.declared.calls.Order.{Order}
 use Rattle.channel.specs.declared.state.State.{State}
 
--- The layout's version, its number of words, and where the rows begin.
+-- The layout's version, its number of words, where the rows begin, and the words of a row.
 abbrev pub layoutVersion : ℕ
 layoutVersion = 1
 
@@ -23,6 +23,9 @@ stateWords = 74
 
 abbrev pub rowsPlace : ℕ
 rowsPlace = 10
+
+abbrev pub rowSize : ℕ
+rowSize = 4
 
 -- ---- decode: the state of words
 
@@ -43,7 +46,7 @@ rowIn w at =
 -- So many rows from a place on.
 unfoldable pub rowsIn : ℕ → List ℕ → ℕ → List Row
 rowsIn zero w at = []
-rowsIn (suc k) w at = rowIn w at ∷ rowsIn k w (at + 4)
+rowsIn (suc k) w at = rowIn w at ∷ rowsIn k w (at + rowSize)
 
 -- The order: the root of words 1 to 8, and the length.
 unfoldable pub orderIn : List ℕ → Order
@@ -55,7 +58,7 @@ orderIn w =
       length = getD w 9 0;
     }
 
--- A state without an order: its length is 0, so that each call on it but those that begin a store is refused with 12.
+-- A state without an order: its length is 0, so that each call on it but starting and building is refused with 12.
 abbrev pub unstarted : State
 unstarted =
     record {
@@ -72,6 +75,7 @@ stateIn w =
 
 -- ---- encode: the words of a state
 
+-- A phase, and whether the choke mark is set, as a word.
 abbrev pub phaseWord : Phase → ℕ
 phaseWord Free = 0
 phaseWord Calling = 1
@@ -81,6 +85,7 @@ abbrev pub flag : Bool → ℕ
 flag true = 1
 flag false = 0
 
+-- The words of a row, and of rows one behind the other.
 abbrev pub rowCells : Row → List ℕ
 rowCells r = phaseWord (r .phase) ∷ r .id ∷ r .peer ∷ flag (r .choked) ∷ []
 
@@ -88,6 +93,7 @@ unfoldable pub tableWords : List Row → List ℕ
 tableWords [] = []
 tableWords (r ∷ rs) = rowCells r ++ tableWords rs
 
+-- The version, the root and the length.
 abbrev pub orderWords : Order → List ℕ
 orderWords o = layoutVersion ∷ o .root .words ++ o .length ∷ []
 

@@ -8,7 +8,7 @@ use crate::state;
 use channel::state::Outcome;
 
 // Encodes the state, unless the call is refused; gives the number.
-pub fn leave(words: &mut [u32], outcome: Outcome) -> u32
+pub(crate) fn leave(words: &mut [u32], outcome: Outcome) -> u32
     requires { ⌜ stateWords ≤ length (now words) ⌝ }
     ensures { λ r. ⌜ (r ≡ outcome .answer) × (now (words .exit) ≡ wordsAfter (outcome .answer) (now (words .entry)) (outcome .state)) ⌝ }
 {

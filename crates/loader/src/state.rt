@@ -1,10 +1,10 @@
 // A store's state as words: the layout's version, the root's eight, the length, and four for each of the 16 rows.
 ghost use mathlib.Core.Path.{_≡_};
-ghost use Prim.Native.Nat.{_+_, _≤_};
+ghost use Prim.Native.Nat.{_+_, _*_, _<_, _≤_};
 ghost use lib.ListN.{length};
 ghost use lib.Seq.{sets};
 ghost use Rattle.table.proofs.Promise.{rowCount};
-ghost use Rattle.loader.specs.State.{stateWords, layoutVersion, rowsPlace, phaseOf, phaseWord, flag, unstarted, rowIn, rowCells, orderIn, rowsIn, stateIn, orderWords, tableWords, statePut};
+ghost use Rattle.loader.specs.State.{stateWords, layoutVersion, rowsPlace, rowSize, phaseOf, phaseWord, flag, unstarted, rowIn, rowCells, orderIn, rowsIn, stateIn, orderWords, tableWords, statePut};
 use channel::state::State;
 use hash::value::HashValue;
 use store::calls::Order;
@@ -14,12 +14,14 @@ use table::rows::ROWS;
 use table::rows::Row;
 use table::rows::Table;
 
-// The layout's version, its number of words, and where the rows begin.
+// The layout's version, its number of words, where the rows begin, and the words of a row.
 pub const LAYOUT_VERSION: u32 = 1;
 
 pub const STATE_WORDS: usize = 74;
 
 const ROWS_PLACE: usize = 10;
+
+const ROW_WORDS: usize = 4;
 
 // ---- read
 
@@ -33,11 +35,12 @@ fn phase_of(word: u32) -> Phase
     }
 }
 
-// The row of the four words at a place.
-fn row_in(ws: &[u32], at: usize) -> Row
-    requires { ⌜ at + 4 ≤ length (now ws) ⌝ }
-    ensures { λ r. ⌜ r ≡ rowIn (now (ws .entry)) at ⌝ }
+// Row i.
+fn row_in(ws: &[u32], i: usize) -> Row
+    requires { ⌜ (i < rowCount) × (stateWords ≤ length (now ws)) ⌝ }
+    ensures { λ r. ⌜ r ≡ rowIn (now (ws .entry)) (rowsPlace + rowSize * i) ⌝ }
 {
+    let at = ROWS_PLACE + ROW_WORDS * i;
     Row {
         phase: phase_of(ws[at]),
         id: ws[at + 1],
@@ -65,22 +68,22 @@ fn table_in(ws: &[u32]) -> Table
 {
     Table {
         rows: [
+            row_in(ws, 0),
+            row_in(ws, 1),
+            row_in(ws, 2),
+            row_in(ws, 3),
+            row_in(ws, 4),
+            row_in(ws, 5),
+            row_in(ws, 6),
+            row_in(ws, 7),
+            row_in(ws, 8),
+            row_in(ws, 9),
             row_in(ws, 10),
+            row_in(ws, 11),
+            row_in(ws, 12),
+            row_in(ws, 13),
             row_in(ws, 14),
-            row_in(ws, 18),
-            row_in(ws, 22),
-            row_in(ws, 26),
-            row_in(ws, 30),
-            row_in(ws, 34),
-            row_in(ws, 38),
-            row_in(ws, 42),
-            row_in(ws, 46),
-            row_in(ws, 50),
-            row_in(ws, 54),
-            row_in(ws, 58),
-            row_in(ws, 62),
-            row_in(ws, 66),
-            row_in(ws, 70),
+            row_in(ws, 15),
         ],
     }
 }
@@ -101,7 +104,7 @@ fn unstarted() -> State
 }
 
 // The state of the first 74 words; none where they have another version.
-pub fn state_in(ws: &[u32]) -> State
+pub(crate) fn state_in(ws: &[u32]) -> State
     requires { ⌜ stateWords ≤ length (now ws) ⌝ }
     ensures { λ r. ⌜ r ≡ stateIn (now (ws .entry)) ⌝ }
 {
@@ -126,17 +129,18 @@ fn phase_word(phase: Phase) -> u32
     }
 }
 
-pub fn flag(set: bool) -> u32
+pub(crate) fn flag(set: bool) -> u32
     ensures { λ r. ⌜ r ≡ flag set ⌝ }
 {
     if set { 1 } else { 0 }
 }
 
-// Writes a row's four words at a place.
-fn put_row(ws: &mut [u32], at: usize, row: Row)
-    requires { ⌜ at + 4 ≤ length (now ws) ⌝ }
-    ensures { λ _. ⌜ now (ws .exit) ≡ sets (now (ws .entry)) at (rowCells row) ⌝ }
+// Writes row i.
+fn put_row(ws: &mut [u32], i: usize, row: Row)
+    requires { ⌜ (i < rowCount) × (stateWords ≤ length (now ws)) ⌝ }
+    ensures { λ _. ⌜ now (ws .exit) ≡ sets (now (ws .entry)) (rowsPlace + rowSize * i) (rowCells row) ⌝ }
 {
+    let at = ROWS_PLACE + ROW_WORDS * i;
     let phase = row.phase;
     ws[at] = phase_word(phase);
     ws[at + 1] = row.id;
@@ -170,13 +174,13 @@ fn put_table(ws: &mut [u32], table: Table)
     let mut i: usize = 0;
     while i < ROWS {
         let row = table.rows[i];
-        put_row(ws, ROWS_PLACE + 4 * i, row);
+        put_row(ws, i, row);
         i += 1;
     }
 }
 
 // Writes a state over the first 74 words.
-pub fn put_state(ws: &mut [u32], state: State)
+pub(crate) fn put_state(ws: &mut [u32], state: State)
     requires { ⌜ stateWords ≤ length (now ws) ⌝ }
     ensures { λ _. ⌜ now (ws .exit) ≡ statePut (now (ws .entry)) state ⌝ }
 {

@@ -1,9 +1,17 @@
+use Rattle.loader.specs.State.{rowsPlace, rowSize}
+use Prim.Native.Nat.{_+_, _*_}
 use lib.ListN.{length-set}
 use Rattle.loader.proofs.StateLaws.{row-stored}
 use native.Mathlib.Omega.{arith}
 use borrow.Author.Needs.{needs}
 use Rattle.loader.proofs.state.put_row.Statement.{statement}
 use Rattle.loader.proofs.state.put_row.Tie as tie
+
+mul-at : tie.Need-mul-at
+mul-at c = search needs
+
+add-at : tie.Need-add-at
+add-at c = search needs
 
 phase-word-requires : tie.Need-phase-word-requires
 phase-word-requires c κs = search needs
@@ -50,12 +58,14 @@ same-length c = search needs
 returns : tie.Need-returns
 returns c =
     let a = c .before .before .before .args in
-    row-stored (a .ws .now) (a .at) (a .row) (c .before .phase-word .ensures) (c .flag .ensures)
+    row-stored (a .ws .now) (rowsPlace + rowSize * a .i) (a .row) (c .before .phase-word .ensures) (c .flag .ensures)
 
 pub put-row-spec : {M : Type 1} → statement M
 put-row-spec =
     tie.close
     (tie.spec
+    mul-at
+    add-at
     phase-word-requires
     mul-ws
     slice-write-ws

@@ -4,7 +4,7 @@ use mathlib.Core.Path.{_≡_, refl}
 use lib.ListN.{length, drop, length-map}
 use lib.Seq.{sets}
 use Rattle.table.proofs.Promise.{rowCount}
-use Rattle.loader.specs.State.{stateWords, rowsPlace, tableWords}
+use Rattle.loader.specs.State.{stateWords, rowsPlace, rowSize, tableWords}
 use Rattle.loader.proofs.StateLaws.{rows-next, rows-end}
 use Rattle.loader.proofs.state.put_table.Statement.{statement}
 use Rattle.loader.proofs.state.put_table.Tie as tie
@@ -12,7 +12,7 @@ use Rattle.loader.proofs.state.put_table.Tie as tie
 abbrev Inv-loop : tie.InvT-loop
 Inv-loop ws₀ table i₀ ws i =
     (i ≤ rowCount) × (length (table .rows) ≡ rowCount) × (stateWords ≤ length ws) × (length ws ≡ length ws₀)
-    × (sets ws (rowsPlace + 4 * i) (tableWords (drop i (table .rows))) ≡ sets ws₀ rowsPlace (tableWords (table .rows)))
+    × (sets ws (rowsPlace + rowSize * i) (tableWords (drop i (table .rows))) ≡ sets ws₀ rowsPlace (tableWords (table .rows)))
 
 abbrev μ-loop : tie.MeasureT-loop
 μ-loop ws₀ table i₀ ws i = rowCount - i
@@ -26,14 +26,8 @@ mul-row c = omega arith
 element-copy-out-row : tie.Need-element-copy-out-row Inv-loop μ-loop
 element-copy-out-row c = omega arith
 
-mul-put-row : tie.Need-mul-put-row Inv-loop μ-loop
-mul-put-row c = omega arith
-
-add-put-row : tie.Need-add-put-row Inv-loop μ-loop
-add-put-row c = omega arith
-
 put-row-requires : tie.Need-put-row-requires Inv-loop μ-loop
-put-row-requires c κs = omega arith
+put-row-requires c κs = (omega arith, omega arith)
 
 add-i : tie.Need-add-i Inv-loop μ-loop
 add-i c = omega arith
@@ -66,8 +60,6 @@ put-table-spec =
     loop-holds
     mul-row
     element-copy-out-row
-    mul-put-row
-    add-put-row
     put-row-requires
     add-i
     loop-less
