@@ -10,7 +10,7 @@ use lib.Dec.{eqb}
 use lib.ListN.{length, getD, drop, length-take, length-drop}
 use lib.Seq.{getD-drop}
 use Rattle.hash.proofs.Promise.{bytesOf, words, same, same-not, bytes-length, bytes-words}
-use Rattle.tree.specs.Pick.{pick}
+use Rattle.base.specs.Pick.{pick}
 use Rattle.wire.proofs.Promise.{be32}
 use Rattle.wire.specs.declared.message.Options.{Options}
 use Rattle.wire.specs.declared.message.Options.the-variants.{Fixed, EndOnly, Other}

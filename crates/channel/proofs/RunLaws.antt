@@ -7,7 +7,7 @@ use mathlib.Core.Option.{Option, none, some}
 use borrow.Author.Tests.{eqb-true}
 use lib.Dec.{eqb}
 use Rattle.bits.proofs.Promise.{bitAt}
-use Rattle.tree.specs.Pick.{pick}
+use Rattle.base.specs.Pick.{pick}
 use Rattle.store.proofs.Promise.{Rooms, Integrity, countOf, chunkIn, Running, takeSpec, taken-running, taken-map, taken-bytes}
 use Rattle.channel.specs.World.{World, orderRoot, orderLength}
 use Rattle.channel.specs.Run.{Call, step, run, brings, orNext, firstBrought, wasBrought, broughtBytes}

@@ -5,7 +5,7 @@ use mathlib.Core.Path.{_≡_}
 use mathlib.Core.Bool.{Bool, true}
 use mathlib.Core.List.{List}
 use Rattle.bits.proofs.Promise.{bitAt, countBits}
-use Rattle.tree.specs.Pick.{pick}
+use Rattle.base.specs.Pick.{pick}
 use Rattle.store.proofs.Promise.{chunkIn, HangsIn, Whole, Alike}
 use Rattle.channel.specs.World.{World, orderRoot, orderLength, chunkCount}
 use Rattle.channel.specs.Ask.{Asked, askSpec}

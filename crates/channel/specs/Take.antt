@@ -5,7 +5,7 @@ use mathlib.Core.List.{List}
 use lib.Dec.{eqb}
 use lib.ListN.{length}
 use Rattle.hash.proofs.Promise.{same}
-use Rattle.tree.specs.Pick.{pick}
+use Rattle.base.specs.Pick.{pick}
 use Rattle.wire.proofs.Promise.{be32, placed, minSize, layoutOf}
 use Rattle.wire.specs.declared.message.Options.{Options}
 use Rattle.wire.specs.declared.message.Options.the-variants.{Fixed, EndOnly, Other}

@@ -16,7 +16,7 @@ use Rattle.wire.specs.declared.message.Step.{Step}
 use Rattle.wire.specs.declared.message.Step.the-variants.{Read, End, Refused}
 use Rattle.writer.proofs.Promise.{Item, onStep, readFrom}
 use Rattle.effects.specs.Effects.{Peer, peerOf, effect, effects}
-use Rattle.tree.proofs.PickLaws.{both-true}
+use Rattle.base.proofs.PickLaws.{both-true}
 use Rattle.effects.specs.Steps.{isQuiet, allQuiet, Turned, turnOf, turned}
 use Rattle.effects.proofs.ReadLaws.{read-more}
 

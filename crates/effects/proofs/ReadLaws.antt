@@ -10,7 +10,7 @@ use Rattle.wire.specs.declared.message.Message.{Message}
 use Rattle.wire.specs.declared.message.Step.{Step}
 use Rattle.wire.specs.declared.message.Step.the-variants.{Read, End, Refused}
 use Rattle.writer.proofs.Promise.{Item, onStep, readFrom}
-use Rattle.tree.specs.Pick.{pick}
+use Rattle.base.specs.Pick.{pick}
 use Rattle.effects.specs.Effects.{past, anyPast}
 use Rattle.effects.specs.Steps.{isQuiet, allQuiet, quietWithin}
 

@@ -2,7 +2,7 @@
 // peer has, what it wants and the choke mark.
 ghost use mathlib.Core.Path.{_≡_};
 ghost use mathlib.Core.Bool.{false};
-ghost use Rattle.tree.specs.Pick.{pick};
+ghost use Rattle.base.specs.Pick.{pick};
 ghost use Prim.Native.Nat.{_<_, _^_};
 ghost use Rattle.wire.proofs.Promise.{stepAt};
 ghost use Rattle.writer.proofs.Promise.{readAll};

@@ -10,8 +10,8 @@ use Rattle.hash.specs.Sha256.{sha256-is}
 use Rattle.hash.proofs.MessageLaws.{finished-append}
 use Rattle.hash.proofs.BytesLaws as bytes
 use Rattle.hash.proofs.SameLaws as same-laws
-pub use Rattle.lists.specs.Same.{same}
-pub use Rattle.lists.proofs.SameLaws.{same-refl, same-not, same-is}
+pub use Rattle.base.specs.Same.{same}
+pub use Rattle.base.proofs.SameLaws.{same-refl, same-not, same-is}
 pub use Rattle.hash.specs.Word.{Words, Bytes, words, bytesOf}
 pub use Rattle.hash.specs.Message.{H0, after, finished}
 pub use Rattle.hash.specs.Sha256.{sha256}

@@ -7,8 +7,8 @@ use Prim.Native.Nat.{ℕ, _<_}
 use native.Mathlib.Omega.{arith}
 use lib.ListN.{length, getD}
 use lib.Seq.{ext-getD}
-use Rattle.lists.specs.Same.{same}
-use Rattle.lists.proofs.SameLaws.{same-refl, same-not}
+use Rattle.base.specs.Same.{same}
+use Rattle.base.proofs.SameLaws.{same-refl, same-not}
 use Rattle.hash.specs.Word.{Words, bytesOf}
 use Rattle.hash.proofs.BytesLaws.{words-bytes}
 

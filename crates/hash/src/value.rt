@@ -4,7 +4,7 @@ ghost use mathlib.Core.List.{_++_};
 ghost use Prim.Native.Nat.{_+_, _/_, _%_, _^_, _<_, _≤_};
 ghost use lib.ListN.{length, drop, replicate};
 ghost use lib.Seq.{sets};
-ghost use Rattle.lists.specs.Same.{same};
+ghost use Rattle.base.specs.Same.{same};
 ghost use Rattle.hash.specs.Word.{word32, words, be, bytesOf};
 
 // Eight words: a hash value, and the working variables a to h on the way to the next.

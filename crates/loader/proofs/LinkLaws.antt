@@ -8,7 +8,7 @@ use mathlib.Core.List.{List, [], _∷_}
 use lib.Dec.{eqb}
 use lib.ListN.{length, getD}
 use lib.Seq.{sets, length-sets}
-use Rattle.tree.specs.Pick.{pick}
+use Rattle.base.specs.Pick.{pick}
 use Rattle.hash.proofs.Promise.{words}
 use Rattle.table.proofs.Promise.{rowCount}
 use Rattle.store.proofs.Promise.{root-words}

@@ -5,7 +5,7 @@ use mathlib.Core.Logic.{_≢_}
 use mathlib.Core.Bool.{Bool, true, false}
 use lib.Dec.{ltb}
 use lib.ListN.{length}
-use Rattle.tree.specs.Pick.{pick}
+use Rattle.base.specs.Pick.{pick}
 use Rattle.channel.proofs.Promise.{World, Out, outOf, Unaltered}
 use Rattle.loader.specs.State.{stateWords}
 use Rattle.loader.specs.Calls.{Lent, worldIn, leaving, encoded, callOn, callBeside}

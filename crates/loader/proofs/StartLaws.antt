@@ -8,7 +8,7 @@ use mathlib.Core.Bool.{Bool, true, false, not}
 use mathlib.Core.List.{List}
 use lib.Dec.{ltb, eqb}
 use lib.ListN.{length}
-use Rattle.tree.specs.Pick.{pick}
+use Rattle.base.specs.Pick.{pick}
 use Rattle.hash.proofs.Promise.{words, words-length}
 use Rattle.store.proofs.Promise.{lengthAnswer, refuse, both-zero, root-words}
 use Rattle.channel.proofs.Promise.{World, Out, outOf, startSpec, buildSpec, start-refused-same, build-refused-same, start-shaped, build-shaped, FreshOrBuilt, fresh, built}

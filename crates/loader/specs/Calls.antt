@@ -6,7 +6,7 @@ use mathlib.Core.List.{List}
 use mathlib.Core.Bool.{not}
 use lib.Dec.{ltb, eqb}
 use lib.ListN.{length}
-use Rattle.tree.specs.Pick.{pick}
+use Rattle.base.specs.Pick.{pick}
 use Rattle.hash.proofs.Promise.{words}
 use Rattle.store.proofs.Promise.{Rooms, roomsOf, refuse, earlier, lengthAnswer}
 use Rattle.store.specs.declared.calls.Order.{Order}

@@ -6,7 +6,7 @@ use mathlib.Core.List.{List, [], _∷_, _++_}
 use lib.Dec.{eqb}
 use lib.ListN.{getD}
 use lib.Seq.{sets}
-use Rattle.tree.specs.Pick.{pick}
+use Rattle.base.specs.Pick.{pick}
 use Rattle.table.proofs.Promise.{rowCount, freeTable}
 use Rattle.table.specs.declared.rows.Phase.{Phase}
 use Rattle.table.specs.declared.rows.Phase.the-variants.{Free, Calling, Open}

@@ -4,7 +4,7 @@
 ghost use mathlib.Core.Path.{_≡_};
 ghost use Prim.Native.Nat.{_≤_, _<_};
 ghost use lib.ListN.{length};
-ghost use Rattle.tree.specs.Pick.{pick};
+ghost use Rattle.base.specs.Pick.{pick};
 ghost use Rattle.script.proofs.Promise.{lineSize, fits};
 ghost use Rattle.trace.proofs.Promise.{digitsMax};
 use libc::STDIN_FILENO;

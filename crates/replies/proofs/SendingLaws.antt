@@ -10,7 +10,7 @@ use lib.Dec.{leb, ltb}
 use lib.ListN.{length, getD, take, drop, length-map}
 use lib.Pow.{pow-mono}
 use lib.Seq.{sets-eq, take-at}
-use Rattle.tree.specs.Pick.{pick}
+use Rattle.base.specs.Pick.{pick}
 use Rattle.tree.specs.Node.{Node, num, above}
 use Rattle.tree.specs.Pack.{chunkSize, maxLength, chunks, levels}
 use Rattle.tree.specs.Peaks.{sent, peakBit}

@@ -8,8 +8,8 @@ use lib.ListN.{length, take, drop}
 use lib.Seq.{sets, sets-eq, length-sets, take-append-seam}
 use lib.Dec.{ltb, eqb}
 use borrow.Author.Tests.{lt-ltb, le-ltb, le-leb, lt-leb, ltb-false}
-use Rattle.tree.specs.Pick.{pick}
-use Rattle.tree.proofs.PickLaws.{both-true}
+use Rattle.base.specs.Pick.{pick}
+use Rattle.base.proofs.PickLaws.{both-true}
 use Rattle.script.specs.Hex.{allDigits, decoded}
 use Rattle.script.specs.Frames.{hasLength, isFrame, Framed, framed, frameSpec}
 use Rattle.script.specs.declared.frames.Frame.{Frame}

@@ -8,7 +8,7 @@ use lib.ListN.{length, getD, set, take, drop, length-drop}
 use lib.Seq.{sets, take-all}
 use lib.Dec.{ltb}
 use borrow.Author.Tests.{lt-ltb, le-ltb, ltb-true}
-use Rattle.tree.proofs.PickLaws.{both-true}
+use Rattle.base.proofs.PickLaws.{both-true}
 use Rattle.script.specs.Hex.{among, digitOf, digitFor, allDigits, decoded, encoded}
 
 -- The part of a slice from an index on, as the code has it.

@@ -8,7 +8,7 @@ use lib.ListN.{length, getD, set, take, drop, length-set, length-append, length-
 use lib.Seq.{sets, drop-cons, drop-nil, take-nil, length-sets, length-take-le}
 use lib.Dec.{leb, eqb}
 use borrow.Author.Tests.{eq-eqb, ne-eqb, le-leb, lt-leb, leb-true, leb-false}
-use Rattle.tree.specs.Pick.{pick}
+use Rattle.base.specs.Pick.{pick}
 use Rattle.script.specs.Hex.{encoded}
 use Rattle.script.specs.Lines.{beforeFeed, filled, fitting, kept}
 use Rattle.script.specs.Answers.{answerLine, closingLine, lineSize, fits, appended}

@@ -6,7 +6,7 @@ use mathlib.Core.List.{List, [], _∷_}
 use Prim.Native.Nat.{ℕ, suc, _+_, _/_, _<_, _≤_, min}
 use lib.Dec.{eqb}
 use lib.ListN.{length, take}
-use Rattle.tree.specs.Pick.{pick}
+use Rattle.base.specs.Pick.{pick}
 use Rattle.script.specs.declared.frames.Frame.the-variants.{Bytes, Bad}
 use Rattle.script.proofs.FrameLaws as frames
 use Rattle.script.proofs.LineLaws as lines

@@ -6,7 +6,7 @@ use mathlib.Core.List.{List, [], _∷_, _++_}
 use lib.Dec.{leb}
 use lib.ListN.{length}
 use lib.Seq.{sets}
-use Rattle.tree.specs.Pick.{pick}
+use Rattle.base.specs.Pick.{pick}
 use Rattle.script.specs.Hex.{encoded}
 use Rattle.script.specs.Lines.{Filled, filled}
 

@@ -6,7 +6,7 @@ use mathlib.Core.List.{List}
 use lib.Dec.{ltb, leb, eqb}
 use lib.ListN.{length}
 use lib.Seq.{sets}
-use Rattle.tree.specs.Pick.{pick}
+use Rattle.base.specs.Pick.{pick}
 use Rattle.script.specs.Hex.{allDigits, decoded}
 use Rattle.script.specs.declared.frames.Frame.{Frame}
 use Rattle.script.specs.declared.frames.Frame.the-variants.{Bytes, Bad}

@@ -11,7 +11,7 @@ use lib.Dec.{eqb}
 use lib.ListN.{length, take, drop}
 use Rattle.hash.proofs.Promise.{sha256}
 use Rattle.bits.proofs.Promise.{bitAt, setBit, length-setBit, bitAt-set-same, bitAt-set-other}
-use Rattle.tree.specs.Pick.{pick}
+use Rattle.base.specs.Pick.{pick}
 use Rattle.tree.specs.Bin.{bin}
 use Rattle.tree.specs.Node.{other, above}
 use Rattle.tree.specs.Pack.{chunkSize, chunks, size, levels}

@@ -14,7 +14,7 @@ use lib.Pow.{pow-pos}
 use lib.ListN.{length, take, drop}
 use Rattle.hash.proofs.Promise.{sha256}
 use Rattle.bits.proofs.Promise.{setBit, setRange}
-use Rattle.tree.specs.Pick.{pick}
+use Rattle.base.specs.Pick.{pick}
 use Rattle.tree.specs.Bin.{bin}
 use Rattle.tree.specs.Node.{above}
 use Rattle.tree.specs.Pack.{chunkSize, chunks, size, levels}
@@ -29,7 +29,7 @@ use Rattle.verdict.proofs.RoomLaws.{digest-filler, digest-hash, length-putHash,
 use Rattle.store.proofs.WrittenLaws.{bin-eq}
 use Rattle.tree.proofs.NodeLaws.{split, above-in, above-unique, aligned-left, aligned-right}
 use Rattle.tree.proofs.PackLaws.{high-bound}
-use Rattle.tree.proofs.PickLaws.{both-true}
+use Rattle.base.proofs.PickLaws.{both-true}
 use Rattle.tree.proofs.SoundLaws.{combined-peaks}
 use Rattle.tree.proofs.TreeLaws.{tree-leaf, tree-step, combined-root}
 

@@ -9,7 +9,7 @@ use lib.Dec.{eqb}
 use lib.ListN.{length, take}
 use Rattle.hash.proofs.Promise.{bytesOf}
 use Rattle.bits.proofs.Promise.{bitAt, rowWords}
-use Rattle.tree.specs.Pick.{pick}
+use Rattle.base.specs.Pick.{pick}
 use Rattle.tree.specs.Pack.{chunkSize, maxLength, size, leafPlaces}
 use Rattle.verdict.proofs.RoomLaws.{digest-words}
 use Rattle.store.proofs.BegunLaws.{start-running, start-not-same, start-same-sizes, start-empty, build-running, build-not-same, build-same-sizes, build-bytes, build-whole}

@@ -12,7 +12,7 @@ use lib.Pow.{pow-pos}
 use lib.ListN.{length, take, drop}
 use Rattle.hash.proofs.Promise.{sha256}
 use Rattle.bits.proofs.Promise.{bitAt, setBit, rowWords, bitAt-set-same, bitAt-set-other, length-clearWords, bitAt-clearWords-in, row-words}
-use Rattle.tree.specs.Pick.{pick}
+use Rattle.base.specs.Pick.{pick}
 use Rattle.tree.specs.Bin.{bin}
 use Rattle.tree.specs.Node.{above}
 use Rattle.tree.specs.Pack.{chunkSize, chunks, size, levels, leafPlaces, rootNode}

@@ -11,7 +11,7 @@ use lib.Dec.{eqb}
 use lib.ListN.{length}
 use lib.Seq.{length-paste}
 use Rattle.bits.proofs.Promise.{bitAt, length-setBit, row-room}
-use Rattle.tree.specs.Pick.{pick}
+use Rattle.base.specs.Pick.{pick}
 use Rattle.tree.specs.Pack.{chunkSize, size, levels, leafPlaces}
 use Rattle.tree.specs.Peaks.{peaks}
 use Rattle.tree.specs.State.{State, adopted}

@@ -9,7 +9,7 @@ use native.Mathlib.Decide.{ℕ-discrete}
 use borrow.Author.Tests.{lt-ltb, le-ltb, eq-eqb, ne-eqb, eqb-true, eqb-false, leb-true}
 use lib.Dec.{leb, ltb, eqb}
 use lib.Pow.{pow-pos}
-use Rattle.tree.specs.Pick.{pick}
+use Rattle.base.specs.Pick.{pick}
 use Rattle.tree.specs.Bin.{bin}
 use Rattle.tree.specs.Node.{other, above}
 use Rattle.tree.specs.Pack.{levels}
@@ -20,7 +20,7 @@ use Rattle.store.specs.Storing.{Put, putIf, putPeaks, putPath}
 use Rattle.tree.proofs.BinLaws.{bin-inj}
 use Rattle.tree.proofs.NodeLaws.{split, above-left, above-right, other-left, other-right, above-aligned, parent-right, parent-above, aligned-left, aligned-right, child-cases}
 use Rattle.tree.proofs.PackLaws.{high-bound}
-use Rattle.tree.proofs.PickLaws.{both-true, either}
+use Rattle.base.proofs.PickLaws.{both-true, either}
 use Rattle.tree.proofs.PeakTests.{peak-bit, bit-peak}
 
 -- ---- nodes by their numbers

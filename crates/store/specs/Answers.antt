@@ -6,7 +6,7 @@ use lib.Dec.{leb, ltb, eqb}
 use Rattle.bits.proofs.Promise.{rowWords}
 use Rattle.tree.specs.Pack.{chunkSize, maxLength, size, leafPlaces}
 use Rattle.verdict.specs.Rooms.{countOf}
-pub use Rattle.tree.specs.Pick.{earlier}
+pub use Rattle.base.specs.Pick.{earlier}
 
 -- The number n where a test holds, and otherwise what the rest gives.
 abbrev pub refuse : Bool → ℕ → ℕ → ℕ

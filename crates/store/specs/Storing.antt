@@ -6,7 +6,7 @@ use lib.Seq.{paste}
 use lib.ListN.{length}
 use Rattle.bits.proofs.Promise.{bitAt, setBit}
 use Rattle.hash.proofs.Promise.{sha256}
-use Rattle.tree.specs.Pick.{pick}
+use Rattle.base.specs.Pick.{pick}
 use Rattle.tree.specs.Bin.{bin}
 use Rattle.tree.specs.Node.{above, other}
 use Rattle.tree.specs.Pack.{chunkSize, levels}

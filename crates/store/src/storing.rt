@@ -4,7 +4,7 @@ ghost use Prim.Native.Nat.{suc, _+_, _*_, _<_, _≤_};
 ghost use lib.ListN.{length};
 ghost use Rattle.bits.proofs.Promise.{setBit};
 ghost use Rattle.hash.proofs.Promise.{bytesOf, sha256};
-ghost use Rattle.tree.specs.Pick.{pick};
+ghost use Rattle.base.specs.Pick.{pick};
 ghost use Rattle.tree.specs.Bin.{bin};
 ghost use Rattle.tree.specs.Node.{above, other};
 ghost use Rattle.tree.specs.Pack.{chunkSize, levels};

@@ -4,7 +4,7 @@ use mathlib.Core.Bool.{Bool, true, false}
 use mathlib.Core.List.{List, []}
 use lib.Dec.{leb, eqb}
 use lib.ListN.{length, take, drop, replicate}
-use Rattle.tree.specs.Pick.{pick}
+use Rattle.base.specs.Pick.{pick}
 use Rattle.hash.proofs.Promise.{words}
 use Rattle.store.specs.declared.calls.Order.{Order}
 use Rattle.wire.proofs.Promise.{be32, be64}

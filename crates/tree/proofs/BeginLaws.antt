@@ -8,7 +8,7 @@ use native.Mathlib.Omega.{arith}
 use borrow.Author.Tests.{le-leb, eq-eqb, ne-eqb, eqb-true, ltb-true, leb-true}
 use lib.Dec.{leb, ltb, eqb}
 use lib.Pow.{pow-pos}
-use Rattle.tree.specs.Pick.{pick}
+use Rattle.base.specs.Pick.{pick}
 use Rattle.tree.specs.Node.{above}
 use Rattle.tree.specs.Pack.{levels}
 use Rattle.tree.specs.Tree.{root, combined}
@@ -16,7 +16,7 @@ use Rattle.tree.specs.State.{isPeak, started, built, Sound}
 use Rattle.tree.proofs.NodeLaws.{split, above-inside}
 use Rattle.tree.proofs.PackLaws.{levels-holds, high-bound}
 use Rattle.tree.proofs.TreeLaws.{tree-leaf, tree-step, given-whole, combined-root}
-use Rattle.tree.proofs.PickLaws.{both-true}
+use Rattle.base.proofs.PickLaws.{both-true}
 
 at-root : (N h a : ℕ) → pick (eqb h (levels N)) (eqb a 0) false ≡ true → (h ≡ levels N) × (a ≡ 0)
 at-root N h a e = let g = both-true (eqb h (levels N)) (eqb a 0) e in (eqb-true h (levels N) (g .0), eqb-true a 0 (g .1))

@@ -8,13 +8,13 @@ use native.Mathlib.Omega.{arith}
 use borrow.Author.Tests.{lt-ltb, le-ltb, eq-eqb, ne-eqb, eqb-true, ltb-true}
 use lib.Dec.{leb, ltb, eqb}
 use lib.Pow.{pow-pos}
-use Rattle.tree.specs.Pick.{pick}
+use Rattle.base.specs.Pick.{pick}
 use Rattle.tree.specs.Node.{other, above}
 use Rattle.tree.specs.Tree.{root, combined, joined, climb}
 use Rattle.tree.specs.State.{State, isPeak, onPath, adopted, hung, Sound}
 use Rattle.tree.proofs.NodeLaws.{split, above-left, above-right, other-left, other-right, whole-below, above-aligned, parent-right, parent-above, aligned-left, aligned-right, above-zero, child-cases}
 use Rattle.tree.proofs.TreeLaws.{joined-left, joined-right, climb-suc}
-use Rattle.tree.proofs.PickLaws.{both-true, either}
+use Rattle.base.proofs.PickLaws.{both-true, either}
 use Rattle.tree.proofs.SoundLaws.{combined-peaks}
 
 climb-zero : (H : List ℕ → List ℕ) (sib : ℕ → ℕ → List ℕ) (v : List ℕ) (c a : ℕ) → climb H sib v c zero a ≡ v

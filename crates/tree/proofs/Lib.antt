@@ -1,5 +1,4 @@
 -- What the proofs of several functions cite.
-pub mod PickLaws
 pub mod BinLaws
 pub mod RangeLaws
 pub mod NodeLaws

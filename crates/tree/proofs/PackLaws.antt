@@ -6,7 +6,7 @@ use native.Mathlib.Omega.{arith}
 use borrow.Author.Tests.{le-leb, lt-leb}
 use lib.Dec.{leb}
 use lib.Pow.{pow-pos, pow-mono}
-use Rattle.tree.specs.Pick.{pick}
+use Rattle.base.specs.Pick.{pick}
 use Rattle.tree.specs.Pack.{least, levels}
 use Rattle.tree.proofs.NodeLaws.{split}
 use Rattle.tree.proofs.BinLaws.{below-pow}

@@ -7,14 +7,14 @@ use Prim.Native.Nat.{ℕ, zero, suc, _+_, _/_, _%_, _^_, _≤_, _<_}
 use native.Mathlib.Omega.{arith}
 use borrow.Author.Tests.{lt-ltb, le-leb, eqb-true, eqb-false, ltb-true, leb-true}
 use lib.Dec.{leb, ltb, eqb}
-use Rattle.tree.specs.Pick.{pick}
+use Rattle.base.specs.Pick.{pick}
 use Rattle.tree.specs.Node.{Node, node, above}
 use Rattle.tree.specs.Pack.{levels}
 use Rattle.tree.specs.Peaks.{peaks, peakOf}
 use Rattle.tree.specs.State.{isPeak}
 use Rattle.tree.specs.Verdicts.{every}
 use Rattle.tree.specs.Steps.{peakAt, peaksBelow}
-use Rattle.tree.proofs.PickLaws.{both-true}
+use Rattle.base.proofs.PickLaws.{both-true}
 use Rattle.tree.proofs.NodeLaws.{split, above-in, above-left, above-right, unique, above-aligned, parent-above, aligned-left, child-cases}
 use Rattle.tree.proofs.PackLaws.{high-bound}
 use Rattle.tree.proofs.PeakLaws.{peaks-bits, peak-of}

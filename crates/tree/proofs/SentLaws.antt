@@ -10,7 +10,7 @@ use native.Mathlib.Decide.{le-ind}
 use borrow.Author.Tests.{lt-ltb, le-ltb, le-leb, lt-leb, eq-eqb, ne-eqb, leb-true}
 use lib.Dec.{leb, ltb}
 use lib.Pow.{pow-pos}
-use Rattle.tree.specs.Pick.{pick}
+use Rattle.base.specs.Pick.{pick}
 use Rattle.tree.specs.Node.{Node, node, other, above}
 use Rattle.tree.specs.Pack.{levels}
 use Rattle.tree.specs.Peaks.{peaks, peakOf, siblings, before, insert, sort, sent, peakBit}

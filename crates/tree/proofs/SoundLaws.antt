@@ -8,7 +8,7 @@ use native.Mathlib.Omega.{arith}
 use borrow.Author.Tests.{lt-ltb, le-leb, leb-true}
 use lib.Dec.{leb, ltb}
 use lib.Pow.{pow-pos}
-use Rattle.lists.specs.Same.{same}
+use Rattle.base.specs.Same.{same}
 use Rattle.tree.specs.Node.{above}
 use Rattle.tree.specs.Pack.{levels}
 use Rattle.tree.specs.Tree.{given, combined}
@@ -17,7 +17,7 @@ use Rattle.tree.specs.Walk.{Hangs}
 use Rattle.tree.proofs.NodeLaws.{split, above-left, above-right, above-top, whole-down, above-aligned, parent-right, aligned-left, aligned-right, above-zero}
 use Rattle.tree.proofs.PackLaws.{levels-holds}
 use Rattle.tree.proofs.TreeLaws.{given-empty, given-whole, given-mixed}
-use Rattle.tree.proofs.PickLaws.{both-true}
+use Rattle.base.proofs.PickLaws.{both-true}
 
 -- ---- what the peaks give depends on the peaks alone
 

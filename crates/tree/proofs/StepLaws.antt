@@ -9,7 +9,7 @@ use borrow.Author.Tests.{lt-ltb, le-ltb, leb-true, leb-false, eq-eqb, ne-eqb}
 use lib.Dec.{leb, ltb}
 use lib.ListN.{length, set, length-append, length-map}
 use lib.Seq.{sets}
-use Rattle.tree.specs.Pick.{pick}
+use Rattle.base.specs.Pick.{pick}
 use Rattle.tree.specs.Node.{Node, num, above}
 use Rattle.tree.specs.State.{isPeak}
 use Rattle.tree.specs.Peaks.{peakBit}

@@ -5,9 +5,9 @@ use mathlib.Core.Bool.{Bool, true, false, true≢false}
 use mathlib.Core.List.{List}
 use Prim.Native.Nat.{ℕ, zero, suc, _+_, _^_, _≤_, _<_}
 use native.Mathlib.Omega.{arith}
-use Rattle.lists.specs.Same.{same}
-use Rattle.lists.proofs.SameLaws.{same-is}
-use Rattle.tree.specs.Pick.{pick}
+use Rattle.base.specs.Same.{same}
+use Rattle.base.proofs.SameLaws.{same-is}
+use Rattle.base.specs.Pick.{pick}
 use Rattle.tree.specs.Node.{above}
 use Rattle.tree.specs.Pack.{levels}
 use Rattle.tree.specs.Peaks.{peaks, peakOf}
@@ -19,7 +19,7 @@ use Rattle.tree.specs.declared.verdict.Verdict.the-variants.{Fits, Missi
 use Rattle.tree.proofs.NodeLaws.{split, whole-below, above-aligned}
 use Rattle.tree.proofs.PackLaws.{high-bound}
 use Rattle.tree.proofs.PeakLaws.{peaks-bits, peak-of}
-use Rattle.tree.proofs.PickLaws.{either}
+use Rattle.base.proofs.PickLaws.{either}
 use Rattle.tree.proofs.PeakTests.{bit-peak, some-bits, all-peaks, peak-test}
 use Rattle.tree.proofs.HungLaws.{hung-sound, adopted-sound}
 

@@ -7,9 +7,9 @@ use Prim.Native.Nat.{ℕ, zero, suc, _+_, _/_, _%_, _^_, _≤_, _<_}
 use native.Mathlib.Omega.{arith}
 use borrow.Author.Tests.{eqb-true, leb-true}
 use lib.Dec.{leb, ltb}
-use Rattle.lists.specs.Same.{same}
-use Rattle.lists.proofs.SameLaws.{same-refl}
-use Rattle.tree.specs.Pick.{pick}
+use Rattle.base.specs.Same.{same}
+use Rattle.base.proofs.SameLaws.{same-refl}
+use Rattle.base.specs.Pick.{pick}
 use Rattle.tree.specs.Node.{Node, other, above}
 use Rattle.tree.specs.Pack.{levels}
 use Rattle.tree.specs.Peaks.{peaks, peakOf, siblings, peakBit}
@@ -22,7 +22,7 @@ use Rattle.tree.proofs.NodeLaws.{down-above, whole-below, above-aligned
 use Rattle.tree.proofs.PackLaws.{high-bound}
 use Rattle.tree.proofs.TreeLaws.{combined-root, climb-true}
 use Rattle.tree.proofs.PeakLaws.{peaks-bits}
-use Rattle.tree.proofs.PickLaws.{both-true}
+use Rattle.base.proofs.PickLaws.{both-true}
 use Rattle.tree.proofs.PeakTests.{bit-peak, all-peaks, peak-test}
 use Rattle.tree.proofs.SoundLaws.{combined-peaks}
 use Rattle.tree.proofs.TakeLaws.{Reached, reach-finds}

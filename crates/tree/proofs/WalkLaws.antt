@@ -9,9 +9,9 @@ use native.Mathlib.Omega.{arith}
 use lib.Dec.{ltb}
 use lib.ListN.{length, take, drop}
 use lib.Seq.{take-at, drop-at}
-use Rattle.lists.specs.Same.{same}
-use Rattle.lists.proofs.SameLaws.{same-is, same-refl}
-use Rattle.tree.specs.Pick.{pick}
+use Rattle.base.specs.Same.{same}
+use Rattle.base.proofs.SameLaws.{same-is, same-refl}
+use Rattle.base.specs.Pick.{pick}
 use Rattle.tree.specs.Node.{Node, node, down, above}
 use Rattle.tree.specs.Pack.{levels}
 use Rattle.tree.specs.Tree.{given, combined}

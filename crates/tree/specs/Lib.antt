@@ -1,4 +1,3 @@
-pub mod Pick
 pub mod Bin
 pub mod Node
 pub mod Pack

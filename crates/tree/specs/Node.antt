@@ -3,7 +3,7 @@
 use Prim.Native.Nat.{ℕ, suc, _+_, _*_, _/_, _^_}
 use lib.Dec.{ltb}
 use Rattle.tree.specs.Bin.{bin, height, first}
-use Rattle.tree.specs.Pick.{pick}
+use Rattle.base.specs.Pick.{pick}
 
 pub record Node : Type 0 where
   pub high : ℕ

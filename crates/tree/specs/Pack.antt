@@ -5,7 +5,7 @@ use mathlib.Core.List.{List}
 use lib.Dec.{leb}
 use lib.ListN.{take, drop}
 use Rattle.tree.specs.Bin.{bin}
-use Rattle.tree.specs.Pick.{pick}
+use Rattle.base.specs.Pick.{pick}
 
 -- Chunks are 1,024 bytes, the last one 1 to 1,024; a pack has at most 524,288 bytes.
 abbrev pub chunkSize : ℕ

@@ -2,7 +2,7 @@
 use Prim.Native.Nat.{ℕ, _+_}
 use mathlib.Core.Bool.{Bool, false}
 use lib.Dec.{eqb}
-use Rattle.tree.specs.Pick.{pick}
+use Rattle.base.specs.Pick.{pick}
 use Rattle.tree.specs.Bin.{first, last}
 use Rattle.tree.specs.declared.bin.RangeNode.{RangeNode}
 use Rattle.tree.specs.declared.bin.RangeNode.the-variants.{Node, NoNode}

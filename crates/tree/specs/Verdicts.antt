@@ -4,8 +4,8 @@ use Prim.Native.Nat.{ℕ, zero, suc}
 use mathlib.Core.Bool.{Bool, true, false}
 use mathlib.Core.List.{List, [], _∷_}
 use mathlib.Core.Option.{Option, none, some}
-use Rattle.lists.specs.Same.{same}
-use Rattle.tree.specs.Pick.{pick}
+use Rattle.base.specs.Same.{same}
+use Rattle.base.specs.Pick.{pick}
 use Rattle.tree.specs.Node.{Node, above}
 use Rattle.tree.specs.Pack.{levels}
 use Rattle.tree.specs.Peaks.{peaks, siblings}

@@ -6,8 +6,8 @@ use mathlib.Core.Logic.{_≢_}
 use mathlib.Core.Bool.{true}
 use mathlib.Core.List.{List, _++_}
 use mathlib.Core.Option.{Option, none, some}
-use Rattle.lists.specs.Same.{same}
-use Rattle.tree.specs.Pick.{pick}
+use Rattle.base.specs.Same.{same}
+use Rattle.base.specs.Pick.{pick}
 use Rattle.tree.specs.Node.{Node, node, down, above}
 use Rattle.tree.specs.Pack.{levels}
 use Rattle.tree.specs.Tree.{given, combined}

@@ -11,7 +11,7 @@ use lib.Dec.{leb}
 use lib.ListN.{length, take, drop, getD, length-drop}
 use lib.Seq.{take-length}
 use Rattle.hash.proofs.Promise.{bytesOf, words, words-length}
-use Rattle.tree.specs.Pick.{pick}
+use Rattle.base.specs.Pick.{pick}
 use Rattle.tree.specs.Verdicts.{isThere, orElse}
 use Rattle.verdict.specs.Room.{filler, Digest}
 use Rattle.verdict.specs.Integrity.{Integrity, integrityOf, find, placeOr, hashFrom, hashFor, came, gotAt}

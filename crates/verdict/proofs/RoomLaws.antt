@@ -11,7 +11,7 @@ use lib.Dec.{ltb}
 use lib.ListN.{length, take, getD, set, length-set, replicate, length-append}
 use lib.Seq.{sets, length-sets, getD-set-same, getD-set-other, take-length, append-snoc, getD-append-seam}
 use Rattle.hash.proofs.Promise.{sha256, bytesOf, words, Words, sha256-length, sha256-bytes, bytes-length, bytes-below, words-length, words-bytes, bytes-words}
-use Rattle.tree.specs.Pick.{pick}
+use Rattle.base.specs.Pick.{pick}
 use Rattle.verdict.specs.Room.{filler, Digest, wordsAt, holds, hashIn, putHash}
 use Rattle.tree.proofs.NodeLaws.{split}
 

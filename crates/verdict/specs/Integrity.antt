@@ -7,7 +7,7 @@ use mathlib.Core.Bool.{Bool}
 use lib.Dec.{leb, eqb}
 use lib.ListN.{length, drop}
 use Rattle.hash.proofs.Promise.{bytesOf, words}
-use Rattle.tree.specs.Pick.{pick}
+use Rattle.base.specs.Pick.{pick}
 use Rattle.tree.specs.Bin.{bin}
 use Rattle.tree.specs.Verdicts.{Came, isThere, orElse}
 use Rattle.verdict.specs.Room.{filler}

@@ -8,7 +8,7 @@ use lib.Dec.{ltb}
 use lib.ListN.{length, getD, replicate}
 use lib.Seq.{sets}
 use Rattle.hash.proofs.Promise.{bytesOf, words, Bytes}
-use Rattle.tree.specs.Pick.{pick}
+use Rattle.base.specs.Pick.{pick}
 
 -- The filler: 32 zero bytes.
 unfoldable pub filler : List ℕ

@@ -3,7 +3,7 @@ ghost use mathlib.Core.Path.{_≡_};
 ghost use Prim.Native.Nat.{_≤_, _<_, _^_};
 ghost use mathlib.Core.Bool.{false};
 ghost use Rattle.hash.proofs.Promise.{bytesOf, sha256};
-ghost use Rattle.tree.specs.Pick.{pick};
+ghost use Rattle.base.specs.Pick.{pick};
 ghost use Rattle.tree.specs.Pack.{levels};
 ghost use Rattle.tree.specs.Peaks.{peaks, peakBit};
 ghost use Rattle.tree.specs.Steps.{peakAt, folded};

@@ -4,7 +4,7 @@ ghost use Prim.Native.Nat.{ℕ, suc, _≤_, _<_, _^_};
 ghost use mathlib.Core.Bool.{true, false};
 ghost use lib.ListN.{length};
 ghost use Rattle.hash.proofs.Promise.{bytesOf, sha256, same};
-ghost use Rattle.tree.specs.Pick.{pick};
+ghost use Rattle.base.specs.Pick.{pick};
 ghost use Rattle.tree.specs.Node.{above, other};
 ghost use Rattle.tree.specs.Pack.{levels};
 ghost use Rattle.tree.specs.Peaks.{peaks, siblings};

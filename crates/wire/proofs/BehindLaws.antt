@@ -9,7 +9,7 @@ use lib.ListN.{length, getD, drop, length-append, length-drop}
 use lib.Seq.{drop-append-le}
 use lib.Dec.{ltb, eqb}
 use borrow.Author.Tests.{le-ltb, eq-eqb, ne-eqb, ltb-false, eqb-true, eqb-false}
-use Rattle.tree.specs.Pick.{pick}
+use Rattle.base.specs.Pick.{pick}
 use Rattle.wire.specs.Bytes.{be16}
 use Rattle.wire.specs.Options.{code, headSize, bodySize, optionSize, optionsFrom, optionsSize}
 use Rattle.wire.proofs.LocalLaws.{byte-local, be16-local}

@@ -9,7 +9,7 @@ use lib.ListN.{length, getD, take, drop, set, length-drop}
 use lib.Seq.{drop-drop, getD-drop}
 use lib.Dec.{eqb}
 use borrow.Author.Tests.{lt-ltb, le-ltb, eq-eqb, ne-eqb}
-use Rattle.tree.specs.Pick.{pick}
+use Rattle.base.specs.Pick.{pick}
 use Rattle.wire.specs.Bytes.{be32, placed}
 use Rattle.wire.specs.Limits.{minSize, maxSize, entryWords}
 use Rattle.wire.specs.Layout.{Checked, checkedOf, seen, isEndOnly, handshakeFault, orFault, handshakeLayout, layoutOf, checkSpec}

@@ -7,7 +7,7 @@ use mathlib.Core.Bool.{Bool, true, false, true≢false}
 use lib.ListN.{length, take, drop, length-drop}
 use lib.Dec.{ltb, eqb}
 use borrow.Author.Tests.{lt-ltb, le-ltb, le-leb, lt-leb, eq-eqb, ne-eqb, ltb-true, ltb-false}
-use Rattle.tree.specs.Pick.{pick}
+use Rattle.base.specs.Pick.{pick}
 use Rattle.wire.specs.Bytes.{begins}
 use Rattle.wire.specs.Options.{code, headSize, bodySize, optionSize, optionsFrom, isFixed, fixedHead, fixedTail}
 use Rattle.wire.proofs.BytesLaws.{part, begins-short}

@@ -5,7 +5,7 @@ use mathlib.Core.List.{List, [], _∷_}
 use mathlib.Core.Bool.{Bool, true, false}
 use lib.ListN.{length, getD, take}
 use lib.Dec.{leb, eqb}
-use Rattle.tree.specs.Pick.{pick}
+use Rattle.base.specs.Pick.{pick}
 use Rattle.wire.specs.Bytes.{placed}
 use Rattle.wire.specs.Limits.{minSize, maxSize, entryWords}
 use Rattle.wire.specs.Layout.{Checked, checkedOf, seen, handshakeLayout, layoutFrom}

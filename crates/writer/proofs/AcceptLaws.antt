@@ -7,7 +7,7 @@ use mathlib.Core.Bool.{Bool, true, false, not, true≢false}
 use lib.ListN.{length, take, length-append}
 use lib.Dec.{ltb}
 use borrow.Author.Tests.{ltb-false, not-false}
-use Rattle.tree.specs.Pick.{pick, earlier}
+use Rattle.base.specs.Pick.{pick, earlier}
 use Rattle.tree.specs.Range.{covers}
 use Rattle.wire.specs.Bytes.{be32}
 use Rattle.wire.specs.Limits.{minSize, maxSize}

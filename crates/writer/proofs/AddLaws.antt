@@ -8,7 +8,7 @@ use lib.ListN.{length, length-append}
 use lib.Seq.{drop-append-seam}
 use lib.Dec.{ltb, eqb}
 use borrow.Author.Tests.{le-ltb, eq-eqb}
-use Rattle.tree.specs.Pick.{pick}
+use Rattle.base.specs.Pick.{pick}
 use Rattle.tree.specs.Range.{covers}
 use Rattle.wire.specs.Bytes.{be32}
 use Rattle.wire.specs.Limits.{minSize, maxSize}

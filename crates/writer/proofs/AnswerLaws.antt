@@ -8,7 +8,7 @@ use mathlib.Core.Bool.{Bool, true, false, not}
 use lib.ListN.{length, take, replicate, length-append, length-replicate}
 use lib.Seq.{length-take-le}
 use borrow.Author.Tests.{lt-ltb, le-ltb, eq-eqb, ne-eqb, not-false}
-use Rattle.tree.specs.Pick.{pick, earlier}
+use Rattle.base.specs.Pick.{pick, earlier}
 use Rattle.tree.specs.Range.{nodeOfRange}
 use Rattle.tree.specs.declared.bin.RangeNode.{RangeNode}
 use Rattle.tree.specs.declared.bin.RangeNode.the-variants.{Node, NoNode}

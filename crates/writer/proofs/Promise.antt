@@ -7,7 +7,7 @@ use mathlib.Core.Bool.{true}
 use Prim.Native.Nat.{ℕ, zero, suc, _+_, _<_, _≤_, _^_}
 use lib.ListN.{length}
 use lib.Dec.{ltb}
-use Rattle.tree.specs.Pick.{pick}
+use Rattle.base.specs.Pick.{pick}
 use Rattle.wire.proofs.Promise.{be32, placed, minSize, maxSize, numberOf, layoutOf}
 use Rattle.wire.specs.declared.message.Message.{Message}
 use Rattle.writer.proofs.SizeLaws.{bytes-length}

@@ -9,7 +9,7 @@ use denote.Enum.Declared.{tagOf}
 use lib.Dec.{leb}
 use lib.ListN.{length, length-append}
 use types.Run.{OneOf, miss}
-use Rattle.tree.proofs.PickLaws.{both-true}
+use Rattle.base.proofs.PickLaws.{both-true}
 use Rattle.wire.specs.Options.{fixedHead, fixedTail}
 use Rattle.wire.specs.declared.message.Options.{Options}
 use Rattle.wire.specs.declared.message.Options.the-variants.{Fixed, EndOnly, Other}

@@ -4,7 +4,7 @@ use mathlib.Core.List.{List, _++_}
 use mathlib.Core.Bool.{Bool, true, false, not}
 use lib.ListN.{length, take}
 use lib.Dec.{ltb}
-use Rattle.tree.specs.Pick.{pick, earlier}
+use Rattle.base.specs.Pick.{pick, earlier}
 use Rattle.wire.specs.Bytes.{placed}
 use Rattle.wire.specs.Limits.{minSize, maxSize}
 use Rattle.wire.specs.Layout.{numberOf, layoutOf}

@@ -2,7 +2,7 @@ use borrow.Author.Needs.{needs}
 use native.Mathlib.Omega.{arith}
 use mathlib.Core.Path.{_≡_, refl, sym, _∙_}
 use mathlib.Core.Bool.{false}
-use Rattle.tree.specs.Pick.{pick}
+use Rattle.base.specs.Pick.{pick}
 use Rattle.writer.proofs.Promise.{readFrom, readAll}
 use Rattle.effects.specs.Effects.{anyPast}
 use Rattle.effects.specs.Steps.{allQuiet}

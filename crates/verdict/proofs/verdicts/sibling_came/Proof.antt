@@ -1,6 +1,6 @@
 use mathlib.Core.Path.{sym, ap, _∙_}
 use mathlib.Core.Bool.{Bool, false}
-use Rattle.tree.specs.Pick.{pick}
+use Rattle.base.specs.Pick.{pick}
 use Rattle.verdict.specs.Integrity.{integrityOf, came}
 use borrow.Author.Needs.{needs}
 use Rattle.verdict.proofs.verdicts.sibling_came.Statement.{statement}

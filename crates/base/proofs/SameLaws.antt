@@ -8,7 +8,7 @@ use native.Mathlib.Omega.{arith}
 use native.Mathlib.Decide.{ℕ-discrete}
 use borrow.Author.Tests.{eq-eqb, ne-eqb}
 use lib.Dec.{eqb}
-use Rattle.lists.specs.Same.{both, same}
+use Rattle.base.specs.Same.{both, same}
 
 pub same-refl : (s : List ℕ) → same s s ≡ true
 unfolding same

@@ -1,2 +1,3 @@
 -- What the crates above may cite.
+pub mod PickLaws
 pub mod SameLaws

@@ -1,0 +1,3 @@
+-- What is said in more than one crate.
+pub mod Pick
+pub mod Same

@@ -1,1 +1,0 @@
-// Definitions and laws on lists that hash and tree share: no function.
