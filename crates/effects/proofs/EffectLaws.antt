@@ -50,7 +50,7 @@ others = 0 ∷ 1 ∷ 4 ∷ []
 pub others-do : (b : ℕ) (m : Peer) (i : Message) → OneOf others (tagOf message.the-type i) → m ≡ effect b i m
 unfolding effect
 others-do b m (Handshake a o) h = refl
-others-do b m (Data c x p n) h = refl
+others-do b m (Data f l x p n) h = refl
 others-do b m (Ack f l d) h = absurd (miss others 2 tt h)
 others-do b m (Have f l) h = absurd (miss others 3 tt h)
 others-do b m (Integrity f l d) h = refl
@@ -108,7 +108,7 @@ effects-none b s at left m e = rw e
 quiet-effect : (b : ℕ) (i : Message) (m : Peer) → isQuiet i ≡ true → effect b i m ≡ m
 unfolding isQuiet effect
 quiet-effect b (Handshake a o) m h = refl
-quiet-effect b (Data c x p n) m h = refl
+quiet-effect b (Data f l x p n) m h = refl
 quiet-effect b (Ack f l d) m h = absurd (true≢false (sym h))
 quiet-effect b (Have f l) m h = absurd (true≢false (sym h))
 quiet-effect b (Integrity f l d) m h = refl

@@ -14,7 +14,7 @@ use Rattle.writer.proofs.Promise.{Item}
 -- Whether a message's range reaches past N-1: by its layout first is not above last, so the last chunk decides.
 unfoldable pub past : ℕ → Message → Bool
 past N (Handshake a o) = false
-past N (Data c x b n) = leb N c
+past N (Data f l x b n) = leb N l
 past N (Ack f l d) = leb N l
 past N (Have f l) = leb N l
 past N (Integrity f l h) = leb N l
@@ -43,7 +43,7 @@ peerOf has wants choked = record { has = has; wants = wants; choked = choked }
 -- REQUEST sets wants; CANCEL clears them; CHOKE sets a mark, UNCHOKE clears it". INTEGRITY and DATA change none of these.
 unfoldable pub effect : ℕ → Message → Peer → Peer
 effect b (Handshake a o) m = m
-effect b (Data c x p n) m = m
+effect b (Data f l x p n) m = m
 effect b (Ack f l d) m = peerOf (setRange (m .has) (b + f) (b + l + 1)) (clearRange (m .wants) (b + f) (b + l + 1)) (m .choked)
 effect b (Have f l) m = peerOf (setRange (m .has) (b + f) (b + l + 1)) (clearRange (m .wants) (b + f) (b + l + 1)) (m .choked)
 effect b (Integrity f l h) m = m

@@ -13,7 +13,7 @@ use Rattle.effects.specs.Effects.{anyPast, Peer, effect}
 -- Whether a message has no effect on has, wants and the mark.
 unfoldable pub isQuiet : Message → Bool
 isQuiet (Handshake a o) = true
-isQuiet (Data c x p n) = true
+isQuiet (Data f l x p n) = true
 isQuiet (Ack f l d) = false
 isQuiet (Have f l) = false
 isQuiet (Integrity f l h) = true

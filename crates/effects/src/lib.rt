@@ -24,11 +24,12 @@ fn past(message: Message, n: u32) -> bool
             options: _,
         } => false,
         Message::Data {
-            chunk,
+            first: _,
+            last,
             timestamp: _,
             start: _,
             len: _,
-        } => n <= chunk,
+        } => n <= last,
         Message::Ack {
             first: _,
             last,
@@ -57,7 +58,8 @@ fn is_quiet(message: Message) -> bool
             options: _,
         } => true,
         Message::Data {
-            chunk: _,
+            first: _,
+            last: _,
             timestamp: _,
             start: _,
             len: _,

@@ -42,12 +42,12 @@ unfolding sizeOf
 ack-size f l d = refl
 
 -- A DATA message can be written from its chunk.
-pub data-writable : (n c x : ℕ) → writable n (Data c x 0 n) ≡ true
+pub data-writable : (n c x : ℕ) → writable n (Data c c x 0 n) ≡ true
 unfolding writable
 data-writable n c x = rw (le-leb n n (omega arith), le-leb 0 (n - n) (omega arith))
 
 -- It takes 17 bytes and its chunk's.
-pub data-size : (c x b n : ℕ) → sizeOf (Data c x b n) ≡ 17 + n
+pub data-size : (c x b n : ℕ) → sizeOf (Data c c x b n) ≡ 17 + n
 unfolding sizeOf
 data-size c x b n = refl
 
@@ -72,12 +72,12 @@ module _ (room : List ℕ) (to : ℕ) (large : maxSize ≤ length room) {a k : �
   -- The hashes that go out with a chunk put behind the destination, and DATA behind them, are the chunk's datagram.
   pub chunk-done : (hashes : List ℕ) (N c time : ℕ) (bytes : List ℕ) {ns : List ℕ} → ns ≡ map num (sent N c) → {x n : List ℕ} {q r : ℕ}
       → (q ≡ minSize + integritySize * length ns) × (x ≡ placed m minSize (encode (map (hashItem hashes) ns)))
-      → (r ≡ q + sizeOf (Data c time 0 (length bytes))) × (n ≡ placed x q (bytesOf bytes (Data c time 0 (length bytes))))
+      → (r ≡ q + sizeOf (Data c c time 0 (length bytes))) × (n ≡ placed x q (bytesOf bytes (Data c c time 0 (length bytes))))
       → (r ≡ length (chunkReply hashes to N c time bytes)) × (n ≡ placed room 0 (chunkReply hashes to N c time bytes))
   unfolding chunkReply
   chunk-done hashes N c time bytes {ns} e p q =
       let is = map (hashItem hashes) ns in
-      let i = itemOf bytes (Data c time 0 (length bytes)) in
+      let i = itemOf bytes (Data c c time 0 (length bytes)) in
       rw (← e)
       (stand-datagram room to (is ++ (i ∷ [])) (begun room to large begins .1)
       (stand-more m minSize is i (data-writable (length bytes) c time) (p .0 ∙ ap (λ (j : ℕ). minSize + j) (sym (items-long hashes ns)), p .1) q))
@@ -101,5 +101,5 @@ pub chunk-length : (hashes : List ℕ) (to N c time : ℕ) (bytes : List ℕ) �
 unfolding chunkReply
 chunk-length hashes to N c time bytes h l =
     let ns = map num (sent N c) in
-    let i = itemOf bytes (Data c time 0 (length bytes)) in
+    let i = itemOf bytes (Data c c time 0 (length bytes)) in
     omega (arith, datagram-last to (map (hashItem hashes) ns) i (data-writable (length bytes) c time), items-long hashes ns, length-map (sent N c) num, sent-few N c h, data-size c time 0 (length bytes))

@@ -29,4 +29,4 @@ hashItem hashes b = itemOf (hashIn hashes b) (Integrity (first b) (last b) 0)
 -- The datagram of chunk c of N: all peaks and all siblings below its peak in their order, then DATA with the given clock.
 unfoldable pub chunkReply : List ℕ → ℕ → ℕ → ℕ → ℕ → List ℕ → List ℕ
 chunkReply hashes to N c time bytes =
-    datagram to (map (hashItem hashes) (map num (sent N c)) ++ (itemOf bytes (Data c time 0 (length bytes)) ∷ []))
+    datagram to (map (hashItem hashes) (map num (sent N c)) ++ (itemOf bytes (Data c c time 0 (length bytes)) ∷ []))

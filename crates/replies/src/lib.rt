@@ -106,7 +106,8 @@ pub fn chunk(
     add::begin(reply, destination);
     let at = put_hashes(reply, hashes, &nodes[0..count]);
     let message = Message::Data {
-        chunk: c,
+        first: c,
+        last: c,
         timestamp,
         start: 0,
         len: bytes.len(),

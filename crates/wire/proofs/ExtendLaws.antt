@@ -8,7 +8,7 @@ use mathlib.Core.Bool.{Bool, true, false}
 use lib.ListN.{length, getD, drop, length-append, length-drop}
 use lib.Seq.{drop-append-le}
 use lib.Dec.{eqb}
-use borrow.Author.Tests.{le-ltb, ne-eqb}
+use borrow.Author.Tests.{le-ltb, eq-eqb, ne-eqb}
 use Rattle.base.specs.Pick.{pick}
 use Rattle.wire.specs.Bytes.{be32}
 use Rattle.wire.specs.Limits.{minSize, maxSize}
@@ -117,7 +117,8 @@ module _ (p b es : List ℕ) (at : ℕ) (t : List ℕ) (here : length p ≡ at +
 
   with-data : getD t 0 0 ≡ 1 → 17 ≤ length t → firstOf t ≡ lastOf t → numberOf (layoutStep (p ++ b) es at (stepOf at (t ++ b)) g .layout) ≡ 0
   with-data e l o =
-      rw (data-is at (t ++ b) (byte-local t b 0 (omega arith) ∙ e) (omega (arith, length-append t b)) (be32-local t b 1 (omega arith) ∙ o ∙ sym (be32-local t b 5 (omega arith))))
+      let one : firstOf (t ++ b) ≡ lastOf (t ++ b) = be32-local t b 1 (omega arith) ∙ o ∙ sym (be32-local t b 5 (omega arith)) in
+      rw (data-is at (t ++ b) (byte-local t b 0 (omega arith) ∙ e) (omega (arith, length-append t b)), eq-eqb (firstOf (t ++ b)) (lastOf (t ++ b)) one)
 
   pub step-extended : (st : Step) → View at t st
       → (length t < 1 → (m : ℕ) → length b < m → layoutStep (p ++ b) es at (stepOf at (t ++ b)) g ≡ layoutFrom m (p ++ b) es (length p))

@@ -64,7 +64,7 @@ numbered-step : (s es : List ℕ) (at : ℕ) (rest : List ℕ → ℕ → Checke
 numbered-step s es at rest h End = tt
 numbered-step s es at rest h Refused = (omega arith, omega arith)
 numbered-step s es at rest h (Read (Handshake a o) next) = numbered-handshake s at (next .at) a o
-numbered-step s es at rest h (Read (Data c x b n) next) = tt
+numbered-step s es at rest h (Read (Data f l x b n) next) = tt
 numbered-step s es at rest h (Read (Ack f l d) next) = h es (next .at)
 numbered-step s es at rest h (Read (Have f l) next) = h es (next .at)
 numbered-step s es at rest h (Read (Integrity f l d) next) =

@@ -46,7 +46,7 @@ abbrev pub Plain : Step → Type 0
 Plain End = ⊥
 Plain Refused = ⊥
 Plain (Read (Handshake a o) x) = ⊥
-Plain (Read (Data c d e f) x) = ⊥
+Plain (Read (Data c d e f g) x) = ⊥
 Plain (Read (Ack c d e) x) = Unit {0}
 Plain (Read (Have c d) x) = Unit {0}
 Plain (Read (Integrity c d e) x) = Unit {0}

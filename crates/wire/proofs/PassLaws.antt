@@ -77,7 +77,7 @@ module _ (s room : List ℕ) (used at next : ℕ) {m : Message} where
   turn-handshake e p = rw (e, p)
 
   -- DATA
-  pub turn-data : {c x b n : ℕ} → m ≡ Data c x b n → turnedOf (Over (MessagesAndData c x b n used)) room ≡ turnOn s room used at next m
+  pub turn-data : {f l x b n : ℕ} → m ≡ Data f l x b n → turnedOf (Over (MessagesAndData f x b n used)) room ≡ turnOn s room used at next m
   turn-data e = rw e
 
   -- INTEGRITY
@@ -158,7 +158,7 @@ module _ (s room : List ℕ) (used at size : ℕ) (rest : List ℕ → ℕ → C
   went End r e = absurd (on-over e)
   went Refused r e = absurd (on-over e)
   went (Read (Handshake a o) c) r e = absurd (on-over e)
-  went (Read (Data k x b m) c) r e = absurd (on-over e)
+  went (Read (Data k l x b m) c) r e = absurd (on-over e)
   went (Read (Ack f l d) c) r e = plain (c .at) (omega (arith, r .forward)) e
   went (Read (Have f l) c) r e = plain (c .at) (omega (arith, r .forward)) e
   went (Read (Integrity f l h) c) r e = stored (c .at) (f + l) h (r .inside) (r .forward) e
@@ -183,7 +183,7 @@ module _ (s room : List ℕ) (used at : ℕ) (rest : List ℕ → ℕ → Checke
   ended End k e = rw k (ends (Messages used) e)
   ended Refused k e = ends (Fault 2) e
   ended (Read (Handshake a o) c) k e = ends (handshakeLayout s at (c .at) a o) e
-  ended (Read (Data d x b m) c) k e = rw k (ends (MessagesAndData d x b m used) e)
+  ended (Read (Data d l x b m) c) k e = rw k (ends (MessagesAndData d x b m used) e)
   ended (Read (Ack f g d) c) k e = absurd (on-over (sym e))
   ended (Read (Have f g) c) k e = absurd (on-over (sym e))
   ended (Read (Integrity f g h) c) k e = by (seen (f + g) (take used room)) e

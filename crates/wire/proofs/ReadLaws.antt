@@ -125,7 +125,7 @@ module _ (at : ℕ) (t : List ℕ) where
 
     -- DATA
     pub data-good : 17 ≤ length t → r .first ≡ r .last → {x : ℕ} → x ≡ be64 t 9
-        → Read (Data (r .first) x (at + 17) (length t - 17)) (cursor (at + length t)) ≡ dataAt at t
+        → Read (Data (r .first) (r .last) x (at + 17) (length t - 17)) (cursor (at + length t)) ≡ dataAt at t
     unfolding dataAt
     data-good h p xe = let f = first-is t e in let l = last-is t e in simp (le-ltb _ _ h, ← f, ← l, eq-eqb (r .first) (r .last) p, ← xe)
 

@@ -19,7 +19,7 @@ nextOf at Refused = at
 -- the bytes of an INTEGRITY message; 0 of another
 abbrev pub spanOf : Message → ℕ
 spanOf (Handshake a o) = 0
-spanOf (Data c x b n) = 0
+spanOf (Data f l x b n) = 0
 spanOf (Ack f l d) = 0
 spanOf (Have f l) = 0
 spanOf (Integrity f l h) = 41

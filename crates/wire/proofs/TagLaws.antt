@@ -32,7 +32,7 @@ plain = 2 ∷ 3 ∷ 5 ∷ 6 ∷ 7 ∷ 8 ∷ []
 -- the pass goes on
 pub turn-plain : (s room : List ℕ) (used at next : ℕ) (m : Message) → OneOf plain (tagOf message.the-type m) → turnedOf (On next used) room ≡ turnOn s room used at next m
 turn-plain s room used at next (Handshake a o) h = absurd (miss plain 0 tt h)
-turn-plain s room used at next (Data c x b n) h = absurd (miss plain 1 tt h)
+turn-plain s room used at next (Data f l x b n) h = absurd (miss plain 1 tt h)
 turn-plain s room used at next (Ack f l d) h = refl
 turn-plain s room used at next (Have f l) h = refl
 turn-plain s room used at next (Integrity f l d) h = absurd (miss plain 4 tt h)

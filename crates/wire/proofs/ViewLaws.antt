@@ -7,7 +7,7 @@ use mathlib.Core.List.{List}
 use mathlib.Core.Bool.{Bool, true, false, not}
 use lib.ListN.{length, getD, drop}
 use lib.Dec.{ltb, eqb}
-use borrow.Author.Tests.{lt-ltb, le-ltb, eq-eqb, ne-eqb, ltb-true, ltb-false, eqb-true, eqb-false, not-false}
+use borrow.Author.Tests.{lt-ltb, le-ltb, ne-eqb, ltb-true, ltb-false, eqb-true, eqb-false, not-false}
 use Rattle.base.specs.Pick.{pick}
 use Rattle.tree.specs.Range.{covers}
 use Rattle.wire.specs.Bytes.{be32, be64}
@@ -33,10 +33,10 @@ module _ (at : ℕ) (t : List ℕ) where
   unfolding typed handshakeAt
   handshake-is e l o = typed-is 0 (omega arith) e ∙ rw (le-ltb (length t) 5 l, ne-eqb (optionsSize (drop 5 t)) 0 o)
 
-  pub data-is : getD t 0 0 ≡ 1 → 17 ≤ length t → firstOf t ≡ lastOf t
-      → stepOf at t ≡ Read (Data (firstOf t) (be64 t 9) (at + 17) (length t - 17)) (cursor (at + length t))
+  pub data-is : getD t 0 0 ≡ 1 → 17 ≤ length t
+      → stepOf at t ≡ refusing (not (eqb (firstOf t) (lastOf t))) (Read (Data (firstOf t) (lastOf t) (be64 t 9) (at + 17) (length t - 17)) (cursor (at + length t)))
   unfolding typed dataAt
-  data-is e l o = typed-is 1 (omega arith) e ∙ rw (le-ltb (length t) 17 l, eq-eqb (firstOf t) (lastOf t) o)
+  data-is e l = typed-is 1 (omega arith) e ∙ rw (le-ltb (length t) 17 l)
 
   pub ack-is : getD t 0 0 ≡ 2 → 17 ≤ length t → stepOf at t ≡ refusing (ltb (lastOf t) (firstOf t)) (Read (Ack (firstOf t) (lastOf t) (be64 t 9)) (cursor (at + 17)))
   unfolding typed ackAt
@@ -74,7 +74,7 @@ pub data View (at : ℕ) (t : List ℕ) : Step → Type 0 where
   a-handshake : getD t 0 0 ≡ 0 → 5 ≤ length t → (optionsSize (drop 5 t) ≡ 0 → ⊥)
       → View at t (Read (Handshake (be32 t 1) (kindOf (at + 5) (drop 5 t))) (cursor (at + 5 + optionsSize (drop 5 t))))
   a-data : getD t 0 0 ≡ 1 → 17 ≤ length t → firstOf t ≡ lastOf t
-      → View at t (Read (Data (firstOf t) (be64 t 9) (at + 17) (length t - 17)) (cursor (at + length t)))
+      → View at t (Read (Data (firstOf t) (lastOf t) (be64 t 9) (at + 17) (length t - 17)) (cursor (at + length t)))
   an-ack : getD t 0 0 ≡ 2 → 17 ≤ length t → firstOf t ≤ lastOf t → View at t (Read (Ack (firstOf t) (lastOf t) (be64 t 9)) (cursor (at + 17)))
   a-have : getD t 0 0 ≡ 3 → 9 ≤ length t → firstOf t ≤ lastOf t → View at t (Read (Have (firstOf t) (lastOf t)) (cursor (at + 9)))
   an-integrity : getD t 0 0 ≡ 4 → 41 ≤ length t → covers (firstOf t + lastOf t) (firstOf t) (lastOf t) ≡ true

@@ -64,7 +64,7 @@ handshakeLayout s at next a o =
 -- over the chunks f..l has the number f + l (tree, Range).
 abbrev pub layoutOn : List ℕ → List ℕ → ℕ → ℕ → Message → (List ℕ → Checked) → Checked
 layoutOn s es at next (Handshake a o) rest = checkedOf (handshakeLayout s at next a o) es
-layoutOn s es at next (Data c x b n) rest = checkedOf (MessagesAndData c x b n (length es)) es
+layoutOn s es at next (Data f l x b n) rest = checkedOf (MessagesAndData f x b n (length es)) es
 layoutOn s es at next (Integrity f l h) rest = pick (seen (f + l) es) (checkedOf (Fault 2) es) (rest (es ++ ((f + l) ∷ h ∷ [])))
 layoutOn s es at next (Ack f l d) rest = rest es
 layoutOn s es at next (Have f l) rest = rest es

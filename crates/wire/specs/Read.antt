@@ -42,7 +42,7 @@ unfoldable pub dataAt : ℕ → List ℕ → Step
 dataAt at t =
     refusing (ltb (length t) 17)
     (refusing (not (eqb (firstOf t) (lastOf t)))
-    (Read (Data (firstOf t) (be64 t 9) (at + 17) (length t - 17)) (cursor (at + length t))))
+    (Read (Data (firstOf t) (lastOf t) (be64 t 9) (at + 17) (length t - 17)) (cursor (at + length t))))
 
 -- 2, ACK (8.7): range, delay.
 unfoldable pub ackAt : ℕ → List ℕ → Step

@@ -34,7 +34,7 @@ noted room used node hash next =
 -- A message from `at` to `next`.
 abbrev pub turnOn : List ℕ → List ℕ → ℕ → ℕ → ℕ → Message → Turned
 turnOn s room used at next (Handshake a o) = turnedOf (Over (handshakeLayout s at next a o)) room
-turnOn s room used at next (Data c x b n) = turnedOf (Over (MessagesAndData c x b n used)) room
+turnOn s room used at next (Data f l x b n) = turnedOf (Over (MessagesAndData f x b n used)) room
 turnOn s room used at next (Integrity f l h) = noted room used (f + l) h next
 turnOn s room used at next (Ack f l d) = turnedOf (On next used) room
 turnOn s room used at next (Have f l) = turnedOf (On next used) room

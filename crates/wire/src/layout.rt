@@ -172,13 +172,14 @@ fn take_message(
             layout: handshake(datagram, at, next, source, options),
         },
         Message::Data {
-            chunk,
+            first,
+            last: _,
             timestamp,
             start,
             len,
         } => Turn::Over {
             layout: Layout::MessagesAndData {
-                chunk,
+                chunk: first,
                 timestamp,
                 start,
                 len,

@@ -13,9 +13,10 @@ pub enum Message {
         source: u32,
         options: Options,
     },
-    // The chunk's bytes begin at start and are len many.
+    // The chunk's bytes begin at start and are len many. What is read names one chunk; what is to be added may name any.
     Data {
-        chunk: u32,
+        first: u32,
+        last: u32,
         timestamp: u64,
         start: usize,
         len: usize,

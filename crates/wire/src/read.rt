@@ -63,7 +63,8 @@ fn chunk(rest: &[u8], at: usize) -> Step
         return Step::Refused;
     }
     let message = Message::Data {
-        chunk: r.first,
+        first: r.first,
+        last: r.last,
         timestamp: bytes::load64(rest, 9),
         start: at + 17,
         len: rest.len() - 17,

@@ -5,7 +5,7 @@ use mathlib.Core.Path.{_≡_, refl, sym, ap, _∙_}
 use mathlib.Core.List.{List, _++_}
 use mathlib.Core.Bool.{Bool, true, false, not, true≢false}
 use lib.ListN.{length, take, length-append}
-use lib.Dec.{ltb}
+use lib.Dec.{ltb, eqb}
 use borrow.Author.Tests.{ltb-false, not-false}
 use Rattle.base.specs.Pick.{pick, earlier}
 use Rattle.tree.specs.Range.{covers}
@@ -67,6 +67,10 @@ range-good : (x : Bool) → _≡_ {A = ℕ} (pick x 2 0) 0 → not x ≡ true
 range-good true e = absurd (omega arith)
 range-good false e = refl
 
+chunk-good : (x : Bool) → _≡_ {A = ℕ} (pick x 0 2) 0 → x ≡ true
+chunk-good true e = refl
+chunk-good false e = absurd (omega arith)
+
 node-good : (x : Bool) (n : ℕ) → pick x n 2 ≡ 0 → x ≡ true
 node-good true n e = refl
 node-good false n e = absurd (omega arith)
@@ -74,7 +78,7 @@ node-good false n e = absurd (omega arith)
 pub good-message : (es : List ℕ) (to len : ℕ) (m : Message) → faultBehind es to len m ≡ 0 → allowed m ≡ true
 unfolding faultBehind
 good-message es to len (Handshake a o) e = refl
-good-message es to len (Data c x b n) e = refl
+good-message es to len (Data f l x b n) e = chunk-good (eqb f l) e
 good-message es to len (Ack f l d) e = range-good (ltb l f) e
 good-message es to len (Have f l) e = range-good (ltb l f) e
 good-message es to len (Integrity f l h) e = node-good (covers (f + l) f l) (pick (seen (f + l) es) 2 0) e
@@ -87,7 +91,7 @@ good-message es to len Unchoke e = refl
 pub size-some : (m : Message) → 1 ≤ sizeOf m
 unfolding sizeOf
 size-some (Handshake a o) = omega arith
-size-some (Data c x b n) = omega arith
+size-some (Data f l x b n) = omega arith
 size-some (Ack f l d) = omega arith
 size-some (Have f l) = omega arith
 size-some (Integrity f l h) = omega arith

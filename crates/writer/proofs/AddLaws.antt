@@ -7,7 +7,7 @@ use mathlib.Core.Bool.{Bool, true, false, not}
 use lib.ListN.{length, length-append}
 use lib.Seq.{drop-append-seam}
 use lib.Dec.{ltb, eqb}
-use borrow.Author.Tests.{le-ltb, eq-eqb}
+use borrow.Author.Tests.{eq-eqb}
 use Rattle.base.specs.Pick.{pick}
 use Rattle.tree.specs.Range.{covers}
 use Rattle.wire.specs.Bytes.{be32}
@@ -50,6 +50,10 @@ module _ (s gs : List ℕ) (at next : ℕ) (to : ℕ) (dest : be32 s 0 ≡ to) (
   ranged true m e = refl
   ranged false m e = e
 
+  one-chunk : (x : Bool) (m : Message) → numberAt (Read m (cursor next)) ≡ 0 → numberAt (refusing (not x) (Read m (cursor next))) ≡ pick x 0 2
+  one-chunk true m e = e
+  one-chunk false m e = refl
+
   noded : (x : Bool) (f l h : ℕ) → numberAt (refusing (not x) (Read (Integrity f l h) (cursor next))) ≡ pick x (pick (seen (f + l) gs) 2 0) 2
   noded false f l h = refl
   noded true f l h = by (seen (f + l) gs)
@@ -67,7 +71,7 @@ module _ (s gs : List ℕ) (at next : ℕ) (to : ℕ) (dest : be32 s 0 ≡ to) (
   pub step-number : (m : Message) → numberAt (refusing (not (allowed m)) (Read (moved at m) (cursor next))) ≡ faultBehind gs to at m
   unfolding faultBehind
   step-number (Handshake a o) = opening a o
-  step-number (Data c x b n) = rw (le-ltb c c (omega arith))
+  step-number (Data f l x b n) = one-chunk (eqb f l) (Data f l x (at + 17) n) refl
   step-number (Ack f l d) = ranged (ltb l f) (Ack f l d) (passes gs)
   step-number (Have f l) = ranged (ltb l f) (Have f l) (passes gs)
   step-number (Integrity f l h) = noded (covers (f + l) f l) f l (at + 9)
@@ -78,7 +82,7 @@ module _ (s gs : List ℕ) (at next : ℕ) (to : ℕ) (dest : be32 s 0 ≡ to) (
 
 nothing-behind : (m : Message) → Behind m []
 nothing-behind (Handshake a o) = tt
-nothing-behind (Data c x b n) = refl
+nothing-behind (Data f l x b n) = refl
 nothing-behind (Ack f l d) = tt
 nothing-behind (Have f l) = tt
 nothing-behind (Integrity f l h) = tt

@@ -5,7 +5,7 @@ use native.Mathlib.Omega.{arith}
 use mathlib.Core.Path.{_≡_, refl, sym, ap, _∙_}
 use mathlib.Core.List.{List, [], _∷_, _++_, append-assoc, append-nil}
 use mathlib.Core.Bool.{Bool, true, false, not, true≢false}
-use lib.Dec.{ltb}
+use lib.Dec.{ltb, eqb}
 use lib.ListN.{length, getD, length-append}
 use lib.Seq.{drop-at}
 use Rattle.tree.specs.Range.{covers}
@@ -33,7 +33,7 @@ use Rattle.writer.proofs.NumberLaws.{range-first, range-last, range-typ
 -- Whether the table allows a message's range.
 abbrev pub allowed : Message → Bool
 allowed (Handshake a o) = true
-allowed (Data c x b n) = true
+allowed (Data f l x b n) = eqb f l
 allowed (Ack f l d) = not (ltb l f)
 allowed (Have f l) = not (ltb l f)
 allowed (Integrity f l h) = covers (f + l) f l
@@ -50,7 +50,7 @@ movedOptions at Other = Other
 
 abbrev pub moved : ℕ → Message → Message
 moved at (Handshake a o) = Handshake a (movedOptions (at + 5) o)
-moved at (Data c x b n) = Data c x (at + 17) n
+moved at (Data f l x b n) = Data f l x (at + 17) n
 moved at (Ack f l d) = Ack f l d
 moved at (Have f l) = Have f l
 moved at (Integrity f l h) = Integrity f l (at + 9)
@@ -90,16 +90,15 @@ module _ (at f l : ℕ) (hf : f < 2 ^ 32) (hl : l < 2 ^ 32) where
       (integrity-is at (rangeBytes 4 f l ++ q) (range-type 4 f l q) (omega (arith, long 4 f l q, length-append w r))
       ∙ rw (range-first 4 f l q hf, range-last 4 f l q hl))
 
--- DATA reaches to the end
-data-back : (at c x : ℕ) (w : List ℕ) → c < 2 ^ 32 → x < 2 ^ 64
-    → stepOf at (rangeBytes 1 c c ++ (bytes64 x ++ w)) ≡ Read (Data c x (at + 17) (length w)) (cursor (at + (17 + length w)))
-data-back at c x w hc hx =
-    let q = bytes64 x ++ w in
-    let t = rangeBytes 1 c c ++ q in
-    let e : length t ≡ 17 + length w = omega (arith, long 1 c c q, length-append (bytes64 x) w, size64 x) in
-    let d : length t - 17 ≡ length w = omega arith in
-    data-is at t (range-type 1 c c q) (omega arith) (range-first 1 c c q hc ∙ sym (range-last 1 c c q hc))
-    ∙ rw (range-first 1 c c q hc, range-time 1 c c q x w hx refl, d, e)
+  -- DATA reaches to the end
+  data-back : (x : ℕ) (w : List ℕ) → x < 2 ^ 64
+      → stepOf at (rangeBytes 1 f l ++ (bytes64 x ++ w)) ≡ refusing (not (eqb f l)) (Read (Data f l x (at + 17) (length w)) (cursor (at + (17 + length w))))
+  data-back x w hx =
+      let q = bytes64 x ++ w in
+      let t = rangeBytes 1 f l ++ q in
+      let e : length t ≡ 17 + length w = omega (arith, long 1 f l q, length-append (bytes64 x) w, size64 x) in
+      let d : length t - 17 ≡ length w = omega arith in
+      data-is at t (range-type 1 f l q) (omega arith) ∙ rw (range-first 1 f l q hf, range-last 1 f l q hl, range-time 1 f l q x w hx refl, d, e)
 
 -- ---- HANDSHAKE
 
@@ -167,7 +166,7 @@ module _ (s : List ℕ) (at a : ℕ) (ha : a < 2 ^ 32) where
 -- Nothing may stand behind DATA.
 abbrev pub Behind : Message → List ℕ → Type 0
 Behind (Handshake a o) r = Unit {0}
-Behind (Data c x b n) r = r ≡ []
+Behind (Data f l x b n) r = r ≡ []
 Behind (Ack f l d) r = Unit {0}
 Behind (Have f l) r = Unit {0}
 Behind (Integrity f l h) r = Unit {0}
@@ -180,9 +179,9 @@ pub message-back : (s : List ℕ) (at : ℕ) (m : Message) → Fits m → writab
     → stepOf at (bytesOf s m ++ r) ≡ refusing (not (allowed m)) (Read (moved at m) (cursor (at + sizeOf m)))
 unfolding bytesOf sizeOf writable
 message-back s at (Handshake a o) h w r n = options-back s at a h o w r
-message-back s at (Data c x b k) h w r n =
+message-back s at (Data f l x b k) h w r n =
     let e = within-length s b k (lies-in (length s) b k w) in
-    rw (n, append-nil) (data-back at c x (within s b k) (h .0) (h .1) ∙ rw e)
+    rw (n, append-nil) (data-back at f l (h .0) (h .1) x (within s b k) (h .2) ∙ rw e)
 message-back s at (Ack f l d) h w r n = ack-back at f l (h .0) (h .1) d r (h .2)
 message-back s at (Have f l) h w r n = range-back at f l (h .0) (h .1) 3 Have (have-is at) r
 message-back s at (Integrity f l b) h w r n = integrity-back at f l (h .0) (h .1) (within s b 32) r (within-length s b 32 (lies-in (length s) b 32 w))

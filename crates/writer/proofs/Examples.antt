@@ -12,10 +12,11 @@ use Rattle.wire.specs.Layout.{checkedOf, handshakeFault, handshakeLayout, layou
 use Rattle.wire.specs.declared.message.Options.the-variants.{Fixed, EndOnly}
 use Rattle.wire.specs.declared.message.Message.{Message}
 use Rattle.wire.specs.declared.message.Message.the-variants.{Handshake, Data, Ack, Have, Integrity, Request, Cancel, Choke, Unchoke}
-use Rattle.wire.specs.declared.message.Step.the-variants.{Read}
+use Rattle.wire.specs.declared.message.Step.the-variants.{Read, Refused}
 use Rattle.wire.specs.declared.layout.Layout.the-variants.{HandshakeAlone}
 use Rattle.writer.specs.Bytes.{bytes32, bytes64, rangeBytes}
-use Rattle.writer.specs.Message.{optionBytes, bytesOf, optionSpan, sizeOf}
+use Rattle.writer.specs.Message.{optionBytes, bytesOf, writable, optionSpan, sizeOf}
+use Rattle.writer.specs.Add.{addAnswer}
 use Rattle.writer.proofs.BackLaws.{moved}
 
 -- A message is written as these bytes, and they are read as it, behind a destination.
@@ -38,9 +39,14 @@ unfolding bytesOf rangeBytes bytes32 bytes64 sizeOf stepOf typed ackAt
 ack = (refl, refl)
 
 -- DATA of chunk 6 at the time 258, three bytes of the source from index 1 on.
-pub chunk : Worked (9 ∷ 1 ∷ 2 ∷ 3 ∷ 9 ∷ []) (Data 6 258 1 3) (1 ∷ 0 ∷ 0 ∷ 0 ∷ 6 ∷ 0 ∷ 0 ∷ 0 ∷ 6 ∷ 0 ∷ 0 ∷ 0 ∷ 0 ∷ 0 ∷ 0 ∷ 1 ∷ 2 ∷ 1 ∷ 2 ∷ 3 ∷ [])
+pub chunk : Worked (9 ∷ 1 ∷ 2 ∷ 3 ∷ 9 ∷ []) (Data 6 6 258 1 3) (1 ∷ 0 ∷ 0 ∷ 0 ∷ 6 ∷ 0 ∷ 0 ∷ 0 ∷ 6 ∷ 0 ∷ 0 ∷ 0 ∷ 0 ∷ 0 ∷ 0 ∷ 1 ∷ 2 ∷ 1 ∷ 2 ∷ 3 ∷ [])
 unfolding bytesOf rangeBytes bytes32 bytes64 sizeOf stepOf typed dataAt
 chunk = (refl, refl)
+
+-- DATA of 5..6 is no message of the table, and adding it to a datagram that was begun gives 2.
+pub two-chunks : (stepOf 4 (bytesOf [] (Data 5 6 0 0 0)) ≡ Refused) × (addAnswer (replicate 2048 0) 4 (Data 5 6 0 0 0) [] ≡ 2)
+unfolding bytesOf rangeBytes bytes32 bytes64 stepOf typed dataAt addAnswer writable layoutOf layoutFrom
+two-chunks = (refl, refl)
 
 -- INTEGRITY of the node over 4..7, whose hash is 32 bytes of 170.
 pub integrity : Worked (replicate 32 170) (Integrity 4 7 0) (4 ∷ 0 ∷ 0 ∷ 0 ∷ 4 ∷ 0 ∷ 0 ∷ 0 ∷ 7 ∷ replicate 32 170)

@@ -48,13 +48,14 @@ module _ (s l : List ℕ) (at : ℕ) where
       (placed-then l at (0 ∷ []) (bytes32 a) (at + 1) refl e p) q
 
   -- a DATA message: type and range, time, chunk
-  pub placed-data : (c t b n : ℕ) {o m r : List ℕ}
-      → o ≡ placed l at (rangeBytes 1 c c) → m ≡ placed o (at + 9) (bytes64 t) → r ≡ placed m (at + 17) (take (b + n - b) (drop b s)) → r ≡ placed l at (bytesOf s (Data c t b n))
+  pub placed-data : (f h t b n : ℕ) {o m r : List ℕ}
+      → o ≡ placed l at (rangeBytes 1 f h) → m ≡ placed o (at + 9) (bytes64 t) → r ≡ placed m (at + 17) (take (b + n - b) (drop b s)) → r ≡ placed l at (bytesOf s (Data f h t b n))
   unfolding bytesOf
-  placed-data c t b n {m = m} e p q =
-      let f : m ≡ placed l at (rangeBytes 1 c c ++ bytes64 t) = placed-then l at (rangeBytes 1 c c) (bytes64 t) (at + 9) (rw sizeRange) e p in
-      let g : at + length (rangeBytes 1 c c ++ bytes64 t) ≡ at + 17 = simp (length-append, sizeRange, size64) in
-      rw (← append-assoc (rangeBytes 1 c c) (bytes64 t) (within s b n)) (placed-then l at (rangeBytes 1 c c ++ bytes64 t) (within s b n) (at + 17) g f (within-part s b n m (at + 17) q))
+  placed-data f h t b n {m = m} e p q =
+      let head = rangeBytes 1 f h ++ bytes64 t in
+      let d : m ≡ placed l at head = placed-then l at (rangeBytes 1 f h) (bytes64 t) (at + 9) (rw sizeRange) e p in
+      let g : at + length head ≡ at + 17 = simp (length-append, sizeRange, size64) in
+      rw (← append-assoc (rangeBytes 1 f h) (bytes64 t) (within s b n)) (placed-then l at head (within s b n) (at + 17) g d (within-part s b n m (at + 17) q))
 
   -- an ACK: type and range, delay
   pub placed-ack : (f h d : ℕ) {o m : List ℕ} → o ≡ placed l at (rangeBytes 2 f h) → m ≡ placed o (at + 9) (bytes64 d) → m ≡ placed l at (bytesOf s (Ack f h d))

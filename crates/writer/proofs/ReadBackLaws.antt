@@ -55,11 +55,11 @@ module _ (p s r : List ℕ) where
   pub same-content : (m : Message) → writable (length s) m ≡ true → contentOf (itemOf (p ++ (bytesOf s m ++ r)) (moved (length p) m)) ≡ contentOf (itemOf s m)
   unfolding bytesOf writable
   same-content (Handshake a o) w = same-options a o w
-  same-content (Data c x b n) w =
+  same-content (Data f l x b n) w =
       let v = within s b n in
-      let e : length (rangeBytes 1 c c ++ bytes64 x) ≡ 17 = omega (arith, length-append (rangeBytes 1 c c) (bytes64 x), sizeRange 1 c c, size64 x) in
-      ap (λ (y : List ℕ). itemOf y (Data c x 0 n))
-      (rw (← append-assoc (rangeBytes 1 c c) (bytes64 x) v) (found p (rangeBytes 1 c c ++ bytes64 x) v r 17 n e (within-length s b n (lies-in (length s) b n w))))
+      let e : length (rangeBytes 1 f l ++ bytes64 x) ≡ 17 = omega (arith, length-append (rangeBytes 1 f l) (bytes64 x), sizeRange 1 f l, size64 x) in
+      ap (λ (y : List ℕ). itemOf y (Data f l x 0 n))
+      (rw (← append-assoc (rangeBytes 1 f l) (bytes64 x) v) (found p (rangeBytes 1 f l ++ bytes64 x) v r 17 n e (within-length s b n (lies-in (length s) b n w))))
   same-content (Ack f l d) w = refl
   same-content (Have f l) w = refl
   same-content (Integrity f l h) w =
@@ -116,11 +116,11 @@ one-more room len m source (suc w) e rest z =
     refused q = rw q
 
 -- DATA ends a datagram: nothing is accepted behind it
-data-last : (p s : List ℕ) (c x b n : ℕ) → Fits (Data c x b n) → Accepted p (Data c x b n) s → (k : ℕ) → layoutOf (p ++ bytesOf s (Data c x b n)) .layout ≡ Messages k → ⊥
-data-last p s c x b n f a k e =
-    let m = Data c x b n in
+data-last : (p s : List ℕ) (c d x b n : ℕ) → Fits (Data c d x b n) → Accepted p (Data c d x b n) s → (k : ℕ) → layoutOf (p ++ bytesOf s (Data c d x b n)) .layout ≡ Messages k → ⊥
+data-last p s c d x b n f a k e =
+    let m = Data c d x b n in
     let on = rw (a .plain) at (joined p s m (a .can) (a .low) (a .fits)) in
-    let q = behind-step p s m (a .can) (a .low) (a .fits) f (layoutOf p .entries) (layoutOf (p ++ bytesOf s m)) on in
+    let q = rw (a .good) at (behind-step p s m (a .can) (a .low) (a .fits) f (layoutOf p .entries) (layoutOf (p ++ bytesOf s m)) on) in
     true≢false (sym (ap (λ (y : Checked). hasData (y .layout)) q) ∙ ap hasData e)
 
 accepted-behind : (p s : List ℕ) (m : Message) → Fits m → Accepted p m s → (room : List ℕ) (len : ℕ) → take len room ≡ p ++ bytesOf s m
@@ -133,11 +133,11 @@ accepted-behind p s (Request a b) f w room len e is g z = tt
 accepted-behind p s (Cancel a b) f w room len e is g z = tt
 accepted-behind p s Choke f w room len e is g z = tt
 accepted-behind p s Unchoke f w room len e is g z = tt
-accepted-behind p s (Data c x b n) f w room len e [] g z = refl
-accepted-behind p s (Data c x b n) f w room len e (i ∷ is) g z =
+accepted-behind p s (Data c d x b n) f w room len e [] g z = refl
+accepted-behind p s (Data c d x b n) f w room len e (i ∷ is) g z =
     let o = one-more room len (i .message) (i .source) (addAnswer room len (i .message) (i .source)) refl (λ room′ len′. addAll room′ len′ is) z in
     let a = accepted room len (i .message) (i .source) (g .0) (o .0) in
-    absurd (data-last p s c x b n f w (a .entries) (ap (λ (y : List ℕ). layoutOf y .layout) (sym e) ∙ a .plain))
+    absurd (data-last p s c d x b n f w (a .entries) (ap (λ (y : List ℕ). layoutOf y .layout) (sym e) ∙ a .plain))
 
 -- What was accepted stands behind the datagram so far, and the rest of the room is as it was.
 pub added : (is : List Item) (room : List ℕ) (len : ℕ) → AllFit is → addAll room len is .answer ≡ 0

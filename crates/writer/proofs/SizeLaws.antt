@@ -30,7 +30,7 @@ lies-in size at n h =
     omega (arith, leb-true n size (g .0), leb-true at (size - n) (g .1))
 
 -- a chunk lies in the source
-pub data-in : (size : ℕ) {m : Message} {c t b n : ℕ} → writable size m ≡ true → m ≡ Data c t b n → b + n ≤ size
+pub data-in : (size : ℕ) {m : Message} {f l t b n : ℕ} → writable size m ≡ true → m ≡ Data f l t b n → b + n ≤ size
 unfolding writable
 data-in size {b = b} {n = n} w e = lies-in size b n (rw e at w)
 
@@ -44,7 +44,7 @@ others = 2 ∷ 3 ∷ 5 ∷ 6 ∷ 7 ∷ 8 ∷ []
 pub writable-other : (size : ℕ) (m : Message) → OneOf others (tagOf message.the-type m) → true ≡ writable size m
 unfolding writable
 writable-other size (Handshake a o) h = absurd (miss others 0 tt h)
-writable-other size (Data a b d e) h = absurd (miss others 1 tt h)
+writable-other size (Data a b d e f) h = absurd (miss others 1 tt h)
 writable-other size (Ack a b d) h = refl
 writable-other size (Have a b) h = refl
 writable-other size (Integrity a b d) h = absurd (miss others 4 tt h)
@@ -68,7 +68,9 @@ options-length s Other w = refl
 pub bytes-length : (s : List ℕ) (m : Message) → writable (length s) m ≡ true → length (bytesOf s m) ≡ sizeOf m
 unfolding writable bytesOf sizeOf
 bytes-length s (Handshake a o) w = omega (arith, options-length s o w, size32 a, length-append (bytes32 a) (optionBytes s o))
-bytes-length s (Data c t b n) w = omega (arith, within-length s b n (lies-in (length s) b n w), size64 t, sizeRange 1 c c, length-append (rangeBytes 1 c c) (bytes64 t ++ within s b n), length-append (bytes64 t) (within s b n))
+bytes-length s (Data f l t b n) w =
+    let e = within-length s b n (lies-in (length s) b n w) in
+    omega (arith, e, size64 t, sizeRange 1 f l, length-append (rangeBytes 1 f l) (bytes64 t ++ within s b n), length-append (bytes64 t) (within s b n))
 bytes-length s (Ack f h d) w = omega (arith, size64 d, sizeRange 2 f h, length-append (rangeBytes 2 f h) (bytes64 d))
 bytes-length s (Have f h) w = sizeRange 3 f h
 bytes-length s (Integrity f h b) w = omega (arith, within-length s b 32 (lies-in (length s) b 32 w), sizeRange 4 f h, length-append (rangeBytes 4 f h) (within s b 32))

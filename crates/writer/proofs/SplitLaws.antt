@@ -5,7 +5,7 @@ use mathlib.Core.Path.{_≡_, refl, sym, ap, _∙_}
 use mathlib.Core.List.{List, [], _∷_, _++_, append-assoc}
 use mathlib.Core.Bool.{Bool, true, false, not, true≢false}
 use lib.Dec.{ltb, eqb}
-use borrow.Author.Tests.{le-ltb, le-leb, eqb-true}
+use borrow.Author.Tests.{le-ltb, le-leb, eq-eqb, eqb-true}
 use lib.ListN.{length, getD, take, drop, take-append-drop, length-append, length-drop}
 use lib.Seq.{drop-cons, drop-drop, length-take-le}
 use Rattle.base.specs.Pick.{pick}
@@ -57,7 +57,7 @@ Known Refused = ⊥
 Known (Read (Handshake a (Fixed r)) next) = Unit {0}
 Known (Read (Handshake a EndOnly) next) = Unit {0}
 Known (Read (Handshake a Other) next) = ⊥
-Known (Read (Data c d e f) x) = Unit {0}
+Known (Read (Data c d e f g) x) = Unit {0}
 Known (Read (Ack c d e) x) = Unit {0}
 Known (Read (Have c d) x) = Unit {0}
 Known (Read (Integrity c d e) x) = Unit {0}
@@ -156,7 +156,7 @@ module _ (s : List ℕ) (at : ℕ) (small : AreBytes (drop at s)) (inside : at �
       }
 
   whole-data : getD (drop at s) 0 0 ≡ 1 → 17 ≤ length (drop at s) → firstOf (drop at s) ≡ lastOf (drop at s)
-      → Split s at (Data (firstOf (drop at s)) (be64 (drop at s) 9) (at + 17) (length (drop at s) - 17)) (at + length (drop at s))
+      → Split s at (Data (firstOf (drop at s)) (lastOf (drop at s)) (be64 (drop at s) 9) (at + 17) (length (drop at s) - 17)) (at + length (drop at s))
   unfolding bytesOf sizeOf writable
   whole-data e l o =
       let u = drop at s in
@@ -164,13 +164,12 @@ module _ (s : List ℕ) (at : ℕ) (small : AreBytes (drop at s)) (inside : at �
       let w = within s (at + 17) (length u - 17) in
       let j : 17 + (length u - 17) ≡ length u = omega arith in
       record {
-        bytes = rw (ap (λ (x : ℕ). rangeBytes 1 (firstOf u) x) o)
-            (behind-range 1 (length u) (bytes64 (be64 u 9) ++ w) e (omega arith)
-            (append-assoc (bytes64 (be64 u 9)) w (drop (length u) u) ∙ ap (λ (r : List ℕ). bytes64 (be64 u 9) ++ r) (rw j at (part 17 (length u - 17))) ∙ split-long u small 9 l));
+        bytes = behind-range 1 (length u) (bytes64 (be64 u 9) ++ w) e (omega arith)
+            (append-assoc (bytes64 (be64 u 9)) w (drop (length u) u) ∙ ap (λ (r : List ℕ). bytes64 (be64 u 9) ++ r) (rw j at (part 17 (length u - 17))) ∙ split-long u small 9 l);
         size = omega arith;
         can = lies-is (length s) (at + 17) (length u - 17) (omega (arith, len));
-        fits = (pair .0, be64-fits u small 9);
-        good = refl;
+        fits = (pair .0, pair .1, be64-fits u small 9);
+        good = eq-eqb (firstOf u) (lastOf u) o;
         here = refl;
         inside = omega (arith, len);
       }

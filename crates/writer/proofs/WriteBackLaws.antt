@@ -40,7 +40,7 @@ use Rattle.writer.proofs.SplitLaws.{Split, Known, split}
 -- A message that does not end a datagram.
 abbrev pub Goes : Message → Type 0
 Goes (Handshake a o) = ⊥
-Goes (Data c x b n) = ⊥
+Goes (Data f l x b n) = ⊥
 Goes (Ack f l d) = Unit {0}
 Goes (Have f l) = Unit {0}
 Goes (Integrity f l h) = Unit {0}
@@ -52,7 +52,7 @@ Goes Unchoke = Unit {0}
 -- The entries with it.
 abbrev pub noted : List ℕ → Message → List ℕ
 noted es (Handshake a o) = es
-noted es (Data c x b n) = es
+noted es (Data f l x b n) = es
 noted es (Ack f l d) = es
 noted es (Have f l) = es
 noted es (Integrity f l h) = es ++ ((f + l) ∷ h ∷ [])
@@ -83,7 +83,7 @@ module _ (s es : List ℕ) (at next : ℕ) (rest : List ℕ → ℕ → Checked)
   -- the pass goes on behind it
   pub goes-on : (m : Message) → Goes m → numberOf (layoutStep s es at (Read m (cursor next)) rest .layout) ≡ 0 → layoutStep s es at (Read m (cursor next)) rest ≡ rest (noted es m) next
   goes-on (Handshake a o) g e = absurd g
-  goes-on (Data c x b n) g e = absurd g
+  goes-on (Data f l x b n) g e = absurd g
   goes-on (Ack f l d) g e = refl
   goes-on (Have f l) g e = refl
   goes-on (Integrity f l h) g e = unseen (seen (f + l) es) es (rest (es ++ ((f + l) ∷ h ∷ [])) next) e .1
@@ -98,7 +98,7 @@ module _ (s es : List ℕ) (at next : ℕ) (rest : List ℕ → ℕ → Checked)
   no-fault (Handshake a o) g e =
       let f = first-of (eqb at minSize) (eqb next (length s)) (handshakeFault (be32 s 0) a o) (number-of _ a o e) in
       rw (f .0, f .2)
-  no-fault (Data c x b n) g e = rw (le-ltb c c (omega arith))
+  no-fault (Data f l x b n) g e = rw g
   no-fault (Ack f l d) g e = in-order (ltb l f) g
   no-fault (Have f l) g e = in-order (ltb l f) g
   no-fault (Integrity f l h) g e = rw (g, unseen (seen (f + l) es) es (rest (es ++ ((f + l) ∷ h ∷ [])) next) e .0)

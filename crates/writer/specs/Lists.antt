@@ -35,7 +35,7 @@ encode (i ∷ is) = bytesOf (i .source) (i .message) ++ encode is
 -- The numbers of a message have the widths of the table: 32 bits for channels and chunks, 64 for timestamps and delays.
 abbrev pub Fits : Message → Type 0
 Fits (Handshake a o) = a < 2 ^ 32
-Fits (Data c x b n) = (c < 2 ^ 32) × (x < 2 ^ 64)
+Fits (Data f l x b n) = (f < 2 ^ 32) × (l < 2 ^ 32) × (x < 2 ^ 64)
 Fits (Ack f l d) = (f < 2 ^ 32) × (l < 2 ^ 32) × (d < 2 ^ 64)
 Fits (Have f l) = (f < 2 ^ 32) × (l < 2 ^ 32)
 Fits (Integrity f l h) = (f < 2 ^ 32) × (l < 2 ^ 32)
@@ -60,7 +60,7 @@ payloadOptions s Other = []
 
 abbrev pub payload : List ℕ → Message → List ℕ
 payload s (Handshake a o) = payloadOptions s o
-payload s (Data c x b n) = within s b n
+payload s (Data f l x b n) = within s b n
 payload s (Ack f l d) = []
 payload s (Have f l) = []
 payload s (Integrity f l h) = within s h 32
@@ -77,7 +77,7 @@ atZeroOptions Other = Other
 
 abbrev pub atZero : Message → Message
 atZero (Handshake a o) = Handshake a (atZeroOptions o)
-atZero (Data c x b n) = Data c x 0 n
+atZero (Data f l x b n) = Data f l x 0 n
 atZero (Ack f l d) = Ack f l d
 atZero (Have f l) = Have f l
 atZero (Integrity f l h) = Integrity f l 0

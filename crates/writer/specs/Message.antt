@@ -25,7 +25,7 @@ optionBytes s Other = []
 -- A message's bytes, its hash, chunk or root taken from s.
 unfoldable pub bytesOf : List ℕ → Message → List ℕ
 bytesOf s (Handshake source options) = 0 ∷ bytes32 source ++ optionBytes s options
-bytesOf s (Data chunk time start len) = rangeBytes 1 chunk chunk ++ (bytes64 time ++ within s start len)
+bytesOf s (Data first last time start len) = rangeBytes 1 first last ++ (bytes64 time ++ within s start len)
 bytesOf s (Ack first last delay) = rangeBytes 2 first last ++ bytes64 delay
 bytesOf s (Have first last) = rangeBytes 3 first last
 bytesOf s (Integrity first last hash) = rangeBytes 4 first last ++ within s hash 32
@@ -46,7 +46,7 @@ writableOptions size Other = false
 
 unfoldable pub writable : ℕ → Message → Bool
 writable size (Handshake source options) = writableOptions size options
-writable size (Data chunk time start len) = inBounds size start len
+writable size (Data first last time start len) = inBounds size start len
 writable size (Ack first last delay) = true
 writable size (Have first last) = true
 writable size (Integrity first last hash) = inBounds size hash 32
@@ -63,7 +63,7 @@ optionSpan Other = 0
 
 unfoldable pub sizeOf : Message → ℕ
 sizeOf (Handshake source options) = 5 + optionSpan options
-sizeOf (Data chunk time start len) = 17 + len
+sizeOf (Data first last time start len) = 17 + len
 sizeOf (Ack first last delay) = 17
 sizeOf (Have first last) = 9
 sizeOf (Integrity first last hash) = 41

@@ -20,6 +20,10 @@ use Rattle.writer.specs.Lists.{Fits}
 abbrev pub rangeFault : ℕ → ℕ → ℕ
 rangeFault f l = pick (ltb l f) 2 0
 
+-- 2 for a range that is not one chunk, as DATA's has to be.
+abbrev pub chunkFault : ℕ → ℕ → ℕ
+chunkFault f l = pick (eqb f l) 0 2
+
 -- 2 for a range that is no node's, or one's that is among the entries.
 abbrev pub nodeFault : List ℕ → ℕ → ℕ → ℕ
 nodeFault es f l = pick (covers (f + l) f l) (pick (seen (f + l) es) 2 0) 2
@@ -27,7 +31,7 @@ nodeFault es f l = pick (covers (f + l) f l) (pick (seen (f + l) es) 2 0) 2
 -- The number for a message behind len bytes of a datagram without HANDSHAKE or DATA, with its destination and entries.
 unfoldable pub faultBehind : List ℕ → ℕ → ℕ → Message → ℕ
 faultBehind es to len (Handshake a o) = pick (eqb len minSize) (handshakeFault to a o) 3
-faultBehind es to len (Data c x b n) = rangeFault c c
+faultBehind es to len (Data f l x b n) = chunkFault f l
 faultBehind es to len (Ack f l d) = rangeFault f l
 faultBehind es to len (Have f l) = rangeFault f l
 faultBehind es to len (Integrity f l h) = nodeFault es f l

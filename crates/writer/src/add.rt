@@ -5,7 +5,7 @@ ghost use mathlib.Core.Bool.{true};
 ghost use lib.ListN.{length};
 ghost use Rattle.writer.specs.Add.{addAnswer, addSpec, beginSpec, writtenOf};
 ghost use Rattle.writer.specs.Lists.{Fits};
-ghost use Rattle.writer.specs.Steps.{rangeFault, nodeFault, faultBehind, Roomy, faultAfter, FitsBehind, Addable};
+ghost use Rattle.writer.specs.Steps.{rangeFault, chunkFault, nodeFault, faultBehind, Roomy, faultAfter, FitsBehind, Addable};
 use crate::place;
 use crate::put;
 use crate::size;
@@ -24,6 +24,16 @@ fn range_fault(first: u32, last: u32) -> u32
     ensures { λ r. ⌜ r ≡ rangeFault first last ⌝ }
 {
     if last < first {
+        return 2;
+    }
+    0
+}
+
+// 2 for a range that is not one chunk.
+fn chunk_fault(first: u32, last: u32) -> u32
+    ensures { λ r. ⌜ r ≡ chunkFault first last ⌝ }
+{
+    if first != last {
         return 2;
     }
     0
@@ -52,11 +62,12 @@ fn fault_behind(entries: &[u64], destination: u32, len: usize, message: Message)
             }
         }
         Message::Data {
-            chunk,
+            first,
+            last,
             timestamp: _,
             start: _,
             len: _,
-        } => range_fault(chunk, chunk),
+        } => chunk_fault(first, last),
         Message::Ack {
             first,
             last,

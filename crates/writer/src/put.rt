@@ -54,7 +54,8 @@ fn put_handshake(room: &mut [u8], at: usize, source: u32, options: Options, byte
 fn put_data(
     room: &mut [u8],
     at: usize,
-    chunk: u32,
+    first: u32,
+    last: u32,
     timestamp: u64,
     start: usize,
     len: usize,
@@ -62,9 +63,9 @@ fn put_data(
 )
     requires { ⌜ at + (17 + len) ≤ length (now room) ⌝ }
     requires { ⌜ start + len ≤ length (now bytes) ⌝ }
-    ensures { λ _. ⌜ now (room .exit) ≡ placed (now (room .entry)) at (bytesOf (now (bytes .entry)) (Message.Data chunk timestamp start len)) ⌝ }
+    ensures { λ _. ⌜ now (room .exit) ≡ placed (now (room .entry)) at (bytesOf (now (bytes .entry)) (Message.Data first last timestamp start len)) ⌝ }
 {
-    place::place_range(room, at, 1, chunk, chunk);
+    place::place_range(room, at, 1, first, last);
     place::place64(room, at + 9, timestamp);
     let end = start + len;
     place::place_all(room, at + 17, &bytes[start..end]);
@@ -100,12 +101,13 @@ pub fn put(room: &mut [u8], at: usize, message: Message, bytes: &[u8])
             put_handshake(room, at, source, options, bytes);
         }
         Message::Data {
-            chunk,
+            first,
+            last,
             timestamp,
             start,
             len,
         } => {
-            put_data(room, at, chunk, timestamp, start, len, bytes);
+            put_data(room, at, first, last, timestamp, start, len, bytes);
         }
         Message::Ack { first, last, delay } => {
             put_ack(room, at, first, last, delay, bytes);

@@ -34,7 +34,8 @@ pub fn writable(size: usize, message: Message) -> bool
     match message {
         Message::Handshake { source: _, options } => writable_options(size, options),
         Message::Data {
-            chunk: _,
+            first: _,
+            last: _,
             timestamp: _,
             start,
             len,
@@ -66,7 +67,8 @@ pub fn size_of(message: Message, bytes: &[u8]) -> usize
     match message {
         Message::Handshake { source: _, options } => 5 + option_span(options),
         Message::Data {
-            chunk: _,
+            first: _,
+            last: _,
             timestamp: _,
             start: _,
             len,

@@ -34,7 +34,7 @@ same-length : tie.Need-same-length
 same-length c = search needs
 
 returns : tie.Need-returns
-returns c = placed-data _ _ _ _ _ _ _ (c .before .before .before .before .before .before .before .before .before .before .before .place-range .ensures) (c .before .before .before .before .before .before .before .place64 .ensures) (c .before .before .place-all .ensures)
+returns c = placed-data _ _ _ _ _ _ _ _ (c .before .before .before .before .before .before .before .before .before .before .before .place-range .ensures) (c .before .before .before .before .before .before .before .place64 .ensures) (c .before .before .place-all .ensures)
 
 pub put-data-spec : {M : Type 1} → statement M
 put-data-spec =
