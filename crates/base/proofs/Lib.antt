@@ -1,3 +1,4 @@
 -- What the crates above may cite.
 pub mod PickLaws
 pub mod SameLaws
+pub mod AmongLaws

@@ -1,1 +1,1 @@
-// Definitions and laws that all crates share: one of two by a test, whether two strings are the same. No function.
+// Definitions and laws that all crates share: one of two by a test, the same strings, one of some numbers. No function.

@@ -15,4 +15,5 @@ pub mod RefusedLaws
 pub mod ReplyLaws
 pub mod ShorterLaws
 pub mod ShapeLaws
+pub mod NumberLaws
 pub mod Promise

@@ -1,13 +1,16 @@
--- What the crates above know of this one: of its definitions the names passed on here, that a refused call alters nothing,
--- and demand 3. Assumes nothing.
+-- What the crates above know of this one: of its definitions the names passed on here, which numbers a call can give, that a
+-- refused one alters nothing, demand 2 of what is taken and sent, and demand 3. Assumes nothing.
 use mathlib.Core.Path.{_≡_}
 use mathlib.Core.Bool.{false}
-use mathlib.Core.List.{List}
+use mathlib.Core.List.{List, [], _∷_}
 use Prim.Native.Nat.{ℕ, _≤_, _<_}
 use lib.ListN.{length}
+use Rattle.base.specs.Among.{OneOf}
 use Rattle.bits.proofs.Promise.{bitAt}
 use Rattle.store.proofs.Promise.{countOf, lengthAnswer, Whole}
 use Rattle.store.specs.declared.calls.Order.{Order}
+use Rattle.channel.specs.declared.state.State.{State}
+use Rattle.channel.proofs.NumberLaws as numbers
 use Rattle.channel.proofs.RefusedLaws as refused
 use Rattle.channel.proofs.DemandLaws as demand
 use Rattle.channel.proofs.ReplyLaws as reply
@@ -22,6 +25,28 @@ pub use Rattle.channel.specs.Ask.{Asked, askedOf, askSpec}
 pub use Rattle.channel.specs.Run.{Call, opening, taking, writing, asking, lend, step, run, FreshOrBuilt, fresh, built, firstBrought}
 pub use Rattle.channel.specs.Demand.{BothWhole, Demand}
 pub use Rattle.channel.specs.Answers.{EnoughFor}
+
+-- ---- demand 1: the numbers of document 01 that each call can give
+
+pub start-numbered : (w : World) (o : Order) → OneOf (0 ∷ 11 ∷ 12 ∷ []) (startSpec w o .answer)
+start-numbered = numbers.start-one
+
+pub build-numbered : (w : World) (L : ℕ) (s : List ℕ) → OneOf (0 ∷ 11 ∷ 12 ∷ []) (buildSpec w L s .answer)
+build-numbered = numbers.build-one
+
+pub open-numbered : (w : World) (id : ℕ) → OneOf (0 ∷ 6 ∷ 11 ∷ 12 ∷ 14 ∷ []) (openSpec w id .answer)
+open-numbered = numbers.open-one
+
+-- All but 13.
+pub take-numbered : (w : World) (clock id : ℕ) (s : List ℕ)
+    → OneOf (0 ∷ 1 ∷ 2 ∷ 3 ∷ 4 ∷ 5 ∷ 6 ∷ 7 ∷ 8 ∷ 9 ∷ 10 ∷ 11 ∷ 12 ∷ 14 ∷ []) (takeSpec w clock id s .answer)
+take-numbered = numbers.take-one
+
+pub write-numbered : (w : World) (id c clock : ℕ) → OneOf (0 ∷ 3 ∷ 7 ∷ 11 ∷ 12 ∷ 13 ∷ []) (writeSpec w id c clock .answer)
+write-numbered = numbers.write-one
+
+pub ask-numbered : (st : State) (map : List ℕ) → OneOf (0 ∷ 11 ∷ 12 ∷ []) (askSpec st map .answer)
+ask-numbered = numbers.ask-one
 
 -- ---- demand 1: a refusal gives a reply length of 0 and changes neither store, channel table nor any lent room
 

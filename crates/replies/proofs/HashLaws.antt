@@ -28,12 +28,12 @@ integrity-size f l h = refl
 
 module _ (hashes : List ℕ) where
   -- The item of a node can be written.
-  item-writable : (b : ℕ) → writable (length (hashItem hashes b .source)) (hashItem hashes b .message) ≡ true
+  pub item-writable : (b : ℕ) → writable (length (hashItem hashes b .source)) (hashItem hashes b .message) ≡ true
   unfolding hashItem
   item-writable b = integrity-writable (length (hashIn hashes b)) (first b) (last b) (hash-length hashes b)
 
   -- It takes 41 bytes.
-  item-size : (b : ℕ) → sizeOf (hashItem hashes b .message) ≡ integritySize
+  pub item-size : (b : ℕ) → sizeOf (hashItem hashes b .message) ≡ integritySize
   unfolding hashItem
   item-size b = integrity-size (first b) (last b) 0
 

@@ -1,13 +1,17 @@
--- What the crates above know of this one: of its definitions the names passed on here, and how long a reply is.
+-- What the crates above know of this one: of its definitions the names passed on here, how long a reply is, and that it
+-- reads back.
 -- Assumes nothing.
 use mathlib.Core.Path.{_≡_}
+use mathlib.Core.Logic.{_≢_}
 use mathlib.Core.List.{List}
-use Prim.Native.Nat.{ℕ, _≤_}
+use Prim.Native.Nat.{ℕ, _≤_, _<_, _^_}
 use lib.ListN.{length}
 use Rattle.tree.specs.Pack.{chunkSize, chunks, maxLength}
 use Rattle.wire.proofs.Promise.{maxSize}
+use Rattle.writer.proofs.Promise.{Reads}
 use Rattle.replies.proofs.ReplyLaws.{handshake-length, ack-length, chunk-length}
-pub use Rattle.replies.specs.Replies.{datagram, handshakeReply, ackReply, hashItem, chunkReply}
+use Rattle.replies.proofs.ReadLaws as reading
+pub use Rattle.replies.specs.Replies.{datagram, handshakeItems, handshakeReply, ackItems, ackReply, hashItem, chunkItems, chunkReply}
 
 -- Our HANDSHAKE has 60 bytes.
 pub handshake-long : (to source : ℕ) (root : List ℕ) → length root ≡ 32 → length (handshakeReply to source root) ≡ 60
@@ -21,3 +25,16 @@ ack-long = ack-length
 pub chunk-fits : (hashes : List ℕ) (to N c time : ℕ) (bytes : List ℕ) → N ≤ chunks chunkSize maxLength → length bytes ≤ chunkSize
     → length (chunkReply hashes to N c time bytes) ≤ maxSize
 chunk-fits = chunk-length
+
+-- ---- each passes the checks, and reads back as its messages (00, demand 2: "What is written reads back as the same messages")
+
+pub handshake-reads : (to source : ℕ) (root : List ℕ) → to < 2 ^ 32 → source < 2 ^ 32 → source ≢ 0 → length root ≡ 32
+    → Reads (handshakeReply to source root) to (handshakeItems source root)
+handshake-reads = reading.handshake-reads
+
+pub ack-reads : (to f l delay : ℕ) → to < 2 ^ 32 → f ≤ l → l < 2 ^ 32 → delay < 2 ^ 64 → Reads (ackReply to f l delay) to (ackItems f l delay)
+ack-reads = reading.ack-reads
+
+pub chunk-reads : (hashes : List ℕ) (to N c time : ℕ) (bytes : List ℕ) → to < 2 ^ 32 → c < 2 ^ 32 → time < 2 ^ 64 → N ≤ chunks chunkSize maxLength → length bytes ≤ chunkSize
+    → Reads (chunkReply hashes to N c time bytes) to (chunkItems hashes N c time bytes)
+chunk-reads = reading.chunk-reads

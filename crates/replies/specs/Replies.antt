@@ -15,18 +15,30 @@ abbrev pub datagram : ℕ → List Item → List ℕ
 datagram to is = bytes32 to ++ encode is
 
 -- Our HANDSHAKE to a channel: our channel as its source, and the fixed options around the root.
+abbrev pub handshakeItems : ℕ → List ℕ → List Item
+handshakeItems source root = itemOf root (Handshake source (Fixed 0)) ∷ []
+
 unfoldable pub handshakeReply : ℕ → ℕ → List ℕ → List ℕ
-handshakeReply to source root = datagram to (itemOf root (Handshake source (Fixed 0)) ∷ [])
+handshakeReply to source root = datagram to (handshakeItems source root)
 
 -- An ACK of the chunks f..l with a delay.
+abbrev pub ackItems : ℕ → ℕ → ℕ → List Item
+ackItems f l delay = itemOf [] (Ack f l delay) ∷ []
+
 unfoldable pub ackReply : ℕ → ℕ → ℕ → ℕ → List ℕ
-ackReply to f l delay = datagram to (itemOf [] (Ack f l delay) ∷ [])
+ackReply to f l delay = datagram to (ackItems f l delay)
 
 -- The INTEGRITY of node b: the chunks that it covers, and its hash.
 unfoldable pub hashItem : List ℕ → ℕ → Item
 hashItem hashes b = itemOf (hashIn hashes b) (Integrity (first b) (last b) 0)
 
 -- The datagram of chunk c of N: all peaks and all siblings below its peak in their order, then DATA with the given clock.
+abbrev pub chunkItems : List ℕ → ℕ → ℕ → ℕ → List ℕ → List Item
+chunkItems hashes N c time bytes = map (hashItem hashes) (map num (sent N c)) ++ (itemOf bytes (Data c time 0 (length bytes)) ∷ [])
+
 unfoldable pub chunkReply : List ℕ → ℕ → ℕ → ℕ → ℕ → List ℕ → List ℕ
-chunkReply hashes to N c time bytes =
-    datagram to (map (hashItem hashes) (map num (sent N c)) ++ (itemOf bytes (Data c c time 0 (length bytes)) ∷ []))
+abbrev pub chunkItems : List ℕ → ℕ → ℕ → ℕ → List ℕ → List Item
+chunkItems hashes N c time bytes = map (hashItem hashes) (map num (sent N c)) ++ (itemOf bytes (Data c c time 0 (length bytes)) ∷ [])
+
+unfoldable pub chunkReply : List ℕ → ℕ → ℕ → ℕ → ℕ → List ℕ → List ℕ
+chunkReply hashes to N c time bytes = datagram to (chunkItems hashes N c time bytes)

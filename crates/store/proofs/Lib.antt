@@ -7,6 +7,7 @@ pub mod BuildingLaws
 pub mod StartedLaws
 pub mod BuiltLaws
 pub mod AnswerLaws
+pub mod NumberLaws
 pub mod CallLaws
 pub mod BegunLaws
 pub mod TakenLaws

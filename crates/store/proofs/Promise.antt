@@ -3,13 +3,14 @@
 use mathlib.Core.Path.{_≡_}
 use mathlib.Core.Logic.{_≢_}
 use mathlib.Core.Bool.{Bool, true, false}
-use mathlib.Core.List.{List}
+use mathlib.Core.List.{List, [], _∷_}
 use Prim.Native.Nat.{ℕ, suc, _*_, _<_, _≤_}
 use lib.Dec.{eqb}
 use lib.ListN.{length, take}
 use Rattle.hash.proofs.Promise.{bytesOf}
 use Rattle.bits.proofs.Promise.{bitAt, rowWords}
 use Rattle.base.specs.Pick.{pick}
+use Rattle.base.specs.Among.{OneOf}
 use Rattle.tree.specs.Pack.{chunkSize, maxLength, size, leafPlaces}
 use Rattle.verdict.proofs.RoomLaws.{digest-words}
 use Rattle.store.proofs.BegunLaws.{start-running, start-not-same, start-same-sizes, start-empty, build-running, build-not-same, build-same-sizes, build-bytes, build-whole}
@@ -17,6 +18,7 @@ use Rattle.store.proofs.TakenLaws.{take-refused-same, take-means, take-
 use Rattle.store.proofs.AlikeLaws.{hangs, alike}
 use Rattle.store.proofs.AnswerLaws as answers
 use Rattle.store.proofs.AcceptLaws as accept
+use Rattle.store.proofs.NumberLaws as numbers
 use Rattle.store.proofs.ShorterLaws as shorter
 pub use Rattle.verdict.specs.Room.{filler, hashIn}
 unfoldable pub use Rattle.verdict.specs.Room.{Digest}
@@ -86,6 +88,22 @@ rooms-accepted = answers.room-facts
 -- Neither, and the content has the order's length.
 pub build-accepted : (L n b m h t : ℕ) → buildAnswer L n b m h t ≡ 0 → (lengthAnswer L ≡ 0) × (n ≡ L) × (roomAnswer L b m h t ≡ 0)
 build-accepted = accept.build-accepted
+
+-- ---- the numbers that the calls can give
+
+pub length-numbered : (L : ℕ) → OneOf (0 ∷ 11 ∷ 12 ∷ []) (lengthAnswer L)
+length-numbered = numbers.length-one
+
+pub order-numbered : (L b m h t : ℕ) → OneOf (0 ∷ 11 ∷ 12 ∷ []) (orderAnswer L b m h t)
+order-numbered = numbers.order-one
+
+pub build-numbered : (L n b m h t : ℕ) → OneOf (0 ∷ 11 ∷ 12 ∷ []) (buildAnswer L n b m h t)
+build-numbered = numbers.build-one
+
+-- In rooms that suffice for the order.
+pub take-numbered : (w : Rooms) (r : List ℕ) (L c : ℕ) (d : List ℕ) (o : Integrity) → roomsAnswer L w ≡ 0
+    → OneOf (0 ∷ 7 ∷ 8 ∷ 9 ∷ 10 ∷ []) (takeSpec w r L c d o .answer)
+take-numbered = numbers.take-one
 
 -- ---- starting
 

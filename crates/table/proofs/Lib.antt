@@ -1,4 +1,5 @@
 -- What the proofs of several functions cite.
 pub mod RowLaws
 pub mod AnswerLaws
+pub mod NumberLaws
 pub mod Promise

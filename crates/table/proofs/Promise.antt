@@ -1,12 +1,15 @@
 -- What the crates above know of this one: of its definitions the names passed on here, that a row put back changes nothing,
--- and that a table keeps its number of rows. Assumes nothing.
+-- that a table keeps its number of rows, and which numbers it can give. Assumes nothing.
 use Prim.Native.Nat.{ℕ}
 use mathlib.Core.Path.{_≡_, ap}
-use mathlib.Core.List.{List}
+use mathlib.Core.Bool.{Bool}
+use mathlib.Core.List.{List, [], _∷_}
 use lib.ListN.{length, length-set}
 use lib.Seq.{set-getD}
+use Rattle.base.specs.Among.{OneOf}
 use Rattle.table.specs.declared.rows.Row.{Row}
 use Rattle.table.specs.declared.rows.Table.{Table}
+use Rattle.table.proofs.NumberLaws as numbers
 pub use Rattle.table.specs.Rows.{rowCount, freeRow, freeTable, lowestFree, rowOf, openRowOf, rowAt, withRow, rowAfter}
 pub use Rattle.table.specs.Answers.{openAnswer, messagesAnswer, handshakeAnswer, writeAnswer}
 
@@ -19,3 +22,17 @@ row-put-back t i = ap (λ (rs : List Row). record { rows = rs }) (set-getD (t .r
 pub with-row-length : (t : Table) (i : ℕ) (r : Row) → length (withRow t i r .rows) ≡ length (t .rows)
 unfolding withRow
 with-row-length t i r = length-set (t .rows) i r
+
+-- ---- the numbers that it can give
+
+pub open-numbered : (rs : List Row) (id : ℕ) → OneOf (0 ∷ 6 ∷ 14 ∷ []) (openAnswer rs id)
+open-numbered = numbers.open-one
+
+pub messages-numbered : (rs : List Row) (to : ℕ) (keepalive : Bool) → OneOf (0 ∷ 3 ∷ 5 ∷ []) (messagesAnswer rs to keepalive)
+messages-numbered = numbers.messages-one
+
+pub handshake-numbered : (rs : List Row) (to a : ℕ) (ours : Bool) (id : ℕ) → OneOf (0 ∷ 3 ∷ 4 ∷ 5 ∷ 6 ∷ 14 ∷ []) (handshakeAnswer rs to a ours id)
+handshake-numbered = numbers.handshake-one
+
+pub write-numbered : (rs : List Row) (id : ℕ) → OneOf (0 ∷ 3 ∷ []) (writeAnswer rs id)
+write-numbered = numbers.write-one

@@ -12,6 +12,7 @@ pub mod LocalLaws
 pub mod BehindLaws
 pub mod ExtendLaws
 pub mod FaultLaws
+pub mod NumberLaws
 pub mod CountLaws
 pub mod DataLaws
 pub mod Promise

@@ -1,10 +1,12 @@
 -- What the crates above know of this one: of its definitions the names passed on here, and the laws on a datagram that
 -- passes the checks. Assumes nothing.
 use mathlib.Core.Path.{_≡_}
-use mathlib.Core.List.{List}
+use mathlib.Core.List.{List, [], _∷_}
 use Prim.Native.Nat.{ℕ, _≤_}
 use lib.ListN.{length, take}
+use Rattle.base.specs.Among.{OneOf}
 use Rattle.wire.proofs.FaultLaws.{numbered, passed}
+use Rattle.wire.proofs.NumberLaws as numbers
 use Rattle.wire.proofs.CountLaws.{entries-fit}
 use Rattle.wire.proofs.DataLaws as data-laws
 use Rattle.wire.specs.declared.layout.Layout.{Layout}
@@ -13,6 +15,7 @@ pub use Rattle.wire.specs.Limits.{minSize, maxSize, entryWords}
 pub use Rattle.wire.specs.Options.{fixedHead, fixedTail}
 pub use Rattle.wire.specs.Read.{cursor, stepAt}
 pub use Rattle.wire.specs.Layout.{Checked, checkedOf, numberOf, isEndOnly, layoutOf, checkSpec}
+unfoldable pub use Rattle.wire.specs.Layout.{seen, handshakeFault}
 pub use Rattle.wire.proofs.FaultLaws.{Passed, Numbered}
 pub use Rattle.wire.proofs.CountLaws.{Says}
 pub use Rattle.wire.proofs.DataLaws.{ToEnd}
@@ -21,6 +24,9 @@ pub use Rattle.wire.proofs.PlacedLaws.{placed-none, placed-length, plac
 -- A refusal is 1, 2 or 3.
 pub layout-numbered : (s : List ℕ) → Numbered (layoutOf s .layout)
 layout-numbered = numbered
+
+pub layout-one : (s : List ℕ) → OneOf (0 ∷ 1 ∷ 2 ∷ 3 ∷ []) (numberOf (layoutOf s .layout))
+layout-one = numbers.layout-one
 
 -- A datagram with the number 0 has a sound size and is not refused.
 pub layout-passed : (s : List ℕ) → numberOf (layoutOf s .layout) ≡ 0 → (minSize ≤ length s) × (length s ≤ maxSize) × Passed (layoutOf s .layout)

@@ -80,7 +80,7 @@ module _ (s gs : List ℕ) (at next : ℕ) (to : ℕ) (dest : be32 s 0 ≡ to) (
   step-number Choke = passes gs
   step-number Unchoke = passes gs
 
-nothing-behind : (m : Message) → Behind m []
+pub nothing-behind : (m : Message) → Behind m []
 nothing-behind (Handshake a o) = tt
 nothing-behind (Data f l x b n) = refl
 nothing-behind (Ack f l d) = tt

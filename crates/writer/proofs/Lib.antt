@@ -7,9 +7,11 @@ pub mod BackLaws
 pub mod AddLaws
 pub mod AcceptLaws
 pub mod AnswerLaws
+pub mod AnswerNumberLaws
 pub mod SplitLaws
 pub mod ReadBackLaws
 pub mod WriteBackLaws
 pub mod RoundTrips
+pub mod ComposeLaws
 pub mod Examples
 pub mod Promise

@@ -1,25 +1,30 @@
--- What the crates above know of this one: of its definitions the names passed on here, the round trips, and that a refused
--- call changes nothing. Assumes nothing.
+-- What the crates above know of this one: of its definitions the names passed on here, the round trips, that a refused call
+-- changes nothing, and which numbers a call can give. Assumes nothing.
 use mathlib.Core.Path.{_≡_, refl}
 use mathlib.Core.Logic.{_≢_}
-use mathlib.Core.List.{List}
+use mathlib.Core.List.{List, [], _∷_, _++_}
 use mathlib.Core.Bool.{true}
 use Prim.Native.Nat.{ℕ, zero, suc, _+_, _<_, _≤_, _^_}
 use lib.ListN.{length}
 use lib.Dec.{ltb}
 use Rattle.base.specs.Pick.{pick}
+use Rattle.base.specs.Among.{OneOf}
 use Rattle.wire.proofs.Promise.{be32, placed, minSize, maxSize, numberOf, layoutOf}
 use Rattle.wire.specs.declared.message.Message.{Message}
 use Rattle.writer.proofs.SizeLaws.{bytes-length}
 use Rattle.writer.proofs.RoundTrips.{written-reads, read-writes}
+use Rattle.writer.proofs.AnswerNumberLaws as numbers
+use Rattle.writer.proofs.ComposeLaws as compose
 pub use Rattle.writer.specs.Bytes.{bytes32, bytes64}
 pub use Rattle.writer.specs.Message.{within, bytesOf}
 unfoldable pub use Rattle.writer.specs.Message.{writable, writableOptions, sizeOf, optionSpan}
 pub use Rattle.writer.specs.Add.{Written, writtenOf, decide, addAnswer, addSpec}
 unfoldable pub use Rattle.writer.specs.Add.{beginSpec}
-pub use Rattle.writer.specs.Lists.{Item, itemOf, encode, AllFit, AreBytes, atZeroOptions, atZero, contentsOf, onStep, readAll, Reads, Rewritable, writeAll, datagramOf}
+pub use Rattle.writer.specs.Lists.{Item, itemOf, encode, Fits, AllFit, AreBytes, atZeroOptions, atZero, contentsOf, onStep, readAll, Reads, Rewritable, writeAll, datagramOf}
 unfoldable pub use Rattle.writer.specs.Lists.{readFrom}
+unfoldable pub use Rattle.writer.specs.Steps.{faultBehind}
 pub use Rattle.writer.proofs.PlaceLaws.{size32}
+pub use Rattle.writer.proofs.ComposeLaws.{Joining, notedAll}
 
 -- A message that can be written has the size that the table says.
 pub message-size : (s : List ℕ) (m : Message) → writable (length s) m ≡ true → length (bytesOf s m) ≡ sizeOf m
@@ -39,6 +44,14 @@ pub add-refused-same : (room : List ℕ) (len : ℕ) (m : Message) (source : Lis
 unfolding addSpec
 add-refused-same room len m source = refused (addAnswer room len m source) room (len + sizeOf m) (placed room len (bytesOf source m))
 
+-- ---- the numbers that a call can give
+
+pub begin-numbered : (room : List ℕ) (to : ℕ) → OneOf (0 ∷ 11 ∷ []) (beginSpec room to .answer)
+begin-numbered = numbers.begin-one
+
+pub add-numbered : (room : List ℕ) (len : ℕ) (m : Message) (source : List ℕ) → OneOf (0 ∷ 1 ∷ 2 ∷ 3 ∷ 11 ∷ []) (addSpec room len m source .answer)
+add-numbered = numbers.add-one
+
 -- ---- the round trips
 
 -- Every list of messages that begin and add accepted, whose numbers have their widths, reads back as exactly those messages.
@@ -50,3 +63,9 @@ round-trip-written = written-reads
 pub round-trip-read : (room s : List ℕ) → AreBytes s → maxSize ≤ length room → numberOf (layoutOf s .layout) ≡ 0 → Rewritable (layoutOf s .layout)
     → writeAll room (be32 s 0) (readAll s) ≡ writtenOf 0 (length s) (placed room 0 s)
 round-trip-read = read-writes
+
+-- A datagram put together without adding reads back too: messages that join it, and one more, which may end it.
+pub composed-reads : (to : ℕ) (is : List Item) (i : Item) → to < 2 ^ 32 → AllFit is → Fits (i .message) → Joining to minSize [] is
+    → writable (length (i .source)) (i .message) ≡ true → faultBehind (notedAll minSize [] is) to (minSize + length (encode is)) (i .message) ≡ 0
+    → minSize + length (encode is) + sizeOf (i .message) ≤ maxSize → Reads (bytes32 to ++ encode (is ++ (i ∷ []))) to (is ++ (i ∷ []))
+composed-reads = compose.composed-reads

@@ -42,10 +42,10 @@ module _ (room : List ℕ) (to : ℕ) where
   front big = rw (size32 to) at (rw zero-add at (placed-front room 0 (bytes32 to) (omega (arith, size32 to))))
 
 -- its destination alone passes the checks
-alone : (d : List ℕ) → length d ≡ minSize → layoutOf d ≡ checkedOf (Messages 0) []
+pub alone : (d : List ℕ) → length d ≡ minSize → layoutOf d ≡ checkedOf (Messages 0) []
 alone d e = layout-is d (omega arith) (omega arith) ∙ over (length d) d [] minSize (omega arith)
 
-destination : (to : ℕ) (r : List ℕ) → to < 2 ^ 32 → be32 (bytes32 to ++ r) 0 ≡ to
+pub destination : (to : ℕ) (r : List ℕ) → to < 2 ^ 32 → be32 (bytes32 to ++ r) 0 ≡ to
 unfolding bytes32
 destination to r h = joined32 to h
 

@@ -1,0 +1,82 @@
+-- What goes out with a chunk: no node's number comes twice. Assumes nothing.
+use Prim.Native.Nat.{ℕ, zero, suc, _+_, _*_, _/_, _^_, _<_, _≤_}
+use native.Mathlib.Omega.{arith}
+use native.Mathlib.Nat.{mul-assoc, mul-comm, pow-suc}
+use mathlib.Core.Path.{_≡_, refl, sym, ap, _∙_}
+use mathlib.Core.Logic.{_≢_, _⊎_, inl, inr}
+use mathlib.Core.Bool.{Bool, true, false}
+use mathlib.Core.List.{List, [], _∷_, _++_, map}
+use lib.Dec.{leb, ltb}
+use Rattle.base.specs.Pick.{pick}
+use Rattle.tree.specs.Bin.{bin}
+use Rattle.tree.specs.Node.{Node, num, above}
+use Rattle.tree.specs.Pack.{levels}
+use Rattle.tree.specs.Peaks.{sent, peakBit}
+use Rattle.tree.specs.Steps.{peakAt, siblingAt, peakTurn, sentBelow}
+use Rattle.tree.proofs.BinLaws.{bin-inj}
+use Rattle.tree.proofs.SentLaws.{sent-is, Later, AllLater, Sorted, sent-sorted}
+
+-- ---- a list of numbers in which none comes twice
+
+abbrev pub Differs : ℕ → List ℕ → Type 0
+Differs b [] = Unit {0}
+Differs b (x ∷ xs) = (b ≢ x) × Differs b xs
+
+abbrev pub Distinct : List ℕ → Type 0
+Distinct [] = Unit {0}
+Distinct (b ∷ bs) = Differs b bs × Distinct bs
+
+-- ---- a node's first chunk is a multiple of the chunks that it covers
+
+abbrev Aligned : Node → Type 0
+Aligned n = (k : ℕ) × (n .from ≡ k * 2 ^ (n .high))
+
+abbrev AllAligned : List Node → Type 0
+AllAligned [] = Unit {0}
+AllAligned (n ∷ ns) = Aligned n × AllAligned ns
+
+-- a multiple of a node's chunks is one of its children's
+halved : (h x : ℕ) → x * 2 ^ suc h ≡ x * 2 * 2 ^ h
+halved h x = rw (pow-suc 2 h, mul-comm (2 ^ h) 2) (sym (mul-assoc x 2 (2 ^ h)))
+
+peak-aligned : (N h : ℕ) → Aligned (peakAt N h)
+peak-aligned N h = (N / 2 ^ suc h * 2, halved h (N / 2 ^ suc h))
+
+sibling-aligned : (c h : ℕ) → Aligned (siblingAt c h)
+sibling-aligned c h = go (ltb c (above (suc h) c + 2 ^ h))
+  where
+    go : (b : Bool) → (k : ℕ) × (pick b (above (suc h) c + 2 ^ h) (above (suc h) c) ≡ k * 2 ^ h)
+    go true = (c / 2 ^ suc h * 2 + 1, omega (arith, halved h (c / 2 ^ suc h)))
+    go false = (c / 2 ^ suc h * 2, halved h (c / 2 ^ suc h))
+
+turn-aligned : (t : Bool) (n : Node) (ns : List Node) → Aligned n → AllAligned ns → AllAligned (pick t (n ∷ []) [] ++ ns)
+turn-aligned true n ns a b = (a, b)
+turn-aligned false n ns a b = b
+
+below-aligned : (N c h : ℕ) → AllAligned (sentBelow N c h)
+unfolding sentBelow
+below-aligned N c zero = tt
+below-aligned N c (suc h) =
+    turn-aligned (leb (above (suc h) c + 2 ^ suc h) N) (siblingAt c h) (peakTurn N h ++ sentBelow N c h) (sibling-aligned c h)
+    (turn-aligned (peakBit N h) (peakAt N h) (sentBelow N c h) (peak-aligned N h) (below-aligned N c h))
+
+-- ---- so that of two nodes of which one comes later the numbers differ
+
+later-differs : (n m : Node) → Aligned n → Aligned m → Later n m → num n ≢ num m
+later-differs n m a b l e =
+    go l (bin-inj (n .high) (a .0) (m .high) (b .0) (ap (bin (n .high)) (sym (a .1)) ∙ e ∙ ap (bin (m .high)) (b .1)))
+  where
+    go : Later n m → (n .high ≡ m .high) × (a .0 * 2 ^ (n .high) ≡ b .0 * 2 ^ (m .high)) → ⊥
+    go (inl lower) i = omega (arith, lower, i .0)
+    go (inr right) i = omega (arith, right .1, i .1, a .1, b .1)
+
+all-differ : (n : Node) (ms : List Node) → Aligned n → AllAligned ms → AllLater n ms → Differs (num n) (map num ms)
+all-differ n [] a b l = tt
+all-differ n (m ∷ ms) a b l = (later-differs n m a (b .0) (l .0), all-differ n ms a (b .1) (l .1))
+
+distinct : (ns : List Node) → AllAligned ns → Sorted ns → Distinct (map num ns)
+distinct [] a s = tt
+distinct (n ∷ ns) a s = (all-differ n ns (a .0) (a .1) (s .0), distinct ns (a .1) (s .1))
+
+pub sent-once : (N c : ℕ) → Distinct (map num (sent N c))
+sent-once N c = distinct (sent N c) (rw (sent-is N c) (below-aligned N c (suc (levels N)))) (sent-sorted N c)
