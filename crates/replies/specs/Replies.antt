@@ -34,10 +34,6 @@ hashItem hashes b = itemOf (hashIn hashes b) (Integrity (first b) (last b) 0)
 
 -- The datagram of chunk c of N: all peaks and all siblings below its peak in their order, then DATA with the given clock.
 abbrev pub chunkItems : List ℕ → ℕ → ℕ → ℕ → List ℕ → List Item
-chunkItems hashes N c time bytes = map (hashItem hashes) (map num (sent N c)) ++ (itemOf bytes (Data c time 0 (length bytes)) ∷ [])
-
-unfoldable pub chunkReply : List ℕ → ℕ → ℕ → ℕ → ℕ → List ℕ → List ℕ
-abbrev pub chunkItems : List ℕ → ℕ → ℕ → ℕ → List ℕ → List Item
 chunkItems hashes N c time bytes = map (hashItem hashes) (map num (sent N c)) ++ (itemOf bytes (Data c c time 0 (length bytes)) ∷ [])
 
 unfoldable pub chunkReply : List ℕ → ℕ → ℕ → ℕ → ℕ → List ℕ → List ℕ
