@@ -29,7 +29,7 @@ pub use Rattle.verdict.specs.Rooms.{Rooms, roomsOf, countOf, chunkIn, stateOf, 
 pub use Rattle.store.specs.Building.{rootOf}
 pub use Rattle.store.specs.Answers.{refuse, earlier, lengthAnswer, roomAnswer, Enough, orderAnswer, chunkAnswer}
 pub use Rattle.store.specs.Calls.{Out, outOf, roomsAnswer, startSpec, buildAnswer, buildSpec, foundRoot, takeSpec}
-pub use Rattle.store.specs.Whole.{Roomy, SameSizes, Running, HangsIn, Alike}
+pub use Rattle.store.specs.Whole.{Roomy, SameSizes, Running, HangsIn, ByteStrings, Alike}
 unfoldable pub use Rattle.store.specs.Whole.{Whole}
 
 -- The words of an order's root stand for 32 bytes.

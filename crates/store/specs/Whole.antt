@@ -6,9 +6,9 @@ use mathlib.Core.Bool.{true}
 use mathlib.Core.List.{List}
 use lib.ListN.{length, take}
 use Rattle.bits.proofs.Promise.{bitAt, rowWords}
-use Rattle.hash.proofs.Promise.{sha256}
+use Rattle.hash.proofs.Promise.{sha256, Bytes}
 use Rattle.tree.specs.Pack.{leafPlaces}
-use Rattle.tree.specs.Walk.{Hangs, Lowest, Collision}
+use Rattle.tree.specs.Walk.{Strings, Hangs, names, Lowest, Collision}
 use Rattle.verdict.specs.Room.{filler}
 use Rattle.verdict.specs.Rooms.{Rooms, countOf, stateOf, SoundRooms}
 
@@ -39,8 +39,15 @@ HangsIn L r w c = Hangs sha256 filler (countOf L) r (stateOf L w) c
 unfoldable pub Whole : ℕ → Rooms → Type 0
 Whole L w = (x : ℕ) → x < countOf L → bitAt (w .map) x ≡ true
 
+-- Both strings are strings of bytes.
+pub record ByteStrings (n : Strings) : Type 0 where
+  pub here-bytes : Bytes (n .here)
+  pub there-bytes : Bytes (n .there)
+
 -- Two whole packs of one order: the same bytes over the length, or the walk to the lowest chunk that differs names two
--- different strings, hashed at one place of both trees to one SHA-256 value.
+-- different strings, hashed at one place of both trees to one SHA-256 value. Where both chunk rooms hold bytes, as every
+-- lent one does, so do the two strings; hashes are bytes in any room.
 pub data Alike (L : ℕ) (w v : Rooms) : Type 0 where
   same-bytes : take L (w .bytes) ≡ take L (v .bytes) → Alike L w v
-  collides : (c : ℕ) → Lowest (countOf L) (stateOf L w) (stateOf L v) c → Collision sha256 filler (countOf L) (stateOf L w) (stateOf L v) c → Alike L w v
+  collides : (c : ℕ) → Lowest (countOf L) (stateOf L w) (stateOf L v) c → Collision sha256 filler (countOf L) (stateOf L w) (stateOf L v) c
+      → (Bytes (w .bytes) → Bytes (v .bytes) → ByteStrings (names sha256 filler (countOf L) (stateOf L w) (stateOf L v) c)) → Alike L w v

@@ -32,19 +32,27 @@ same-differ x y e p = true≢false (sym (same-refl x) ∙ ap (same x) p ∙ e)
 
 -- ---- what a chunk that hangs is held by
 
-module _ (H : List ℕ → List ℕ) (Z : List ℕ) (N W : ℕ) (zlen : length Z ≡ W) (hlen : (x : List ℕ) → length (H x) ≡ W) where
-  pub given-length : (held : ℕ → ℕ → List ℕ) → ((h a : ℕ) → length (held h a) ≡ W) → (h a : ℕ) → length (given H Z N held h a) ≡ W
-  given-length held len zero a = go (split N a)
+-- what holds of the filler, of every value of H and of every held hash holds of every hash above
+module _ (H : List ℕ → List ℕ) (Z : List ℕ) (N : ℕ) (P : List ℕ → Type 0) (filled : P Z) (hashed : (x : List ℕ) → P (H x)) where
+  given-all : (held : ℕ → ℕ → List ℕ) → ((h a : ℕ) → P (held h a)) → (h a : ℕ) → P (given H Z N held h a)
+  given-all held all zero a = go (split N a)
     where
-      go : (N ≤ a) ⊎ (a < N) → length (given H Z N held zero a) ≡ W
-      go (inl e) = rw (given-empty H Z N held zero a e) zlen
-      go (inr e) = rw (given-whole H Z N held zero a (omega arith)) (len zero a)
-  given-length held len (suc h) a = go (split N a) (split (a + 2 ^ suc h) N)
+      go : (N ≤ a) ⊎ (a < N) → P (given H Z N held zero a)
+      go (inl e) = rw (given-empty H Z N held zero a e) filled
+      go (inr e) = rw (given-whole H Z N held zero a (omega arith)) (all zero a)
+  given-all held all (suc h) a = go (split N a) (split (a + 2 ^ suc h) N)
     where
-      go : (N ≤ a) ⊎ (a < N) → (a + 2 ^ suc h ≤ N) ⊎ (N < a + 2 ^ suc h) → length (given H Z N held (suc h) a) ≡ W
-      go (inl e) w = rw (given-empty H Z N held (suc h) a e) zlen
-      go (inr e) (inl w) = rw (given-whole H Z N held (suc h) a w) (len (suc h) a)
-      go (inr e) (inr w) = rw (given-mixed H Z N held h a e w) (hlen _)
+      go : (N ≤ a) ⊎ (a < N) → (a + 2 ^ suc h ≤ N) ⊎ (N < a + 2 ^ suc h) → P (given H Z N held (suc h) a)
+      go (inl e) w = rw (given-empty H Z N held (suc h) a e) filled
+      go (inr e) (inl w) = rw (given-whole H Z N held (suc h) a w) (all (suc h) a)
+      go (inr e) (inr w) = rw (given-mixed H Z N held h a e w) (hashed _)
+
+  -- and, where chunks have it and two strings joined do, of every string
+  pub string-all : ((x y : List ℕ) → P x → P y → P (x ++ y)) → (s : State) → ((h a : ℕ) → P (s .hash h a)) → ((x : ℕ) → P (s .chunk x))
+      → (h a : ℕ) → P (string H Z N s h a)
+  unfolding string
+  string-all join s all chunks zero a = chunks a
+  string-all join s all chunks (suc h) a = join _ _ (given-all (s .hash) all h a) (given-all (s .hash) all h (a + 2 ^ h))
 
 module _ (H : List ℕ → List ℕ) (Z : List ℕ) (N : ℕ) (r : List ℕ) where
   pub given-string : (s : State) (c h : ℕ) → c < N → Hangs H Z N r s c → given H Z N (s .hash) h (above h c) ≡ H (string H Z N s h (above h c))
@@ -96,7 +104,10 @@ module _ (H : List ℕ → List ℕ) (Z : List ℕ) (N W : ℕ) (zlen : length Z
       → (given H Z N (s .hash) h a ≡ given H Z N (t .hash) h a) × (given H Z N (s .hash) h (a + 2 ^ h) ≡ given H Z N (t .hash) h (a + 2 ^ h))
   unfolding string
   parts h a e =
-      append-parts W _ _ _ _ (given-length H Z N W zlen hlen (s .hash) slen h a) (given-length H Z N W zlen hlen (t .hash) tlen h a) e
+      append-parts W _ _ _ _ (long (s .hash) slen) (long (t .hash) tlen) e
+    where
+      long : (held : ℕ → ℕ → List ℕ) → ((k b : ℕ) → length (held k b) ≡ W) → length (given H Z N held h a) ≡ W
+      long held len = given-all H Z N (λ x. length x ≡ W) zlen hlen held len h a
 
   at-down : (h a : ℕ) → (given H Z N (s .hash) h a ≡ given H Z N (t .hash) h a) × (given H Z N (s .hash) h (a + 2 ^ h) ≡ given H Z N (t .hash) h (a + 2 ^ h))
       → given H Z N (s .hash) h (down c h a) ≡ given H Z N (t .hash) h (down c h a)
