@@ -14,4 +14,5 @@ pub mod TakenLaws
 pub mod AlikeLaws
 pub mod AcceptLaws
 pub mod ShorterLaws
+pub mod NeededLaws
 pub mod Promise

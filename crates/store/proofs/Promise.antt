@@ -16,6 +16,7 @@ use Rattle.verdict.proofs.RoomLaws.{digest-words}
 use Rattle.store.proofs.BegunLaws.{start-running, start-not-same, start-same-sizes, start-empty, build-running, build-not-same, build-same-sizes, build-bytes, build-whole}
 use Rattle.store.proofs.TakenLaws.{take-refused-same, take-means, take-sizes, take-running, take-map, take-bytes}
 use Rattle.store.proofs.AlikeLaws.{hangs, alike}
+use Rattle.store.proofs.NeededLaws.{take-same, take-true}
 use Rattle.store.proofs.AnswerLaws as answers
 use Rattle.store.proofs.AcceptLaws as accept
 use Rattle.store.proofs.NumberLaws as numbers
@@ -31,6 +32,7 @@ pub use Rattle.store.specs.Answers.{refuse, earlier, lengthAnswer, roomA
 pub use Rattle.store.specs.Calls.{Out, outOf, roomsAnswer, startSpec, buildAnswer, buildSpec, foundRoot, takeSpec}
 pub use Rattle.store.specs.Whole.{Roomy, SameSizes, Running, HangsIn, ByteStrings, Alike}
 unfoldable pub use Rattle.store.specs.Whole.{Whole}
+pub use Rattle.store.specs.Needed.{SameNeeded, HoldsTrue, BringsTrue}
 
 -- The words of an order's root stand for 32 bytes.
 pub root-words : (u : List ℕ) → length u ≡ 8 → Digest (bytesOf u)
@@ -182,6 +184,17 @@ module _ (w : Rooms) (r : List ℕ) (L c : ℕ) (d : List ℕ) (o : Integrity) w
   pub taken-bytes : takeSpec w r L c d o .answer ≡ 0 → (x : ℕ) → x < countOf L
       → chunkIn L (takeSpec w r L c d o .rooms .bytes) x ≡ pick (bitAt (w .map) c) (chunkIn L (w .bytes) x) (pick (eqb x c) d (chunkIn L (w .bytes) x))
   taken-bytes = take-bytes w r L c d o
+
+-- Two sets of hashes that agree on those that are needed give the same answer and the same rooms: hashes not needed aren't
+-- looked at.
+pub needed-only : (w : Rooms) (r : List ℕ) (L c : ℕ) (d : List ℕ) (o p : Integrity) → SameNeeded L w c o p → takeSpec w r L c d o ≡ takeSpec w r L c d p
+needed-only w r L c d o p A = take-same w L c o p A r d
+
+-- Under the order of a content s, where the trusted hashes are those of s: chunk c of s is taken with the hashes that go out
+-- with it.
+pub true-fits : (w : Rooms) (s : List ℕ) (c : ℕ) (o : Integrity) → roomsAnswer (length s) w ≡ 0 → c < countOf (length s) → HoldsTrue w s → BringsTrue s c o
+    → takeSpec w (rootOf s) (length s) c (chunkIn (length s) s c) o .answer ≡ 0
+true-fits = take-true
 
 -- ---- what a running store holds
 

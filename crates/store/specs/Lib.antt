@@ -4,3 +4,4 @@ pub mod Building
 pub mod Answers
 pub mod Calls
 pub mod Whole
+pub mod Needed

@@ -7,6 +7,7 @@ pub mod PackLaws
 pub mod ChunkLaws
 pub mod TreeLaws
 pub mod PeakLaws
+pub mod EachLaws
 pub mod PeakTests
 pub mod SoundLaws
 pub mod HungLaws

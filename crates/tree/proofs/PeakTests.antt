@@ -1,5 +1,5 @@
 -- The list of the peaks, and the test for one. Assumes nothing.
-use mathlib.Core.Path.{_≡_, refl, sym, ap, _∙_}
+use mathlib.Core.Path.{_≡_, refl, sym, _∙_}
 use mathlib.Core.Logic.{_⊎_, inl, inr}
 use mathlib.Core.Bool.{Bool, true, false, true≢false}
 use mathlib.Core.List.{[], _∷_, _++_}
@@ -12,10 +12,11 @@ use Rattle.tree.specs.Node.{Node, node, above}
 use Rattle.tree.specs.Pack.{levels}
 use Rattle.tree.specs.Peaks.{peaks, peakOf}
 use Rattle.tree.specs.State.{isPeak}
-use Rattle.tree.specs.Verdicts.{every}
+use Rattle.tree.specs.Verdicts.{every, Each}
 use Rattle.tree.specs.Steps.{peakAt, peaksBelow}
 use Rattle.base.proofs.PickLaws.{both-true}
 use Rattle.tree.proofs.NodeLaws.{split, above-in, above-left, above-right, unique, above-aligned, parent-above, aligned-left, child-cases}
+use Rattle.tree.proofs.EachLaws.{every-each}
 use Rattle.tree.proofs.PackLaws.{high-bound}
 use Rattle.tree.proofs.PeakLaws.{peaks-bits, peak-of}
 
@@ -48,15 +49,15 @@ both-false : (b x : Bool) → pick b x false ≡ false → (b ≡ false) ⊎ (x 
 both-false true x e = inr e
 both-false false x e = inl refl
 
-all-bits : (f : Node → Bool) (N k : ℕ) → every f (peaksBelow N k) ≡ true → (h : ℕ) → h < k → N / 2 ^ h % 2 ≡ 1 → f (peakAt N h) ≡ true
-unfolding every peaksBelow
-all-bits f N zero e h l b = absurd (omega arith)
-all-bits f N (suc k) e h l b = go (eqb (N / 2 ^ k % 2) 1) refl e (split k h) (all-bits f N k)
+each-bit : (P : Node → Type 0) (N k : ℕ) → Each P (peaksBelow N k) → (h : ℕ) → h < k → N / 2 ^ h % 2 ≡ 1 → P (peakAt N h)
+unfolding peaksBelow
+each-bit P N zero e h l b = absurd (omega arith)
+each-bit P N (suc k) e h l b = go (eqb (N / 2 ^ k % 2) 1) refl e (split k h) (each-bit P N k)
   where
-    go : (t : Bool) → eqb (N / 2 ^ k % 2) 1 ≡ t → every f (pick t (peakAt N k ∷ []) [] ++ peaksBelow N k) ≡ true → (k ≤ h) ⊎ (h < k)
-        → (every f (peaksBelow N k) ≡ true → (h : ℕ) → h < k → N / 2 ^ h % 2 ≡ 1 → f (peakAt N h) ≡ true) → f (peakAt N h) ≡ true
-    go true q e (inl u) ih = let z : h ≡ k = omega arith in rw z (both-true (f (peakAt N k)) (every f (peaksBelow N k)) e .0)
-    go true q e (inr u) ih = ih (both-true (f (peakAt N k)) (every f (peaksBelow N k)) e .1) h u b
+    go : (t : Bool) → eqb (N / 2 ^ k % 2) 1 ≡ t → Each P (pick t (peakAt N k ∷ []) [] ++ peaksBelow N k) → (k ≤ h) ⊎ (h < k)
+        → (Each P (peaksBelow N k) → (h : ℕ) → h < k → N / 2 ^ h % 2 ≡ 1 → P (peakAt N h)) → P (peakAt N h)
+    go true q e (inl u) ih = let z : h ≡ k = omega arith in rw z (e .0)
+    go true q e (inr u) ih = ih (e .1) h u b
     go false q e (inl u) ih = let z : h ≡ k = omega arith in absurd (eqb-false (N / 2 ^ k % 2) 1 q (rw z at b))
     go false q e (inr u) ih = ih e h u b
 
@@ -76,12 +77,16 @@ some-bits f N (suc k) e = go (eqb (N / 2 ^ k % 2) 1) refl e (some-bits f N k)
     go true q e ih = pair (eqb-true (N / 2 ^ k % 2) 1 q) ih (both-false (f (peakAt N k)) (every f (peaksBelow N k)) e)
     go false q e ih = ih e
 
-pub all-peaks : (f : Node → Bool) (N : ℕ) → every f (peaks N) ≡ true → (h b : ℕ) → above h b ≡ b → isPeak N h b ≡ true → f (node h b) ≡ true
-all-peaks f N e h b g p =
+-- what holds of each peak in the list holds of each node that passes the test,
+pub each-peak : (P : Node → Type 0) (N : ℕ) → Each P (peaks N) → (h b : ℕ) → above h b ≡ b → isPeak N h b ≡ true → P (node h b)
+each-peak P N e h b g p =
     let q = peak-bit N h b g p in
     let w = both-true (leb (b + 2 ^ h) N) (ltb N (above (suc h) b + 2 ^ suc h)) p .0 in
     let l = high-bound N h (omega (arith, leb-true (b + 2 ^ h) N w)) in
-    ap (λ (x : ℕ). f (node h x)) (q .1) ∙ all-bits f N (suc (levels N)) (rw peaks-bits at e) h (omega arith) (q .0)
+    rw (q .1) (each-bit P N (suc (levels N)) (rw peaks-bits at e) h (omega arith) (q .0))
+
+pub all-peaks : (f : Node → Bool) (N : ℕ) → every f (peaks N) ≡ true → (h b : ℕ) → above h b ≡ b → isPeak N h b ≡ true → f (node h b) ≡ true
+all-peaks f N e = each-peak (λ n. f n ≡ true) N (every-each f (peaks N) e)
 
 pub peak-test : (N c : ℕ) → c < N → isPeak N (peakOf N c .high) (above (peakOf N c .high) c) ≡ true
 peak-test N c l =

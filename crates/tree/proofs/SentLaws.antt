@@ -14,18 +14,18 @@ use Rattle.base.specs.Pick.{pick}
 use Rattle.tree.specs.Node.{Node, node, other, above}
 use Rattle.tree.specs.Pack.{levels}
 use Rattle.tree.specs.Peaks.{peaks, peakOf, siblings, before, insert, sort, sent, peakBit}
+use Rattle.tree.specs.Verdicts.{Each}
 use Rattle.tree.specs.Steps.{peakAt, siblingAt, peakTurn, peaksBelow, sentBelow}
 use Rattle.tree.proofs.NodeLaws.{split, above-in, down-above, whole-below}
+use Rattle.tree.proofs.EachLaws.{each-map}
 use Rattle.tree.proofs.PackLaws.{high-bound}
 use Rattle.tree.proofs.PeakLaws.{peaks-bits, peak-of, peak-past}
 
 abbrev Below : ℕ → List Node → Type 0
-Below h [] = Unit {0}
-Below h (n ∷ ns) = (n .high < h) × Below h ns
+Below h ns = Each (λ n. n .high < h) ns
 
 raise : (h : ℕ) (ns : List Node) → Below h ns → Below (suc h) ns
-raise h [] b = tt
-raise h (n ∷ ns) b = (omega (arith, b .0), raise h ns (b .1))
+raise h = each-map (λ n. n .high < h) (λ n. n .high < suc h) (λ n l. omega arith)
 
 insert-front : (h a : ℕ) (ns : List Node) → Below h ns → insert (node h a) ns ≡ node h a ∷ ns
 unfolding insert
@@ -182,18 +182,13 @@ sent-is N c = go (split N c)
 abbrev pub Later : Node → Node → Type 0
 Later n m = (m .high < n .high) ⊎ ((m .high ≡ n .high) × (n .from < m .from))
 
-abbrev pub AllLater : Node → List Node → Type 0
-AllLater n [] = Unit {0}
-AllLater n (m ∷ ms) = Later n m × AllLater n ms
-
 -- each node comes before all behind it, so none is there twice
 abbrev pub Sorted : List Node → Type 0
 Sorted [] = Unit {0}
-Sorted (n ∷ ns) = AllLater n ns × Sorted ns
+Sorted (n ∷ ns) = Each (Later n) ns × Sorted ns
 
-below-later : (n : Node) (ns : List Node) → Below (n .high) ns → AllLater n ns
-below-later n [] b = tt
-below-later n (m ∷ ms) b = (inl (b .0), below-later n ms (b .1))
+below-later : (n : Node) (ns : List Node) → Below (n .high) ns → Each (Later n) ns
+below-later n = each-map (λ m. m .high < n .high) (Later n) (λ m l. inl l)
 
 sorted-below : (N c h : ℕ) → Sorted (sentBelow N c h)
 unfolding sentBelow
@@ -203,7 +198,7 @@ sorted-below N c (suc h) = go (leb (above (suc h) c + 2 ^ suc h) N) refl (peakBi
     rest : List Node
     rest = sentBelow N c h
 
-    low : (n : Node) → n .high ≡ h → AllLater n rest
+    low : (n : Node) → n .high ≡ h → Each (Later n) rest
     low n e = below-later n rest (rw e (sent-below N c h))
 
     go : (t : Bool) → leb (above (suc h) c + 2 ^ suc h) N ≡ t → (p : Bool) → Sorted rest

@@ -12,7 +12,7 @@ use Rattle.tree.specs.Node.{above}
 use Rattle.tree.specs.Pack.{levels}
 use Rattle.tree.specs.Peaks.{peaks, peakOf}
 use Rattle.tree.specs.Tree.{combined, climb}
-use Rattle.tree.specs.State.{State, adopted, hung, AllPeaks, Sound}
+use Rattle.tree.specs.State.{State, isPeak, adopted, hung, AllPeaks, Sound}
 use Rattle.tree.specs.Verdicts.{Came, got, every, reachFrom, peaksTrusted, counted, reached, complete, rooted, met, verdict, afterBy, after}
 use Rattle.tree.specs.declared.verdict.Verdict.{Verdict}
 use Rattle.tree.specs.declared.verdict.Verdict.the-variants.{Fits, Missing, WrongPeaks, WrongClimb}
@@ -75,17 +75,17 @@ module _ (H : List ℕ → List ℕ) (Z : List ℕ) (N : ℕ) (r : List ℕ) (s 
 pub record FitsMeans (H : List ℕ → List ℕ) (Z : List ℕ) (N : ℕ) (r : List ℕ) (s : State) (c : ℕ) (d : List ℕ) (m : Came) (t : ℕ) : Type 0 where
   pub complete-is : complete H Z N r s c d m ≡ true
   pub rooted-is : rooted H Z N r s c d m ≡ true
-  pub reached-is : t ≡ reachFrom (λ h. counted H Z N r s c d m .trust h (above h c)) (suc (levels N)) 0
+  pub reached-is : t ≡ reached N s c
   pub met-is : climb H (got Z m) (H d) c t (above t c) ≡ counted H Z N r s c d m .hash t (above t c)
 
 pub fits-means : (H : List ℕ → List ℕ) (Z : List ℕ) (N : ℕ) (r : List ℕ) (s : State) (c : ℕ) (d : List ℕ) (m : Came) (t : ℕ) → verdict H Z N r s c d m ≡ Fits t
     → FitsMeans H Z N r s c d m t
-unfolding verdict met reached
+unfolding verdict met
 fits-means H Z N r s c d m t =
     go (complete H Z N r s c d m) (rooted H Z N r s c d m) (same (climb H (got Z m) (H d) c u (above u c)) (counted H Z N r s c d m .hash u (above u c))) u refl refl refl refl
   where
     u : ℕ
-    u = reachFrom (λ h. counted H Z N r s c d m .trust h (above h c)) (suc (levels N)) 0
+    u = reached N s c
 
     go : (x y z : Bool) (h : ℕ) → complete H Z N r s c d m ≡ x → rooted H Z N r s c d m ≡ y
         → same (climb H (got Z m) (H d) c u (above u c)) (counted H Z N r s c d m .hash u (above u c)) ≡ z → u ≡ h
@@ -102,6 +102,18 @@ fits-means H Z N r s c d m t =
           reached-is = sym g;
           met-is = rw g at (same-is (climb H (got Z m) (H d) c u (above u c)) (counted H Z N r s c d m .hash u (above u c)) i);
         }
+
+-- the node reached is the first that is trusted with the peaks that came
+pub reached-counted : (H : List ℕ → List ℕ) (Z : List ℕ) (N : ℕ) (r : List ℕ) (s : State) (c : ℕ) (d : List ℕ) (m : Came)
+    → reached N s c ≡ reachFrom (λ h. counted H Z N r s c d m .trust h (above h c)) (suc (levels N)) 0
+unfolding reached counted
+reached-counted H Z N r s c d m = go (peaksTrusted N s)
+  where
+    go : (b : Bool)
+        → reachFrom (λ h. pick b (s .trust h (above h c)) (pick (isPeak N h (above h c)) true (s .trust h (above h c)))) (suc (levels N)) 0
+        ≡ reachFrom (λ h. pick b s (adopted N (got Z m) s) .trust h (above h c)) (suc (levels N)) 0
+    go true = refl
+    go false = refl
 
 module _ (H : List ℕ → List ℕ) (Z : List ℕ) (N : ℕ) (r : List ℕ) (s : State) (S : Sound H Z N r s) (c : ℕ) (l : c < N) (d : List ℕ) (m : Came) where
   counted-ok : rooted H Z N r s c d m ≡ true
@@ -124,7 +136,7 @@ module _ (H : List ℕ → List ℕ) (Z : List ℕ) (N : ℕ) (r : List ℕ) (s 
   fits-hung t e =
       let f = fits-means H Z N r s c d m t e in
       let k = counted-ok (f .rooted-is) in
-      hang-sound H Z N r (counted H Z N r s c d m) (k .0) (k .1) c l d (got Z m) t (f .reached-is) (f .met-is)
+      hang-sound H Z N r (counted H Z N r s c d m) (k .0) (k .1) c l d (got Z m) t (f .reached-is ∙ reached-counted H Z N r s c d m) (f .met-is)
 
   pub after-sound : Sound H Z N r (after H Z N r s c d m)
   unfolding after

@@ -2,7 +2,7 @@
 -- chunk", and the numbers 9 and 10). Assumes nothing.
 use Prim.Native.Nat.{ℕ, zero, suc}
 use mathlib.Core.Bool.{Bool, true, false}
-use mathlib.Core.List.{List, [], _∷_}
+use mathlib.Core.List.{List, [], _∷_, _++_}
 use mathlib.Core.Option.{Option, none, some}
 use Rattle.base.specs.Same.{same}
 use Rattle.base.specs.Pick.{pick}
@@ -10,7 +10,7 @@ use Rattle.tree.specs.Node.{Node, above}
 use Rattle.tree.specs.Pack.{levels}
 use Rattle.tree.specs.Peaks.{peaks, siblings}
 use Rattle.tree.specs.Tree.{combined, climb}
-use Rattle.tree.specs.State.{State, adopted, hung}
+use Rattle.tree.specs.State.{State, isPeak, adopted, hung}
 use Rattle.tree.specs.declared.verdict.Verdict.{Verdict}
 use Rattle.tree.specs.declared.verdict.Verdict.the-variants.{Fits, Missing, WrongPeaks, WrongClimb}
 
@@ -30,46 +30,58 @@ orElse z (some v) = v
 abbrev pub got : List ℕ → Came → ℕ → ℕ → List ℕ
 got Z m h a = orElse Z (m h a)
 
+-- A test passed by every node of a list, and what holds of each of them.
 unfoldable pub every : (Node → Bool) → List Node → Bool
 every f [] = true
 every f (n ∷ ns) = pick (f n) (every f ns) false
+
+abbrev pub Each : (Node → Type 0) → List Node → Type 0
+Each P [] = Unit {0}
+Each P (n ∷ ns) = P n × Each P ns
 
 -- The least of the d numbers from h on that passes.
 unfoldable pub reachFrom : (ℕ → Bool) → ℕ → ℕ → ℕ
 reachFrom f zero h = h
 reachFrom f (suc d) h = pick (f h) h (reachFrom f d (suc h))
 
-module _ (H : List ℕ → List ℕ) (Z : List ℕ) (N : ℕ) (r : List ℕ) (s : State) (c : ℕ) (d : List ℕ) (m : Came) where
+module _ (N : ℕ) (s : State) where
   -- The peaks are trusted already.
   unfoldable pub peaksTrusted : Bool
   peaksTrusted = every (λ n. s .trust (n .high) (n .from)) (peaks N)
 
-  -- For the climb, peaks that came count as trusted where they aren't yet.
+  -- For the climb a trusted node counts as trusted, and so does each peak where they aren't trusted yet.
+  abbrev pub counts : ℕ → ℕ → Bool
+  counts h a = pick peaksTrusted (s .trust h a) (pick (isPeak N h a) true (s .trust h a))
+
+  module _ (c : ℕ) where
+    -- The height of the first such node at or above the leaf of chunk c.
+    unfoldable pub reached : ℕ
+    reached = reachFrom (λ h. counts h (above h c)) (suc (levels N)) 0
+
+    -- The nodes whose hashes are needed: the peaks if they aren't trusted yet, and the sibling at each step below that node.
+    unfoldable pub needed : List Node
+    needed = pick peaksTrusted [] (peaks N) ++ siblings c reached (above reached c)
+
+module _ (H : List ℕ → List ℕ) (Z : List ℕ) (N : ℕ) (r : List ℕ) (s : State) (c : ℕ) (d : List ℕ) (m : Came) where
+  -- The store with the peaks that came, where they aren't trusted yet.
   unfoldable pub counted : State
-  counted = pick peaksTrusted s (adopted N (got Z m) s)
+  counted = pick (peaksTrusted N s) s (adopted N (got Z m) s)
 
-  -- The height of the first trusted node at or above the leaf.
-  unfoldable pub reached : ℕ
-  reached = reachFrom (λ h. counted .trust h (above h c)) (suc (levels N)) 0
-
-  -- Each hash that is needed came: the peaks if they aren't trusted yet, and the sibling at each step below that node.
+  -- Each hash that is needed came.
   unfoldable pub complete : Bool
-  complete =
-      pick (pick peaksTrusted true (every (λ n. isThere (m (n .high) (n .from))) (peaks N)))
-      (every (λ n. isThere (m (n .high) (n .from))) (siblings c reached (above reached c)))
-      false
+  complete = every (λ n. isThere (m (n .high) (n .from))) (needed N s c)
 
   -- The peaks combine, with fillers, to the root.
   unfoldable pub rooted : Bool
-  rooted = pick peaksTrusted true (same (combined H Z N (got Z m)) r)
+  rooted = pick (peaksTrusted N s) true (same (combined H Z N (got Z m)) r)
 
-  -- The climb gives that node's hash.
+  -- The climb gives the hash of the node reached.
   unfoldable pub met : Bool
-  met = same (climb H (got Z m) (H d) c reached (above reached c)) (counted .hash reached (above reached c))
+  met = same (climb H (got Z m) (H d) c (reached N s c) (above (reached N s c) c)) (counted .hash (reached N s c) (above (reached N s c) c))
 
   -- Every needed hash must be there before any value is judged.
   unfoldable pub verdict : Verdict
-  verdict = pick complete (pick rooted (pick met (Fits reached) WrongClimb) WrongPeaks) Missing
+  verdict = pick complete (pick rooted (pick met (Fits (reached N s c)) WrongClimb) WrongPeaks) Missing
 
   -- The store afterwards: a chunk that fits is hung, one that is already held changes nothing, and so does any other verdict.
   abbrev pub afterBy : Verdict → State

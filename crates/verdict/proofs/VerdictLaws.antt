@@ -11,7 +11,7 @@ use Rattle.tree.specs.Pack.{levels}
 use Rattle.tree.specs.Peaks.{peaks, peakOf, siblings}
 use Rattle.tree.specs.Tree.{given, combined, climb}
 use Rattle.tree.specs.State.{adopted}
-use Rattle.tree.specs.Verdicts.{got, every, reachFrom, peaksTrusted, counted, reached, complete, rooted, met, verdict}
+use Rattle.tree.specs.Verdicts.{got, every, reachFrom, peaksTrusted, reached, needed, counted, complete, rooted, met, verdict}
 use Rattle.tree.specs.declared.verdict.Verdict.the-variants.{Fits, Missing, WrongPeaks, WrongClimb}
 use Rattle.verdict.specs.Room.{filler}
 use Rattle.verdict.specs.Integrity.{Integrity, cameFrom}
@@ -20,6 +20,7 @@ use Rattle.verdict.specs.Steps.{countedBit, countedHash}
 use Rattle.verdict.specs.Verdict.{roomVerdict}
 use Rattle.tree.proofs.NodeLaws.{whole-below, above-aligned}
 use Rattle.tree.proofs.PackLaws.{high-bound}
+use Rattle.tree.proofs.EachLaws.{every-unless}
 use Rattle.tree.proofs.PeakLaws.{peak-of}
 use Rattle.tree.proofs.PeakTests.{all-peaks, peak-test}
 use Rattle.tree.proofs.TakeLaws.{reach-finds, fits-means}
@@ -41,28 +42,22 @@ module _ (N : ℕ) (trusted : List ℕ) (c : ℕ) (l : c < N) where
       (omega (arith, R .within), whole-below N c t p (R .within .1) w, R .passes)
 
 module _ (L : ℕ) (bytes map : List ℕ) (N : ℕ) (r hashes trusted : List ℕ) (c : ℕ) (d : List ℕ) (o : Integrity) (b : Bool) (t : ℕ) where
-  reached-is : (x : Bool)
-      → reachFrom (λ h. countedBit x N trusted h (above h c)) (suc (levels N)) 0
-      ≡ reachFrom (λ h. pick x (stateOf L (roomsOf bytes map hashes trusted)) (adopted N (got filler (cameFrom o)) (stateOf L (roomsOf bytes map hashes trusted))) .trust h (above h c)) (suc (levels N)) 0
-  reached-is true = refl
-  reached-is false = refl
-
   target-is : (x : Bool) (h a : ℕ) → countedHash x N hashes o h a ≡ pick x (stateOf L (roomsOf bytes map hashes trusted)) (adopted N (got filler (cameFrom o)) (stateOf L (roomsOf bytes map hashes trusted))) .hash h a
   target-is true h a = refl
   target-is false h a = refl
 
   module _ (bo : b ≡ every (trustedIn trusted) (peaks N)) (tr : t ≡ reachFrom (λ h. countedBit b N trusted h (above h c)) (suc (levels N)) 0) where
-    is-peaksTrusted : b ≡ peaksTrusted sha256 filler N r (stateOf L (roomsOf bytes map hashes trusted)) c d (cameFrom o)
+    is-peaksTrusted : b ≡ peaksTrusted N (stateOf L (roomsOf bytes map hashes trusted))
     unfolding peaksTrusted
     is-peaksTrusted = bo
 
-    is-reached : t ≡ reached sha256 filler N r (stateOf L (roomsOf bytes map hashes trusted)) c d (cameFrom o)
-    unfolding reached counted
-    is-reached = tr ∙ reached-is b ∙ ap (λ (x : Bool). reachFrom (λ h. pick x (stateOf L (roomsOf bytes map hashes trusted)) (adopted N (got filler (cameFrom o)) (stateOf L (roomsOf bytes map hashes trusted))) .trust h (above h c)) (suc (levels N)) 0) is-peaksTrusted
+    is-reached : t ≡ reached N (stateOf L (roomsOf bytes map hashes trusted)) c
+    unfolding reached
+    is-reached = tr ∙ ap (λ (x : Bool). reachFrom (λ h. countedBit x N trusted h (above h c)) (suc (levels N)) 0) is-peaksTrusted
 
     is-complete : pick (pick b true (every (cameIn o) (peaks N))) (every (cameIn o) (siblings c t (above t c))) false ≡ complete sha256 filler N r (stateOf L (roomsOf bytes map hashes trusted)) c d (cameFrom o)
-    unfolding complete
-    is-complete = rw (is-peaksTrusted, is-reached)
+    unfolding complete needed
+    is-complete = every-unless (cameIn o) b (peaks N) (siblings c t (above t c)) ∙ rw (is-peaksTrusted, is-reached)
 
     is-rooted : pick b true (same (given sha256 filler N (gotBy o) (levels N) 0) r) ≡ rooted sha256 filler N r (stateOf L (roomsOf bytes map hashes trusted)) c d (cameFrom o)
     unfolding combined rooted
@@ -82,11 +77,11 @@ module _ (L : ℕ) (bytes map : List ℕ) (N : ℕ) (r hashes trusted : List ℕ
         unfolding verdict
         at-peaks e = sym (cases (complete sha256 filler N r (stateOf L (roomsOf bytes map hashes trusted)) c d (cameFrom o)) (rooted sha256 filler N r (stateOf L (roomsOf bytes map hashes trusted)) c d (cameFrom o)) (sym is-complete ∙ sym uo ∙ ut) (sym is-rooted ∙ sym vo ∙ e))
           where
-            cases : (x y : Bool) → x ≡ true → y ≡ false → pick x (pick y (pick (met sha256 filler N r (stateOf L (roomsOf bytes map hashes trusted)) c d (cameFrom o)) (Fits (reached sha256 filler N r (stateOf L (roomsOf bytes map hashes trusted)) c d (cameFrom o))) WrongClimb) WrongPeaks) Missing ≡ WrongPeaks
+            cases : (x y : Bool) → x ≡ true → y ≡ false → pick x (pick y (pick (met sha256 filler N r (stateOf L (roomsOf bytes map hashes trusted)) c d (cameFrom o)) (Fits (reached N (stateOf L (roomsOf bytes map hashes trusted)) c)) WrongClimb) WrongPeaks) Missing ≡ WrongPeaks
             cases x y p q = rw (p, q)
 
         module _ (w : Bool) (wo : w ≡ same (climb sha256 (gotBy o) (sha256 d) c t (above t c)) (countedHash b N hashes o t (above t c))) (vt : v ≡ true) where
-          pick-last : pick (complete sha256 filler N r (stateOf L (roomsOf bytes map hashes trusted)) c d (cameFrom o)) (pick (rooted sha256 filler N r (stateOf L (roomsOf bytes map hashes trusted)) c d (cameFrom o)) (pick (met sha256 filler N r (stateOf L (roomsOf bytes map hashes trusted)) c d (cameFrom o)) (Fits (reached sha256 filler N r (stateOf L (roomsOf bytes map hashes trusted)) c d (cameFrom o))) WrongClimb) WrongPeaks) Missing
+          pick-last : pick (complete sha256 filler N r (stateOf L (roomsOf bytes map hashes trusted)) c d (cameFrom o)) (pick (rooted sha256 filler N r (stateOf L (roomsOf bytes map hashes trusted)) c d (cameFrom o)) (pick (met sha256 filler N r (stateOf L (roomsOf bytes map hashes trusted)) c d (cameFrom o)) (Fits (reached N (stateOf L (roomsOf bytes map hashes trusted)) c)) WrongClimb) WrongPeaks) Missing
               ≡ pick w (Fits t) WrongClimb
           pick-last = cases _ _ _ _ (sym is-complete ∙ sym uo ∙ ut) (sym is-rooted ∙ sym vo ∙ vt) (sym is-met ∙ sym wo) (sym is-reached)
             where
@@ -124,19 +119,12 @@ pub verdict-sees : (N : ℕ) (r hashes trusted : List ℕ) (c : ℕ) (d : List �
 unfolding roomVerdict
 verdict-sees N r hashes trusted c d o L bytes map = in-rooms N r hashes trusted c d o 0 [] [] ∙ sym (in-rooms N r hashes trusted c d o L bytes map)
 
--- the height reached, in the theory's words
-is-counted : (N : ℕ) (r hashes trusted : List ℕ) (c : ℕ) (d : List ℕ) (o : Integrity)
-    → reachFrom (λ h. countedBit (every (trustedIn trusted) (peaks N)) N trusted h (above h c)) (suc (levels N)) 0
-    ≡ reachFrom (λ h. counted sha256 filler N r (stateOf 0 (roomsOf [] [] hashes trusted)) c d (cameFrom o) .trust h (above h c)) (suc (levels N)) 0
-unfolding counted peaksTrusted
-is-counted N r hashes trusted c d o = reached-is 0 [] [] N r hashes trusted c d o true 0 (every (trustedIn trusted) (peaks N))
-
 -- a chunk that fits hangs below a node of the tree
 pub fits-within : (N : ℕ) (r hashes trusted : List ℕ) (c : ℕ) (d : List ℕ) (o : Integrity) (t : ℕ) → c < N → roomVerdict N r hashes trusted c d o ≡ Fits t → t ≤ levels N
+unfolding reached peaksTrusted
 fits-within N r hashes trusted c d o t l e =
     let f = fits-means sha256 filler N r (stateOf 0 (roomsOf [] [] hashes trusted)) c d (cameFrom o) t (sym (verdict-sees N r hashes trusted c d o 0 [] []) ∙ e) in
-    let j = reach-in N trusted c l (every (trustedIn trusted) (peaks N)) refl t (f .reached-is ∙ sym (is-counted N r hashes trusted c d o)) in
-    j .0
+    reach-in N trusted c l (every (trustedIn trusted) (peaks N)) refl t (f .reached-is) .0
 
 -- ---- test by test, as the code has them
 

@@ -1,0 +1,143 @@
+-- Taking a chunk looks at the needed hashes alone, and a true chunk with the true hashes that go out with it is taken.
+-- Assumes nothing.
+use mathlib.Core.Path.{_≡_, refl, sym, ap, ap₂, _∙_}
+use mathlib.Core.Bool.{Bool, true, false}
+use mathlib.Core.List.{List}
+use Prim.Native.Nat.{ℕ, zero, suc, _*_, _/_, _%_, _^_, _<_}
+use native.Mathlib.Omega.{arith}
+use borrow.Author.Tests.{lt-leb, eq-eqb, eqb-true}
+use lib.ListN.{length, drop, length-drop}
+use lib.Seq.{length-take-le}
+use Rattle.hash.proofs.Promise.{sha256}
+use Rattle.bits.proofs.Promise.{bitAt, setBit}
+use Rattle.base.specs.Pick.{pick}
+use Rattle.tree.specs.Bin.{bin}
+use Rattle.tree.specs.Node.{other, above}
+use Rattle.tree.specs.Pack.{chunkSize, size, levels}
+use Rattle.tree.specs.Peaks.{peaks, peakBit}
+use Rattle.tree.specs.Tree.{climb}
+use Rattle.tree.specs.Verdicts.{orElse, every, number, peaksTrusted, reached}
+use Rattle.tree.specs.declared.verdict.Verdict.{Verdict}
+use Rattle.tree.specs.declared.verdict.Verdict.the-variants.{Fits, Missing, WrongPeaks, WrongClimb}
+use Rattle.tree.proofs.ChunkLaws.{chunk-inside}
+use Rattle.tree.proofs.PeakTests.{bit-peak}
+use Rattle.tree.proofs.TakeLaws.{fits-means}
+use Rattle.tree.proofs.TrueLaws as truth
+use Rattle.tree.proofs.NeededLaws as theory
+use Rattle.verdict.specs.Room.{filler, putHash}
+use Rattle.verdict.specs.Integrity.{Integrity, cameFrom}
+use Rattle.verdict.specs.Rooms.{Rooms, roomsOf, countOf, chunkIn, stateOf, trustedIn, gotBy}
+use Rattle.verdict.specs.Verdict.{roomVerdict}
+use Rattle.verdict.proofs.VerdictLaws.{verdict-sees}
+use Rattle.store.specs.Storing.{Put, mark, putIf, putPeaks, putPath, putAll, copied, stored, storeSpec, roomsBy}
+use Rattle.store.specs.Building.{treeOf, rootOf}
+use Rattle.store.specs.Answers.{earlier, chunkAnswer}
+use Rattle.store.specs.Calls.{outOf, unless, roomsAnswer, settleSpec, takeSpec}
+use Rattle.store.specs.Needed.{SameNeeded, HoldsTrue, BringsTrue}
+
+-- ---- what storing writes, from two sets of hashes
+
+module _ (put : Put) (x y : ℕ → ℕ → List ℕ) where
+  peaks-alike : (N k : ℕ) (l : List ℕ) → ((h : ℕ) → N / 2 ^ h % 2 ≡ 1 → x h (above (suc h) N) ≡ y h (above (suc h) N))
+      → putPeaks put x N k l ≡ putPeaks put y N k l
+  unfolding putPeaks
+  peaks-alike N zero l e = refl
+  peaks-alike N (suc h) l e = go (peakBit N h) refl (peaks-alike N h l e)
+    where
+      go : (b : Bool) → peakBit N h ≡ b → putPeaks put x N h l ≡ putPeaks put y N h l
+          → putIf put b (putPeaks put x N h l) (bin h (above (suc h) N)) (x h (above (suc h) N))
+          ≡ putIf put b (putPeaks put y N h l) (bin h (above (suc h) N)) (y h (above (suc h) N))
+      go true q ih = ap₂ (λ (m v : List ℕ). put m (bin h (above (suc h) N)) v) ih (e h (eqb-true (N / 2 ^ h % 2) 1 q))
+      go false q ih = ih
+
+  path-alike : (u v : ℕ → List ℕ) (c t : ℕ) (l : List ℕ) → ((h : ℕ) → h < t → u h ≡ v h)
+      → ((h : ℕ) → h < t → x h (other c h (above (suc h) c)) ≡ y h (other c h (above (suc h) c)))
+      → putPath put u x c t l ≡ putPath put v y c t l
+  unfolding putPath
+  path-alike u v c zero l p q = refl
+  path-alike u v c (suc h) l p q =
+      both _ _ _ _ _ _ _ _ (path-alike u v c h l (λ k i. p k (omega arith)) (λ k i. q k (omega arith))) (p h (omega arith)) (q h (omega arith))
+    where
+      both : (a b : ℕ) (l₁ l₂ u₁ u₂ v₁ v₂ : List ℕ) → l₁ ≡ l₂ → u₁ ≡ u₂ → v₁ ≡ v₂ → put (put l₁ a u₁) b v₁ ≡ put (put l₂ a u₂) b v₂
+      both a b l₁ l₂ u₁ u₂ v₁ v₂ e f g = cc
+
+-- ---- the call
+
+module _ (w : Rooms) (L c : ℕ) (o p : Integrity) (A : SameNeeded L w c o p) where
+  abbrev N : ℕ
+  N = countOf L
+
+  abbrev peaksOpen : Bool
+  peaksOpen = every (trustedIn (w .trusted)) (peaks N)
+
+  peaks-agree : peaksOpen ≡ false → (h : ℕ) → N / 2 ^ h % 2 ≡ 1 → gotBy o h (above (suc h) N) ≡ gotBy p h (above (suc h) N)
+  unfolding SameNeeded peaksTrusted
+  peaks-agree e h b =
+      let q = bit-peak N h b in
+      ap (orElse filler) (theory.peaks-agree N (stateOf L w) c (cameFrom o) (cameFrom p) A e h (above (suc h) N) (q .0) (q .1))
+
+  siblings-agree : (h : ℕ) → h < reached N (stateOf L w) c → gotBy o h (other c h (above (suc h) c)) ≡ gotBy p h (other c h (above (suc h) c))
+  unfolding SameNeeded
+  siblings-agree h l = ap (orElse filler) (theory.siblings-agree N (stateOf L w) c (cameFrom o) (cameFrom p) A h l)
+
+  module _ (r d : List ℕ) where
+    verdicts-same : roomVerdict N r (w .hashes) (w .trusted) c d o ≡ roomVerdict N r (w .hashes) (w .trusted) c d p
+    unfolding SameNeeded
+    verdicts-same =
+        verdict-sees N r (w .hashes) (w .trusted) c d o L (w .bytes) (w .map)
+        ∙ theory.needed-only N (stateOf L w) c (cameFrom o) (cameFrom p) A sha256 filler r d
+        ∙ sym (verdict-sees N r (w .hashes) (w .trusted) c d p L (w .bytes) (w .map))
+
+    put-same : (put : Put) (t : ℕ) (l : List ℕ) → t ≡ reached N (stateOf L w) c → putAll put peaksOpen N c t d o l ≡ putAll put peaksOpen N c t d p l
+    unfolding putAll
+    put-same put t l e =
+        path-alike put (gotBy o) (gotBy p) (λ h. climb sha256 (gotBy o) (sha256 d) c h (above h c)) (λ h. climb sha256 (gotBy p) (sha256 d) c h (above h c)) c t _
+        (λ h u. truth.climb-agree sha256 (gotBy o) (gotBy p) (sha256 d) c h (λ k i. siblings-agree k (omega arith)))
+        (λ h u. siblings-agree h (omega arith))
+        ∙ ap (putPath put (λ h. climb sha256 (gotBy p) (sha256 d) c h (above h c)) (gotBy p) c t) (go peaksOpen refl)
+      where
+        go : (b : Bool) → peaksOpen ≡ b → pick b l (putPeaks put (gotBy o) N (suc (levels N)) l) ≡ pick b l (putPeaks put (gotBy p) N (suc (levels N)) l)
+        go true q = refl
+        go false q = peaks-alike put (gotBy o) (gotBy p) N (suc (levels N)) l (peaks-agree q)
+
+    store-same : (t : ℕ) → t ≡ reached N (stateOf L w) c → storeSpec w N c t d o ≡ storeSpec w N c t d p
+    unfolding storeSpec stored
+    store-same t e =
+        ap₂ (λ (x y : List ℕ). pick (bitAt (w .map) c) w (roomsOf (copied (w .bytes) (chunkSize * c) d) (setBit (w .map) c) x y))
+        (put-same putHash t (w .hashes) e) (put-same mark t (w .trusted) e)
+
+    rooms-same : (v : Verdict) → roomVerdict N r (w .hashes) (w .trusted) c d o ≡ v
+        → roomsBy v w (λ t. storeSpec w N c t d o) ≡ roomsBy v w (λ t. storeSpec w N c t d p)
+    rooms-same (Fits t) e =
+        store-same t (fits-means sha256 filler N r (stateOf L w) c d (cameFrom o) t (sym (verdict-sees N r (w .hashes) (w .trusted) c d o L (w .bytes) (w .map)) ∙ e) .reached-is)
+    rooms-same Missing e = refl
+    rooms-same WrongPeaks e = refl
+    rooms-same WrongClimb e = refl
+
+    pub take-same : takeSpec w r L c d o ≡ takeSpec w r L c d p
+    unfolding takeSpec settleSpec
+    take-same =
+        ap (unless (earlier (roomsAnswer L w) (chunkAnswer L c (length d))) w)
+        (ap₂ outOf (ap number verdicts-same)
+        (rooms-same _ refl ∙ ap (λ (v : Verdict). roomsBy v w (λ t. storeSpec w N c t d p)) verdicts-same))
+
+-- ---- a true chunk
+
+-- a chunk of the pack with the length that it has
+chunk-right : (L c n : ℕ) → c < countOf L → n ≡ size chunkSize L c → chunkAnswer L c n ≡ 0
+unfolding chunkAnswer
+chunk-right L c n l e = rw (lt-leb (countOf L) c l, eq-eqb n (size chunkSize L c) e)
+
+chunk-long : (s : List ℕ) (c : ℕ) → c < countOf (length s) → length (chunkIn (length s) s c) ≡ size chunkSize (length s) c
+chunk-long s c l =
+    length-take-le (size chunkSize (length s) c) (drop (chunkSize * c) s)
+    (rw (length-drop (chunkSize * c) s) (omega (arith, chunk-inside chunkSize (length s) (omega arith) c l)))
+
+pub take-true : (w : Rooms) (s : List ℕ) (c : ℕ) (o : Integrity) → roomsAnswer (length s) w ≡ 0 → c < countOf (length s) → HoldsTrue w s → BringsTrue s c o
+    → takeSpec w (rootOf s) (length s) c (chunkIn (length s) s c) o .answer ≡ 0
+unfolding takeSpec settleSpec HoldsTrue BringsTrue treeOf rootOf
+take-true w s c o e l T B =
+    rw (e, chunk-right (length s) c _ l (chunk-long s c l))
+    (ap number
+    (verdict-sees (countOf (length s)) (rootOf s) (w .hashes) (w .trusted) c (chunkIn (length s) s c) o (length s) (w .bytes) (w .map)
+    ∙ truth.true-fits sha256 filler (countOf (length s)) (chunkIn (length s) s) (stateOf (length s) w) T c l (cameFrom o) B))
