@@ -48,7 +48,8 @@ pub fn integrity(first: u32, last: u32, hash: usize) -> Message {
 /// DATA of the first bytes of the source.
 pub fn data(chunk: u32, len: usize) -> Message {
     Message::Data {
-        chunk,
+        first: chunk,
+        last: chunk,
         time: 0x2a,
         start: 0,
         len,

@@ -104,8 +104,10 @@ impl Composing {
 /// DATA that fills up a datagram of such a length, or is a byte too long for it.
 fn filling(random: &mut Random, so_far: usize) -> (Message, Vec<u8>) {
     let size = (wire::MAX_SIZE + random.place(2)).saturating_sub(so_far + DATA_HEAD);
+    let chunk = random.below(512);
     let data = Message::Data {
-        chunk: random.below(512),
+        first: chunk,
+        last: chunk,
         time: clock(random),
         start: 0,
         len: size,

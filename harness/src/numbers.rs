@@ -52,13 +52,14 @@ pub fn numbers<'a>(message: &Message, source: &'a [u8]) -> Numbers<'a> {
             of(HANDSHAKE, source, options, 0, bytes)
         }
         Message::Data {
-            chunk,
+            first,
+            last,
             time,
             start,
             len,
         } => match source.get(start..).and_then(|rest| rest.get(..len)) {
-            Some(bytes) => of(DATA, chunk, chunk, time, bytes),
-            None => of(NO_TYPE, chunk, chunk, time, &[]),
+            Some(bytes) => of(DATA, first, last, time, bytes),
+            None => of(NO_TYPE, first, last, time, &[]),
         },
         Message::Ack { first, last, delay } => of(ACK, first, last, delay, &[]),
         Message::Have { first, last } => of(3, first, last, 0, &[]),

@@ -22,7 +22,8 @@ fn each_message_is_written_as_the_table_says() {
     let added = format!("04 00000004 00000005 {ROOT}");
     taken("00000005", integrity(4, 5, 1), &added);
     let chunk = Message::Data {
-        chunk: 3,
+        first: 3,
+        last: 3,
         time: 0xfedc_ba98_7654_3210,
         start: 254,
         len: 5,

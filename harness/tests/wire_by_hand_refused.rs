@@ -17,7 +17,6 @@ fn messages_that_cannot_be_written() {
         refused("00000005", handshake(5, options), 2);
         refused(WITH_HANDSHAKE, integrity(0, 0, hash), 2);
     }
-    let (chunk, time) = (3, 0);
     for (start, len) in [
         (2_999, 2),
         (3_000, 1),
@@ -26,8 +25,9 @@ fn messages_that_cannot_be_written() {
         (1, usize::MAX),
     ] {
         let chunk = Message::Data {
-            chunk,
-            time,
+            first: 3,
+            last: 3,
+            time: 0,
             start,
             len,
         };

@@ -76,10 +76,13 @@ pub enum Message {
         /// What it is told.
         options: Options,
     },
-    /// A chunk, to the datagram's end.
+    /// A chunk, to the datagram's end. Read and added only with a range of one
+    /// chunk.
     Data {
-        /// Its number.
-        chunk: u32,
+        /// The first chunk of its range.
+        first: u32,
+        /// The last chunk of its range.
+        last: u32,
         /// The sender's clock.
         time: u64,
         /// The place of its first byte.

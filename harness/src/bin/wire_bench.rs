@@ -129,7 +129,8 @@ fn integrity(count: u32) -> Vec<Message> {
 fn chunk_messages() -> Vec<Message> {
     let mut messages = integrity(9);
     messages.push(Message::Data {
-        chunk: 9,
+        first: 9,
+        last: 9,
         time: 42,
         start: 0,
         len: 1_024,
@@ -168,7 +169,8 @@ fn ten_messages() -> [Message; 10] {
             hash: 64,
         },
         Message::Data {
-            chunk: 7,
+            first: 7,
+            last: 7,
             time: 42,
             start: 0,
             len: 1_024,

@@ -16,8 +16,7 @@ pub fn write(
     clock: u64,
 ) -> Result<usize, u8> {
     state.check(rooms)?;
-    let row = state.lowest_open(id).ok_or(answer::MISPLACED)?;
-    let peer = state.rows[row].peer;
+    let row = &state.rows[state.lowest_open(id).ok_or(answer::MISPLACED)?];
     let count = tree::chunk_count(state.length);
     if chunk >= count {
         return Err(answer::PAST_THE_END);
@@ -25,7 +24,7 @@ pub fn write(
     if !bit(rooms.map, chunk as usize) {
         return Err(answer::NOT_HELD);
     }
-    let mut length = address(rooms.reply, peer);
+    let mut length = address(rooms.reply, row.peer);
     for node in tree::each_sent(count, chunk) {
         // The nodes of a tree over 512 chunks have small numbers.
         let integrity = Message::Integrity {
@@ -39,7 +38,8 @@ pub fn write(
     let start = (chunk * CHUNK_SIZE) as usize;
     let len = tree::chunk_size(state.length, chunk) as usize;
     let data = Message::Data {
-        chunk,
+        first: chunk,
+        last: chunk,
         time: clock,
         start,
         len,

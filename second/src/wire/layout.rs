@@ -52,10 +52,11 @@ pub(crate) fn check(datagram: &[u8], mut keep: impl FnMut(Message) -> bool) -> R
                 return Err(MISPLACED);
             }
             Message::Data {
-                chunk,
+                first: chunk,
                 time,
                 start,
                 len,
+                ..
             } => {
                 return Ok(Layout::MessagesAndData {
                     chunk,
@@ -64,19 +65,9 @@ pub(crate) fn check(datagram: &[u8], mut keep: impl FnMut(Message) -> bool) -> R
                     len,
                 });
             }
-            Message::Integrity { .. }
-            | Message::Ack { .. }
-            | Message::Have { .. }
-            | Message::Request { .. }
-            | Message::Cancel { .. }
-            | Message::Choke
-            | Message::Unchoke => {
-                if !keep(message) {
-                    return Err(BAD_LAYOUT);
-                }
-            }
+            _ if keep(message) => at = next,
+            _ => return Err(BAD_LAYOUT),
         }
-        at = next;
     }
 }
 

@@ -16,8 +16,9 @@ pub fn add(so_far: &[u8], message: &Message, source: &[u8]) -> Result<Vec<u8>, u
     }
 }
 
-/// The bytes of a message, if it can be written.
-pub fn encode(message: &Message, source: &[u8]) -> Option<Vec<u8>> {
+/// The bytes of a message, if it can be written; its hash, chunk or root is
+/// taken from a slice.
+pub fn encode(message: &Message, from: &[u8]) -> Option<Vec<u8>> {
     let mut bytes = Vec::new();
     let mut range = |kind: u8, first: u32, last: u32| {
         bytes.push(kind);
@@ -25,31 +26,20 @@ pub fn encode(message: &Message, source: &[u8]) -> Option<Vec<u8>> {
         bytes.extend(last.to_be_bytes());
     };
     match *message {
-        Message::Handshake {
-            source: channel,
-            options,
-        } => {
-            bytes.push(0);
-            bytes.extend(channel.to_be_bytes());
-            match options {
-                Options::Fixed { root } => {
-                    bytes.extend(b"\x00\x01\x01\x01\x02\x00\x20");
-                    bytes.extend(slice(source, root, 32)?);
-                    bytes.extend(b"\x03\x01\x04\x02\x06\x02\x09\x00\x00\x04\x00\xFF");
-                }
-                Options::EndOnly => bytes.push(0xFF),
-                Options::Other => return None,
-            }
+        Message::Handshake { source, options } => {
+            bytes.extend([&[0], &source.to_be_bytes()[..]].concat());
+            bytes.extend(encode_options(options, from)?);
         }
         Message::Data {
-            chunk,
+            first,
+            last,
             time,
             start,
             len,
         } => {
-            range(1, chunk, chunk);
+            range(1, first, last);
             bytes.extend(time.to_be_bytes());
-            bytes.extend(slice(source, start, len)?);
+            bytes.extend(slice(from, start, len)?);
         }
         Message::Ack { first, last, delay } => {
             range(2, first, last);
@@ -58,7 +48,7 @@ pub fn encode(message: &Message, source: &[u8]) -> Option<Vec<u8>> {
         Message::Have { first, last } => range(3, first, last),
         Message::Integrity { first, last, hash } => {
             range(4, first, last);
-            bytes.extend(slice(source, hash, 32)?);
+            bytes.extend(slice(from, hash, 32)?);
         }
         Message::Request { first, last } => range(8, first, last),
         Message::Cancel { first, last } => range(9, first, last),
@@ -68,8 +58,19 @@ pub fn encode(message: &Message, source: &[u8]) -> Option<Vec<u8>> {
     Some(bytes)
 }
 
-/// The bytes at `start..start + len` if the source has them all.
-fn slice(source: &[u8], start: usize, len: usize) -> Option<&[u8]> {
+/// The bytes of the options, if they can be written.
+fn encode_options(options: Options, from: &[u8]) -> Option<Vec<u8>> {
+    let Options::Fixed { root } = options else {
+        return (options == Options::EndOnly).then(|| vec![0xFF]);
+    };
+    let mut bytes = b"\x00\x01\x01\x01\x02\x00\x20".to_vec();
+    bytes.extend(slice(from, root, 32)?);
+    bytes.extend(b"\x03\x01\x04\x02\x06\x02\x09\x00\x00\x04\x00\xFF");
+    Some(bytes)
+}
+
+/// The bytes at `start..start + len` if the slice has them all.
+fn slice(from: &[u8], start: usize, len: usize) -> Option<&[u8]> {
     let end = start.checked_add(len)?;
-    (end <= source.len()).then(|| &source[start..end])
+    (end <= from.len()).then(|| &from[start..end])
 }

@@ -31,17 +31,7 @@ fn message(kind: u8, body: &[u8], at: usize) -> Option<(Message, usize)> {
             let (options, len) = options(&body[4..], at + 4)?;
             Some((Message::Handshake { source, options }, 4 + len))
         }
-        kind::DATA => {
-            let (first, last) = range(body)?;
-            let time = number(&body[8..])?;
-            let data = Message::Data {
-                chunk: first,
-                time,
-                start: at + 16,
-                len: body.len() - 16,
-            };
-            (first == last).then_some((data, body.len()))
-        }
+        kind::DATA => Some((data(body, at)?, body.len())),
         kind::ACK => {
             let (first, last) = range(body)?;
             let delay = number(&body[8..])?;
@@ -70,6 +60,21 @@ fn message(kind: u8, body: &[u8], at: usize) -> Option<(Message, usize)> {
         kind::UNCHOKE => Some((Message::Unchoke, 0)),
         5..=7 | 12..=255 => None,
     }
+}
+
+/// The DATA of these bytes, all of which are its own, if its range is one chunk.
+#[inline]
+fn data(body: &[u8], at: usize) -> Option<Message> {
+    let (first, last) = range(body)?;
+    let time = number(&body[8..])?;
+    let data = Message::Data {
+        first,
+        last,
+        time,
+        start: at + 16,
+        len: body.len() - 16,
+    };
+    (first == last).then_some(data)
 }
 
 /// The range at the front: its first chunk is not above its last.

@@ -1,6 +1,7 @@
 //! Reading and writing against 01's words and against the list of traps, whose
 //! numbers the tests give.
 
+mod data_ranges;
 mod layouts;
 mod reading;
 mod writing;
@@ -40,4 +41,28 @@ fn to(destination: u32, messages: &[&[u8]]) -> Vec<u8> {
 /// The number of its layout.
 fn number(datagram: &[u8]) -> u8 {
     layout(datagram, &mut Vec::new()).err().unwrap_or(0)
+}
+
+/// A room of 2,048 bytes with a datagram in it, and the datagram's length.
+fn room(datagram: &[u8]) -> ([u8; 2048], usize) {
+    let mut room = [0xee; 2048];
+    room[..datagram.len()].copy_from_slice(datagram);
+    (room, datagram.len())
+}
+
+/// Adds to a datagram: the answer is the lengthened datagram. The bytes behind
+/// it stay, and after a refusal all bytes.
+fn added(datagram: &[u8], message: Message, source: &[u8]) -> Result<Vec<u8>, u8> {
+    let (mut room, len) = room(datagram);
+    let before = room;
+    match add(&mut room, len, &message, source) {
+        Ok(lengthened) => {
+            assert_eq!(room[lengthened..], before[lengthened..]);
+            Ok(room[..lengthened].to_vec())
+        }
+        Err(number) => {
+            assert_eq!(room, before);
+            Err(number)
+        }
+    }
 }

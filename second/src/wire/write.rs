@@ -86,7 +86,12 @@ fn check_behind(so_far: &[u8], nodes: &mut Nodes, message: &Message) -> Result<(
                 return Err(BAD_LAYOUT);
             }
         }
-        Message::Data { .. } | Message::Choke | Message::Unchoke => {}
+        Message::Data { first, last, .. } => {
+            if first != last {
+                return Err(BAD_LAYOUT);
+            }
+        }
+        Message::Choke | Message::Unchoke => {}
     }
     Ok(())
 }
@@ -154,8 +159,10 @@ fn write(own: &mut [u8], message: &Message, bytes: &[u8]) {
             id.copy_from_slice(bytes);
             behind.copy_from_slice(&BEHIND_ID);
         }
-        Message::Data { chunk, time, .. } => {
-            put_range(own, kind::DATA, chunk, chunk);
+        Message::Data {
+            first, last, time, ..
+        } => {
+            put_range(own, kind::DATA, first, last);
             own[9..17].copy_from_slice(&time.to_be_bytes());
             own[17..].copy_from_slice(bytes);
         }

@@ -7,10 +7,11 @@ use crate::wire::{Message, Options, HASH_SIZE};
 ///
 /// Of 16, on average, 12 can be added to a datagram that has room for them and
 /// no HANDSHAKE, DATA or node against them: 1 of these is a HANDSHAKE and 1 is
-/// DATA. The others are 1 with its range reversed, 1 INTEGRITY over no node, 1
-/// with a place outside its source (just or far outside), and 1 that is one of:
-/// HANDSHAKE with other options, HANDSHAKE from source 0 with the fixed ones,
-/// DATA of about as many bytes as a datagram has room for, or of more.
+/// DATA. The others are 1 with its range reversed, 1 INTEGRITY over no node or
+/// DATA over several chunks, 1 with a place outside its source (just or far
+/// outside), and 1 that is one of: HANDSHAKE with other options, HANDSHAKE from
+/// source 0 with the fixed ones, DATA of about as many bytes as a datagram has
+/// room for, or of more. The DATA of the last two has any range in 1 of 4 cases.
 pub fn messages(seed: u64, count: usize) -> Vec<(Message, Vec<u8>)> {
     let mut random = Random::new(seed);
     std::iter::repeat_with(|| message(&mut random))
@@ -22,7 +23,10 @@ fn message(random: &mut Random) -> (Message, Vec<u8>) {
     match random.below(16) {
         0..12 => sound(random),
         12 => reversed(random),
-        13 => no_node(random),
+        13 => match random.below(2) {
+            0 => no_node(random),
+            _ => several_chunks(random),
+        },
         14 => outside(random),
         _ => at_the_border(random),
     }
@@ -33,8 +37,8 @@ fn sound(random: &mut Random) -> (Message, Vec<u8>) {
     let plain = match random.below(12) {
         0 => return handshake(random),
         1 => {
-            let size = random.chunk_size();
-            return data(random, size);
+            let (chunk, size) = (random.number(), random.chunk_size());
+            return data(random, (chunk, chunk), size);
         }
         2..5 => return integrity(random),
         5 => Message::Ack {
@@ -64,10 +68,11 @@ fn handshake(random: &mut Random) -> (Message, Vec<u8>) {
     (Message::Handshake { source, options }, slice)
 }
 
-fn data(random: &mut Random, len: usize) -> (Message, Vec<u8>) {
+fn data(random: &mut Random, range: (u32, u32), len: usize) -> (Message, Vec<u8>) {
     let (start, slice) = place(random, len);
     let data = Message::Data {
-        chunk: random.number(),
+        first: range.0,
+        last: range.1,
         time: random.time(),
         start,
         len,
@@ -97,14 +102,35 @@ fn reversed(random: &mut Random) -> (Message, Vec<u8>) {
     };
     let (hash, slice) = place(random, HASH_SIZE);
     let delay = random.time();
-    let message = match random.below(5) {
+    let message = match random.below(6) {
         0 => Message::Ack { first, last, delay },
         1 => Message::Have { first, last },
         2 => Message::Integrity { first, last, hash },
         3 => Message::Request { first, last },
-        _ => Message::Cancel { first, last },
+        4 => Message::Cancel { first, last },
+        _ => return data(random, (first, last), HASH_SIZE),
     };
     (message, slice)
+}
+
+/// DATA over two chunks or more.
+fn several_chunks(random: &mut Random) -> (Message, Vec<u8>) {
+    let (low, high) = random.range();
+    let (first, last) = match low {
+        u32::MAX => (low - 1, high),
+        _ => (low, high.max(low + 1)),
+    };
+    let size = random.chunk_size();
+    data(random, (first, last), size)
+}
+
+/// One chunk, or in 1 of 4 cases any two numbers.
+fn mostly_one(random: &mut Random) -> (u32, u32) {
+    let (first, other) = (random.number(), random.number());
+    match random.below(4) {
+        0 => (first, other),
+        _ => (first, first),
+    }
 }
 
 /// The chunks from one that is no multiple of their number, or with one more or
@@ -131,18 +157,16 @@ fn no_node(random: &mut Random) -> (Message, Vec<u8>) {
 /// it, begin just behind it, or are far away.
 fn outside(random: &mut Random) -> (Message, Vec<u8>) {
     let (mut message, mut slice) = match random.below(3) {
-        0 => data(random, 1),
+        0 => {
+            let range = mostly_one(random);
+            data(random, range, 1)
+        }
         1 => integrity(random),
-        _ => loop {
-            let (message, slice) = handshake(random);
-            if let Message::Handshake {
-                options: Options::Fixed { .. },
-                ..
-            } = message
-            {
-                break (message, slice);
-            }
-        },
+        _ => {
+            let (source, (root, slice)) = (random.number(), place(random, HASH_SIZE));
+            let options = Options::Fixed { root };
+            (Message::Handshake { source, options }, slice)
+        }
     };
     let end = slice.len();
     let far = [end, end + 1, usize::MAX - 31, usize::MAX - 1, usize::MAX][random.below(5)];
@@ -185,12 +209,12 @@ fn at_the_border(random: &mut Random) -> (Message, Vec<u8>) {
             (Message::Handshake { source: 0, options }, slice)
         }
         2 => {
-            let size = 2020 + random.below(16);
-            data(random, size)
+            let (range, size) = (mostly_one(random), 2020 + random.below(16));
+            data(random, range, size)
         }
         _ => {
-            let size = 1800 + random.below(1000);
-            data(random, size)
+            let (range, size) = (mostly_one(random), 1800 + random.below(1000));
+            data(random, range, size)
         }
     }
 }
@@ -221,6 +245,15 @@ mod tests {
             };
             assert!(first < last && tree::node_of_range(first, last).is_none());
             assert_eq!(answer((message, slice)), 2);
+            let (message, slice) = several_chunks(&mut random);
+            let Message::Data {
+                first, last, len, ..
+            } = message
+            else {
+                panic!("{message:?}");
+            };
+            assert!(first < last);
+            assert_eq!(answer((message, slice)), if len > 2027 { 1 } else { 2 });
             seen[usize::from(answer(at_the_border(&mut random)))] += 1;
             let (message, slice) = sound(&mut random);
             let fits = !matches!(message, Message::Data { len, .. } if len > 2027);

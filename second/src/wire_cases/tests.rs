@@ -112,12 +112,17 @@ fn shares_of_the_messages() {
     let len = begin(&mut room, 5).unwrap();
     let mut counts = [0; 4];
     let (mut handshakes, mut data, mut far) = (0, 0, 0);
+    let (mut several, mut reversed) = (0, 0);
     for (message, slice) in messages(4, COUNT) {
         let answer = add(&mut room.clone(), len, &message, &slice);
         counts[usize::from(answer.err().unwrap_or(0))] += 1;
         match message {
             Message::Handshake { .. } => handshakes += 1,
-            Message::Data { .. } => data += 1,
+            Message::Data { first, last, .. } => {
+                data += 1;
+                several += usize::from(first < last);
+                reversed += usize::from(first > last);
+            }
             Message::Integrity { hash, .. } => far += usize::from(hash == usize::MAX),
             _ => {}
         }
@@ -127,6 +132,7 @@ fn shares_of_the_messages() {
         assert!(*count > COUNT / 200, "{counts:?}");
     }
     assert!(handshakes > COUNT / 20 && data > COUNT / 20 && far > 0);
+    assert!(several > COUNT / 50 && reversed > COUNT / 200);
 }
 
 /// Added one after the other until one is refused, they meet every refusal.

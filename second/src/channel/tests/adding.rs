@@ -52,6 +52,28 @@ fn trap_121_limits_and_places() {
     assert_eq!(added(&empty, hs(5, Options::EndOnly), &[]), (0, end));
 }
 
+/// DATA of one chunk and of others, as an entry point.
+#[test]
+fn data_with_any_range() {
+    let over = |first, last| Message::Data {
+        first,
+        last,
+        time: 7,
+        start: 0,
+        len: 3,
+    };
+    let empty = to(99, &[]);
+    let expected = to(99, &[&data(5, 5, 7, b"abc")]);
+    assert_eq!(added(&empty, over(5, 5), b"abc"), (0, expected));
+    let alone = to(5, &[&closing()]);
+    let full = to(5, &[&vec![10; 2025]]);
+    for range in [over(5, 6), over(6, 5), over(0, u32::MAX)] {
+        assert_eq!(added(&empty, range, b"abc"), (2, vec![]));
+        assert_eq!(added(&alone, range, b"abc"), (3, vec![]));
+        assert_eq!(added(&full, range, b"abc"), (1, vec![]));
+    }
+}
+
 #[test]
 fn traps_122_to_124_nothing_later_is_checked() {
     let far = Message::Have {

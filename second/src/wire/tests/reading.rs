@@ -29,7 +29,8 @@ fn each_message_of_the_table() {
     let node = Message::Integrity { first, last, hash };
     assert_eq!(alone(&integrity(4, 5)), at(node, 41));
     let chunk = Message::Data {
-        chunk: 3,
+        first: 3,
+        last: 3,
         time: 1 << 63,
         start: 21,
         len: 6,
@@ -100,7 +101,8 @@ fn first_above_last() {
 #[test]
 fn data_borders() {
     let none = Message::Data {
-        chunk: u32::MAX,
+        first: u32::MAX,
+        last: u32::MAX,
         time: u64::MAX,
         start: 21,
         len: 0,

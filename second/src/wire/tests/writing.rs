@@ -1,30 +1,6 @@
 use super::*;
 use crate::wire_cases;
 
-/// A room of 2,048 bytes with a datagram in it, and the datagram's length.
-fn room(datagram: &[u8]) -> ([u8; 2048], usize) {
-    let mut room = [0xee; 2048];
-    room[..datagram.len()].copy_from_slice(datagram);
-    (room, datagram.len())
-}
-
-/// Adds to a datagram: the answer is the lengthened datagram. The bytes behind
-/// it stay, and after a refusal all bytes.
-fn added(datagram: &[u8], message: Message, source: &[u8]) -> Result<Vec<u8>, u8> {
-    let (mut room, len) = room(datagram);
-    let before = room;
-    match add(&mut room, len, &message, source) {
-        Ok(lengthened) => {
-            assert_eq!(room[lengthened..], before[lengthened..]);
-            Ok(room[..lengthened].to_vec())
-        }
-        Err(number) => {
-            assert_eq!(room, before);
-            Err(number)
-        }
-    }
-}
-
 const HAVE: Message = Message::Have { first: 2, last: 5 };
 const REVERSED: Message = Message::Have { first: 5, last: 2 };
 const CLOSING: Message = Message::Handshake {
@@ -42,10 +18,10 @@ fn opening(source: u32, root: usize) -> Message {
 }
 
 fn chunk(start: usize, len: usize) -> Message {
-    let (chunk, time) = (3, 258);
     Message::Data {
-        chunk,
-        time,
+        first: 3,
+        last: 3,
+        time: 258,
         start,
         len,
     }
@@ -142,7 +118,11 @@ fn the_datagram_so_far_is_judged_first() {
 #[test]
 fn messages_that_cannot_be_written() {
     let source = [1; 40];
-    let (first, last) = (0, 0);
+    let node = |hash| Message::Integrity {
+        first: 0,
+        last: 0,
+        hash,
+    };
     let alone = to(5, &[&handshake(1, &[255])]);
     let full = [10; 2048];
     for (message, fits) in [
@@ -153,38 +133,10 @@ fn messages_that_cannot_be_written() {
         (chunk(usize::MAX, 1), false),
         (chunk(1, usize::MAX), false),
         (chunk(usize::MAX, usize::MAX), false),
-        (
-            Message::Integrity {
-                first,
-                last,
-                hash: 8,
-            },
-            true,
-        ),
-        (
-            Message::Integrity {
-                first,
-                last,
-                hash: 9,
-            },
-            false,
-        ),
-        (
-            Message::Integrity {
-                first,
-                last,
-                hash: usize::MAX,
-            },
-            false,
-        ),
-        (
-            Message::Integrity {
-                first,
-                last,
-                hash: usize::MAX - 31,
-            },
-            false,
-        ),
+        (node(8), true),
+        (node(9), false),
+        (node(usize::MAX), false),
+        (node(usize::MAX - 31), false),
         (opening(1, 8), true),
         (opening(1, 9), false),
         (opening(1, usize::MAX), false),

@@ -74,7 +74,10 @@ fn take_messages(before: &Caller, clock: u64, row: usize, datagram: &[u8]) -> Do
                 came.insert(node, datagram[hash..hash + 32].try_into().unwrap());
             }
             Message::Data {
-                chunk, time, start, ..
+                first: chunk,
+                time,
+                start,
+                ..
             } => {
                 take_chunk(&mut after, chunk as usize, &datagram[start..], &came)?;
                 let delay = clock.wrapping_sub(time);
@@ -89,8 +92,8 @@ fn take_messages(before: &Caller, clock: u64, row: usize, datagram: &[u8]) -> Do
 /// The last chunk of a message, if any.
 fn last(message: &Message) -> u64 {
     match *message {
-        Message::Data { chunk, .. } => chunk.into(),
-        Message::Ack { last, .. }
+        Message::Data { last, .. }
+        | Message::Ack { last, .. }
         | Message::Have { last, .. }
         | Message::Integrity { last, .. }
         | Message::Request { last, .. }
