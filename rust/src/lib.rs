@@ -82,3 +82,8 @@ pub use refusal::Refusal;
 pub use rooms::{Lend, Rooms, View};
 pub use store::Store;
 pub use table::{Channel, Phase};
+
+/// The README's lines in Rust compile.
+#[cfg(doctest)]
+#[doc = include_str!("../../README.md")]
+struct Readme;
