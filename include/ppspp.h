@@ -37,8 +37,9 @@
  *   - a clock is any number; by the protocol it is in microseconds. It only goes into the delay of an ACK or the
  *     timestamp of DATA.
  *   - an ID of a channel of ours is not 0 and not in use, or else is answered with 14. It is looked at only where a
- *     channel is opened; ppspp_store_row_of() of ppspp_rooms.h tells after a take whether it was used. IDs that are
- *     hard to guess keep strangers from naming them.
+ *     channel is opened. If it had no row before a take, ppspp_store_row_of() of ppspp_rooms.h tells afterwards whether
+ *     it was used; one that was in use has a row in any case. IDs that are hard to guess keep strangers from naming
+ *     them.
  *
  * The library is for Linux on x86-64, where size_t has 64 bits. It needs memcpy and memset of the C library, nothing
  * else, and leaves errno alone. A call touches under 8 KiB of stack (measured, tests/c/stack/). This header needs C99
@@ -238,9 +239,12 @@ uint32_t ppspp_begin(uint8_t *reply, size_t reply_n, uint32_t destination, size_
 uint32_t ppspp_add(uint8_t *reply, size_t reply_n, size_t len, uint32_t type, uint32_t first, uint32_t last,
                    uint64_t number, const uint8_t *bytes, size_t bytes_n, size_t *reply_len);
 
-/* What stands at a place of a datagram; its messages begin at place 4. It is read alone; nothing else is checked. */
+/*
+ * What stands at a place of a datagram; its messages begin at place 4. It is read alone, as if a message began there,
+ * and nothing else is checked: places 0 to 3, and those of a datagram under 4 bytes, are read like any other.
+ */
 enum ppspp_step {
-    PPSPP_STEP_END = 0,     /* its end: the place is at or past it, also in a datagram under 4 bytes */
+    PPSPP_STEP_END = 0,     /* its end: the place is at or past it */
     PPSPP_STEP_MESSAGE = 1, /* a message */
     PPSPP_STEP_REFUSED = 2  /* what is refused with 2 */
 };

@@ -159,8 +159,8 @@ pub fn add(room: &mut [u8], so_far: usize, message: Numbers<'_>) -> Answered {
     (number, len)
 }
 
-/// What stands at a place of a datagram, a number of the header's `enum ppspp_step`. Of a message, `found` gets the
-/// words; else it stays as it is.
+/// What stands at a place of a datagram, a number of the header's `enum ppspp_step`. Any place is read as if a message
+/// began there, the first four too. Of a message, `found` gets the words; else it stays as it is.
 pub fn read(datagram: &[u8], at: usize, found: &mut [u64; sys::PPSPP_FOUND_WORDS]) -> u32 {
     // SAFETY: a slice, valid for its length, and an array of as many words as the library writes.
     unsafe { sys::ppspp_read(datagram.as_ptr(), datagram.len(), at, found.as_mut_ptr()) }

@@ -101,8 +101,9 @@ impl<R: Lend> Store<R> {
     /// else no byte.
     ///
     /// The clock is any number, in microseconds by the protocol; it only goes into the ACK's delay. The ID is for a
-    /// channel that the datagram may open, and is looked at only then: [`channel`](Store::channel) tells whether it was
-    /// used. IDs that are hard to guess keep strangers from naming them.
+    /// channel that the datagram may open, and is looked at only then. If it had no row before,
+    /// [`channel`](Store::channel) tells afterwards whether it was used. IDs that are hard to guess keep strangers from
+    /// naming them.
     pub fn take(&mut self, clock: u64, id: u32, datagram: &[u8]) -> Result<&[u8], Refusal> {
         let answered = calls::take(self.rooms.lend(), clock, id, datagram);
         self.reply(answered)

@@ -79,7 +79,7 @@ pub const PPSPP_OPTIONS_FIXED: u32 = 1;
 /// Options: others; they are read, and never written.
 pub const PPSPP_OPTIONS_OTHER: u32 = 2;
 
-/// At a place of a datagram: its end.
+/// At a place of a datagram: its end; the place is at or past it.
 pub const PPSPP_STEP_END: u32 = 0;
 /// At a place of a datagram: a message.
 pub const PPSPP_STEP_MESSAGE: u32 = 1;
@@ -270,7 +270,8 @@ extern "C" {
         reply_len: *mut usize,
     ) -> u32;
 
-    /// What stands at a place of a datagram; its messages begin at place 4. Of a message, `found` gets
-    /// [`PPSPP_FOUND_WORDS`] words; without one it stays as it was.
+    /// What stands at a place of a datagram; its messages begin at place 4. It is read alone, as if a message began
+    /// there, and nothing else is checked: places 0 to 3, and those of a datagram under 4 bytes, are read like any
+    /// other. Of a message, `found` gets [`PPSPP_FOUND_WORDS`] words; without one it stays as it was.
     pub fn ppspp_read(datagram: *const u8, datagram_n: usize, at: usize, found: *mut u64) -> u32;
 }

@@ -20,6 +20,7 @@ void group_closing(void);
 void group_messages(void);
 void group_effects(void);
 void group_read_back(void);
+void group_read_anywhere(void);
 void group_read_none(void);
 
 /* numbers_reading.c: 1 to 7; numbers_storing.c: 8 to 14 */

@@ -33,6 +33,7 @@ int main(void)
     run_group("a state without an order, or too short", group_no_order);
     run_group("each message, as added", group_messages);
     run_group("each message, as read", group_read_back);
+    run_group("places before the messages", group_read_anywhere);
     run_group("places without a message", group_read_none);
     run_group("what messages do to a channel", group_effects);
     run_group("numbers 1 to 7", group_numbers_reading);

@@ -124,6 +124,18 @@ static bool finds_none(const uint8_t *bytes, size_t n, size_t at, uint32_t step)
     return ppspp_read(bytes, n, at, found) == step && memcmp(found, before, sizeof found) == 0;
 }
 
+/* Places 0 to 3 are read like any other, also in a datagram under 4 bytes: 10 and 11 are messages of one byte. */
+void group_read_anywhere(void)
+{
+    struct packet p = packet_to(0x0a0b0a0bu);
+    for (size_t n = 1; n <= 4; n++) {
+        p.n = n;
+        for (size_t at = 0; at < n; at++) {
+            CHECK(check_found(&p, at, at % 2 == 0 ? PPSPP_CHOKE : PPSPP_UNCHOKE, 0, 0, 0, 0, 0) == at + 1);
+        }
+    }
+}
+
 /* A place at or past the end is the end, also in a datagram under 4 bytes; before it, 7 is no type. */
 void group_read_none(void)
 {
