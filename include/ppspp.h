@@ -213,13 +213,16 @@ enum ppspp_type {
 /*
  * A message in numbers: its type; first and last chunk; one more number; and bytes.
  *
- *   type                  first  last                                            number    bytes
- *   HANDSHAKE             source options (below)                                 0         a root, with fixed options
- *   DATA                  chunk  not looked at; the same chunk where it was read timestamp the chunk
- *   ACK                   first  last                                            delay     none
- *   HAVE, REQUEST, CANCEL first  last                                            0         none
- *   INTEGRITY             first  last                                            0         the hash
- *   CHOKE, UNCHOKE        0      0                                               0         none
+ *   type                  first  last                number     bytes
+ *   HANDSHAKE             source options (below)     0          a root, with fixed options
+ *   DATA                  first  last: the same      timestamp  the chunk
+ *   ACK                   first  last                delay      none
+ *   HAVE, REQUEST, CANCEL first  last                0          none
+ *   INTEGRITY             first  last                0          the hash
+ *   CHOKE, UNCHOKE        0      0                   0          none
+ *
+ * The first chunk is not above the last, and for INTEGRITY they are those of a node; DATA has one chunk. Any other
+ * numbers are refused with 2 when they are added, unless 11, 1 or 3 comes before it, and are never read.
  */
 enum ppspp_options {
     PPSPP_OPTIONS_END = 0,   /* End alone, as a closing HANDSHAKE has */

@@ -45,11 +45,16 @@ pub fn integrity(first: u32, last: u32, hash: usize) -> Message {
     Message::Integrity { first, last, hash }
 }
 
-/// DATA of the first bytes of the source.
+/// DATA of a chunk, the first bytes of the source.
 pub fn data(chunk: u32, len: usize) -> Message {
+    data_over(chunk, chunk, len)
+}
+
+/// The same with any range.
+pub fn data_over(first: u32, last: u32, len: usize) -> Message {
     Message::Data {
-        first: chunk,
-        last: chunk,
+        first,
+        last,
         time: 0x2a,
         start: 0,
         len,

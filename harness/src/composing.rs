@@ -87,6 +87,7 @@ impl Composing {
     pub fn any_add(&self, random: &mut Random) -> Call {
         let (message, source) = match random.below(12) {
             0 => filling(random, self.so_far),
+            1 => data(random),
             _ => messages(random.number().into(), 1).remove(0),
         };
         let len = match random.below(3) {
@@ -104,15 +105,48 @@ impl Composing {
 /// DATA that fills up a datagram of such a length, or is a byte too long for it.
 fn filling(random: &mut Random, so_far: usize) -> (Message, Vec<u8>) {
     let size = (wire::MAX_SIZE + random.place(2)).saturating_sub(so_far + DATA_HEAD);
-    let chunk = random.below(512);
+    data_of(random, size)
+}
+
+/// DATA with any range and any chunk, now and then a long one.
+pub fn data(random: &mut Random) -> (Message, Vec<u8>) {
+    let size = match random.below(8) {
+        0 => random.place(LONGEST),
+        _ => random.one_of(&[0, 1, 3, 40, 1_024]),
+    };
+    data_of(random, size)
+}
+
+/// DATA with any range and so many bytes.
+fn data_of(random: &mut Random, len: usize) -> (Message, Vec<u8>) {
+    let (first, last) = two_numbers(random);
     let data = Message::Data {
-        first: chunk,
-        last: chunk,
+        first,
+        last,
         time: clock(random),
         start: 0,
-        len: size,
+        len,
     };
-    (data, random.bytes(size))
+    (data, random.bytes(len))
+}
+
+/// One number twice in half of the cases; else the next one up or down, one that
+/// differs in a bit, one of the borders, or any.
+fn two_numbers(random: &mut Random) -> (u32, u32) {
+    let first = match random.below(4) {
+        0 => random.one_of(&[0, u32::MAX]),
+        1 => random.number(),
+        _ => random.below(512),
+    };
+    let last = match random.below(10) {
+        0..5 => first,
+        5 => first.wrapping_add(1),
+        6 => first.wrapping_sub(1),
+        7 => first ^ 1 << random.below(32),
+        8 => random.one_of(&[0, u32::MAX]),
+        _ => random.number(),
+    };
+    (first, last)
 }
 
 /// The length of a datagram, or in 1 of 8 cases another one.

@@ -108,8 +108,6 @@ pub fn with_unused<'a>(
     }
     if [CHOKE, UNCHOKE].contains(&message.kind) {
         changed.first = random.number();
-    }
-    if [DATA, CHOKE, UNCHOKE].contains(&message.kind) {
         changed.last = random.number();
     }
     let with_root = message.kind == HANDSHAKE && message.last == FIXED;

@@ -2,7 +2,7 @@
 //! datagrams and messages. No expected value comes from the proved code. A
 //! failure prints the datagram so far and the message.
 
-use harness::composing::length_told;
+use harness::composing::{data, length_told};
 use harness::datagrams::{add, add_as, begin, layout};
 use harness::numbers::{numbers, of_no_message, with_unused, UNWRITABLE};
 use harness::proved::wire::{ENTRY_WORDS, LAID_WORDS};
@@ -64,6 +64,22 @@ fn numbers_of_no_message() {
         }
     }
     demand("numbers of no message", &counts, &NEVER_DONE);
+}
+
+/// The same for DATA with any two numbers for its range.
+#[test]
+fn data_with_any_range() {
+    let mut random = Random::new(11);
+    let mut counts = [0; 12];
+    for seed in 0..SEEDS {
+        for so_far in datagrams(7_000 + seed, OF_A_SEED) {
+            let (room, len) = told_room(&mut random, &so_far);
+            let (message, source) = data(&mut random);
+            let sent = add(&room, len, &message, &source);
+            counts[sent.number as usize] += 1;
+        }
+    }
+    demand("DATA with any range", &counts, &NUMBERS);
 }
 
 /// A room, too small in some cases, that begins with these bytes, and the length

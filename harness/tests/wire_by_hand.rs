@@ -35,8 +35,8 @@ fn each_message_is_written_as_the_table_says() {
     taken("00000005", handshake(0, Options::EndOnly), "00 00000000 ff");
 }
 
-/// The header's table: DATA has one chunk, and its last is not looked at; nor are
-/// the numbers and bytes of a CHOKE, or the number and bytes of a HAVE.
+/// The header's table: the numbers and bytes of a CHOKE are not looked at, nor the
+/// number and bytes of a HAVE.
 #[test]
 fn what_has_no_use_is_not_looked_at() {
     let with = |kind, last| Numbers {
@@ -47,8 +47,6 @@ fn what_has_no_use_is_not_looked_at() {
         bytes: &[0x61, 0x62],
     };
     for last in [3, 4, 2, 0, 512, u32::MAX] {
-        let data = "01 00000003 00000003 000000000000002a 6162";
-        taken_as("00000005", with(1, last), data);
         taken_as("00000005", with(10, last), "0a");
         taken_as("00000005", with(11, last), "0b");
     }

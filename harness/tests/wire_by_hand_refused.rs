@@ -39,6 +39,43 @@ fn messages_that_cannot_be_written() {
     taken("00000005", integrity(0, 0, 2_968), last);
 }
 
+/// 125: "DATA range not one chunk" is 2, at its place of the order. The number of
+/// the datagram so far comes before it; of the lengthened one the size, 1; and a
+/// HANDSHAKE that stands there, 3, which is judged at its own place.
+#[test]
+fn data_that_is_not_of_one_chunk() {
+    let five = "01 00000005 00000005 000000000000002a 000102";
+    taken("00000005", data_over(5, 5, 3), five);
+    for (first, last) in [
+        (5, 6),
+        (6, 5),
+        (0, 1),
+        (1, 0),
+        (5, 5 + (1 << 8)),
+        (5 + (1 << 24), 5),
+        (0, u32::MAX),
+        (u32::MAX, 0),
+    ] {
+        let short = data_over(first, last, 3);
+        refused("00000005", short, 2);
+        refused("00000000", short, 2);
+        refused("00000005 0a 03 00000005 00000006", short, 2);
+        refused("00000005", data_over(first, last, 0), 2);
+        refused("00000005", data_over(first, last, 2_027), 2);
+        refused("00000005", data_over(first, last, 2_028), 1);
+        refused("00000005 0a*2024", short, 2);
+        refused("00000005 0a*2025", short, 1);
+        refused(WITH_HANDSHAKE, short, 3);
+        refused(WITH_HANDSHAKE, data_over(first, last, 2_028), 1);
+        refused(WITH_DATA, short, 2);
+        refused(WITH_DATA, data_over(first, last, 2_028), 1);
+        refused(REFUSED_TYPE, data_over(first, last, 2_500), 2);
+        refused(HANDSHAKE_BEHIND, short, 3);
+        refused("000000", short, 1);
+        refused_in(2_047, 4, "00000005", short, 11);
+    }
+}
+
 /// Numbers that no message has: 2, unless the datagram so far has a number of its
 /// own. The header's table has no other types than 0 to 4 and 8 to 11, and no
 /// other options than 0 to 2, of which 2 is never written.

@@ -67,7 +67,8 @@ impl<'a> Composer<'a> {
     /// With DATA of a chunk; nothing can be added behind it.
     pub fn data(self, chunk: u32, timestamp: u64, bytes: &[u8]) -> Result<Self, Refusal> {
         self.with(Message::Data {
-            chunk,
+            first: chunk,
+            last: chunk,
             timestamp,
             bytes,
         })

@@ -15,15 +15,13 @@ impl fmt::Display for Message<'_> {
                 write!(f, "HANDSHAKE from channel {source} with {options}")
             }
             Message::Data {
-                chunk,
+                first,
+                last,
                 timestamp,
                 bytes,
             } => {
-                let count = bytes.len();
-                write!(
-                    f,
-                    "DATA of chunk {chunk}, {count} bytes, sent at {timestamp}"
-                )
+                let (of, count) = (Chunks(first, last), bytes.len());
+                write!(f, "DATA of {of}, {count} bytes, sent at {timestamp}")
             }
             Message::Ack { first, last, delay } => {
                 write!(f, "ACK of {}, delay {delay}", Chunks(first, last))

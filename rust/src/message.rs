@@ -12,8 +12,10 @@ pub enum Message<'a> {
     },
     /// A chunk; the last message of its datagram.
     Data {
-        /// The chunk's number.
-        chunk: u32,
+        /// The first chunk of its range.
+        first: u32,
+        /// The last chunk of its range. One that was read has the same as the first; to be added, any other is refused.
+        last: u32,
         /// The sender's clock.
         timestamp: u64,
         /// The chunk's bytes.

@@ -10,7 +10,7 @@ pub struct Numbers<'a> {
     pub kind: u32,
     /// The first chunk; of a HANDSHAKE the source.
     pub first: u32,
-    /// The last chunk, which is not looked at for DATA; of a HANDSHAKE the number of its options.
+    /// The last chunk; of a HANDSHAKE the number of its options.
     pub last: u32,
     /// The timestamp of DATA, the delay of an ACK.
     pub number: u64,
@@ -34,10 +34,11 @@ impl<'a> Message<'a> {
                 of(sys::PPSPP_HANDSHAKE, source, options, 0, root)
             }
             Message::Data {
-                chunk,
+                first,
+                last,
                 timestamp,
                 bytes,
-            } => of(sys::PPSPP_DATA, chunk, chunk, timestamp, bytes),
+            } => of(sys::PPSPP_DATA, first, last, timestamp, bytes),
             Message::Ack { first, last, delay } => of(sys::PPSPP_ACK, first, last, delay, &[]),
             Message::Have { first, last } => of(sys::PPSPP_HAVE, first, last, 0, &[]),
             Message::Integrity { first, last, hash } => {
@@ -65,7 +66,8 @@ impl<'a> Message<'a> {
                 options: Options::of(last, bytes),
             },
             sys::PPSPP_DATA => Message::Data {
-                chunk: first,
+                first,
+                last,
                 timestamp: number,
                 bytes,
             },

@@ -255,8 +255,8 @@ extern "C" {
         reply_len: *mut usize,
     ) -> u32;
 
-    /// Adds a message to the datagram in the first `len` bytes of the reply room; `*reply_len` gets its new length. Of
-    /// DATA the last chunk is not looked at.
+    /// Adds a message to the datagram in the first `len` bytes of the reply room; `*reply_len` gets its new length. DATA
+    /// has one chunk: its first and last are the same, or it is refused.
     pub fn ppspp_add(
         reply: *mut u8,
         reply_n: usize,

@@ -26,7 +26,8 @@ fn one_of_each() -> [Message<'static>; 8] {
         Message::Choke,
         Message::Unchoke,
         Message::Data {
-            chunk: 6,
+            first: 6,
+            last: 6,
             timestamp: 1 << 40,
             bytes: b"chunk",
         },
@@ -108,10 +109,15 @@ fn refused_behind(so_far: Option<Message<'_>>, message: Message<'_>, wanted: Ref
 
 /// DATA of chunk 0.
 fn data(bytes: &[u8]) -> Message<'_> {
-    let (chunk, timestamp) = (0, 0);
+    over((0, 0), bytes)
+}
+
+/// DATA with any range.
+fn over((first, last): (u32, u32), bytes: &[u8]) -> Message<'_> {
     Message::Data {
-        chunk,
-        timestamp,
+        first,
+        last,
+        timestamp: 0x2a,
         bytes,
     }
 }
@@ -135,6 +141,36 @@ fn message_that_cannot_be_read_is_refused() {
     let node = integrity(0, 3, &HASH);
     refused_behind(Some(node), node, malformed);
     refused_behind(Some(data(b"a")), Message::Choke, malformed);
+}
+
+/// 01: "DATA range not one chunk" is 2. The size of the lengthened datagram, 1, comes before its layout, and there a
+/// HANDSHAKE is judged at its place, 3 before the range behind it. Behind DATA anything is 2.
+#[test]
+fn data_that_is_not_of_one_chunk_is_refused() {
+    let mut room = [0xc5; 2_048];
+    let mut composer = Composer::begin(&mut room, 9).expect("room");
+    assert_eq!(composer.add(over((5, 5), b"abc")), Ok(()));
+    let five = "00000009 01 00000005 00000005 000000000000002a 616263";
+    assert_eq!(composer.finish(), bytes(five));
+    for range in [
+        (5, 6),
+        (6, 5),
+        (0, 1),
+        (0, u32::MAX),
+        (u32::MAX, 0),
+        (5, 5 + (1 << 16)),
+    ] {
+        refused_behind(None, over(range, b"abc"), Refusal::Malformed);
+        let choke = Some(Message::Choke);
+        refused_behind(choke, over(range, b""), Refusal::Malformed);
+        refused_behind(None, over(range, &[0; 2_027]), Refusal::Malformed);
+        refused_behind(None, over(range, &[0; 2_028]), Refusal::Size);
+        let closing = Some(Message::CLOSING);
+        refused_behind(closing, over(range, b"abc"), Refusal::Unexpected);
+        refused_behind(closing, over(range, &[0; 2_028]), Refusal::Size);
+        let chunk = Some(data(b"abc"));
+        refused_behind(chunk, over(range, b"abc"), Refusal::Malformed);
+    }
 }
 
 #[test]

@@ -107,7 +107,8 @@ fn messages_have_their_places() {
         (
             55,
             Message::Data {
-                chunk: 3,
+                first: 3,
+                last: 3,
                 timestamp: 9,
                 bytes: b"abc",
             },

@@ -46,7 +46,8 @@ fn chunk_0_goes_out_with_five_hashes_in_1250_bytes() {
     let last = messages(&datagram).last().expect("DATA").expect("sound");
     let content = content(SEVEN);
     let data = Message::Data {
-        chunk: 0,
+        first: 0,
+        last: 0,
         timestamp: 0,
         bytes: &content[..1_024],
     };

@@ -66,13 +66,16 @@ fn messages_with_bytes_in_words() {
     let integrity = Message::Integrity { first, last, hash };
     let words = format!("INTEGRITY of chunks 0 to 3, hash {}", "ab".repeat(32));
     assert_eq!(integrity.to_string(), words);
-    let (chunk, timestamp, bytes) = (2, 9, &b"abc"[..]);
-    let data = Message::Data {
-        chunk,
-        timestamp,
-        bytes,
+    let data = |first, last| Message::Data {
+        first,
+        last,
+        timestamp: 9,
+        bytes: b"abc",
     };
-    assert_eq!(data.to_string(), "DATA of chunk 2, 3 bytes, sent at 9");
+    let words = "DATA of chunk 2, 3 bytes, sent at 9";
+    assert_eq!(data(2, 2).to_string(), words);
+    let words = "DATA of chunks 2 to 3, 3 bytes, sent at 9";
+    assert_eq!(data(2, 3).to_string(), words);
 }
 
 #[test]

@@ -28,18 +28,20 @@ static void check_alone(void)
     CHECK(ppspp_store_add_close(&desk, &len) == PPSPP_DONE && written(len, &p) && len == 10);
 }
 
-/* The last chunk of DATA is not looked at: its range is the one chunk. */
+/* DATA has one chunk: with a range of others it is refused, and the datagram so far stays; then that of one chunk fits. */
 static void check_data(void)
 {
-    static const uint32_t lasts[] = {0, 4, 5, 6, 0xffffffffu};
-    for (size_t i = 0; i < sizeof lasts / sizeof lasts[0]; i++) {
-        struct packet p = packet_to(PEERS);
-        size_t len = 0;
-        put_data(&p, 5, 7, content(), 10);
-        CHECK(ppspp_store_begin(&desk, PEERS, &len) == PPSPP_DONE);
-        CHECK(ppspp_store_add(&desk, &len, PPSPP_DATA, 5, lasts[i], 7, content(), 10) == PPSPP_DONE);
+    static const uint32_t others[] = {0, 4, 6, 0x105u, 0x1000005u, 0xffffffffu};
+    struct packet p = packet_to(PEERS);
+    size_t len = 0;
+    CHECK(ppspp_store_begin(&desk, PEERS, &len) == PPSPP_DONE);
+    for (size_t i = 0; i < sizeof others / sizeof others[0]; i++) {
+        CHECK(ppspp_store_add(&desk, &len, PPSPP_DATA, 5, others[i], 7, content(), 10) == PPSPP_MALFORMED);
+        CHECK(ppspp_store_add(&desk, &len, PPSPP_DATA, others[i], 5, 7, content(), 10) == PPSPP_MALFORMED);
         CHECK(written(len, &p));
     }
+    put_data(&p, 5, 7, content(), 10);
+    CHECK(ppspp_store_add(&desk, &len, PPSPP_DATA, 5, 5, 7, content(), 10) == PPSPP_DONE && written(len, &p));
 }
 
 /* One of each other message, DATA last. A refused one leaves the datagram so far and its length. */

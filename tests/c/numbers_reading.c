@@ -104,6 +104,34 @@ static void number_2_added(struct guarded *g)
     CHECK(guarded_add(g, g->len, PPSPP_CHOKE, 0, 0, 0, ROOT, 0) == PPSPP_MALFORMED);
 }
 
+/*
+ * 2: "DATA range not one chunk", to be added. The size of the lengthened datagram, 1, comes before its layout, and in
+ * that a HANDSHAKE is judged at its place, 3, before the range behind it. Behind DATA all is 2.
+ */
+static void number_2_range(struct guarded *g, uint32_t first, uint32_t last)
+{
+    CHECK(guarded_begin(g, PEERS) == PPSPP_DONE);
+    CHECK(guarded_add(g, 4, PPSPP_DATA, first, last, 0, content(), 0) == PPSPP_MALFORMED);
+    CHECK(guarded_add(g, 4, PPSPP_DATA, first, last, 0, content(), 2027) == PPSPP_MALFORMED);
+    CHECK(guarded_add(g, 4, PPSPP_DATA, first, last, 0, content(), 2028) == PPSPP_SIZE);
+    CHECK(guarded_add(g, 3, PPSPP_DATA, first, last, 0, content(), 3) == PPSPP_SIZE);
+    CHECK(guarded_add(g, 4, PPSPP_HANDSHAKE, 17, PPSPP_OPTIONS_FIXED, 0, ROOT, 32) == PPSPP_DONE && g->len == 60);
+    CHECK(guarded_add(g, 60, PPSPP_DATA, first, last, 0, content(), 3) == PPSPP_UNEXPECTED);
+    CHECK(guarded_add(g, 60, PPSPP_DATA, first, last, 0, content(), 2028) == PPSPP_SIZE);
+    CHECK(guarded_begin(g, PEERS) == PPSPP_DONE);
+    CHECK(guarded_add(g, 4, PPSPP_DATA, 5, 5, 0, content(), 3) == PPSPP_DONE && g->len == 24);
+    CHECK(guarded_add(g, 24, PPSPP_DATA, first, last, 0, content(), 3) == PPSPP_MALFORMED);
+    CHECK(guarded_add(g, 24, PPSPP_DATA, first, last, 0, content(), 2028) == PPSPP_SIZE);
+}
+
+static void number_2_ranges(struct guarded *g)
+{
+    number_2_range(g, 5, 6);
+    number_2_range(g, 6, 5);
+    number_2_range(g, 0, 0xffffffffu);
+    number_2_range(g, 0xffffffffu, 0);
+}
+
 /* 3: a HANDSHAKE that is not alone or not sound; what a calling channel, an open one and a closed one may not get. */
 static void number_3(struct guarded *g)
 {
@@ -218,6 +246,7 @@ void group_numbers_reading(void)
     number_2_taken(&g);
     number_2_options(&g);
     number_2_added(&g);
+    number_2_ranges(&g);
     number_3(&g);
     number_4(&g);
     number_5(&g);

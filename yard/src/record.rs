@@ -113,7 +113,7 @@ impl Record {
 /// The chunk that a datagram's DATA names.
 pub fn chunk_of(datagram: &[u8]) -> Option<u32> {
     messages(datagram).find_map(|found| match found {
-        Ok((_, Message::Data { chunk, .. })) => Some(chunk),
+        Ok((_, Message::Data { first, .. })) => Some(first),
         _ => None,
     })
 }

@@ -106,7 +106,8 @@ impl Attacker {
             hash: &self.order.root,
         };
         let data = Message::Data {
-            chunk,
+            first: chunk,
+            last: chunk,
             timestamp: now,
             bytes: &bytes,
         };

@@ -52,7 +52,7 @@ fn on_channel(
             let same = format!("channel {id} is open to the peer's channel {peer} already");
             effects.push(format!("{same}, nothing changed"));
         }
-        [.., Message::Data { chunk, .. }] => effects.extend(stored(*chunk, peer, known, store)),
+        [.., Message::Data { first, .. }] => effects.extend(stored(*first, peer, known, store)),
         _ => {}
     }
     if let Some(told) = told {

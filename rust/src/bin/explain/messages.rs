@@ -18,11 +18,11 @@ pub fn name(message: &Message<'_>) -> &'static str {
     }
 }
 
-/// The range of a message; DATA has that of its chunk.
+/// The range of a message.
 pub fn range(message: &Message<'_>) -> Option<(u32, u32)> {
     match *message {
-        Message::Data { chunk, .. } => Some((chunk, chunk)),
-        Message::Ack { first, last, .. }
+        Message::Data { first, last, .. }
+        | Message::Ack { first, last, .. }
         | Message::Have { first, last }
         | Message::Integrity { first, last, .. }
         | Message::Request { first, last }

@@ -36,7 +36,7 @@ impl<'a> Proof<'a> {
                 Message::Integrity { first, last, hash } => {
                     came.push((Node::over(first, last), *hash.first_chunk()?));
                 }
-                Message::Data { chunk, bytes, .. } => data = Some((chunk, bytes)),
+                Message::Data { first, bytes, .. } => data = Some((first, bytes)),
                 _ => {}
             }
         }

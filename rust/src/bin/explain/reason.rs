@@ -139,7 +139,7 @@ impl Case<'_> {
     /// 8, 9 and 10: DATA for a chunk of the pack.
     fn chunk(&self, number: u8) -> Option<String> {
         let (chunk, came) = self.messages().find_map(|message| match message {
-            Message::Data { chunk, bytes, .. } => Some((chunk, bytes.len())),
+            Message::Data { first, bytes, .. } => Some((first, bytes.len())),
             _ => None,
         })?;
         let wanted = self.known.chunk_length(chunk);
