@@ -24,7 +24,7 @@ use Rattle.channel.proofs.OutLaws.{unless-zero}
 use Rattle.channel.proofs.RunLaws.{Under, run-order, run-under, run-map, run-bytes}
 
 -- A store under its own order, whose length is within the limit.
-record Ready (w : World) : Type 0 where
+pub record Ready (w : World) : Type 0 where
   pub limit : lengthAnswer (lengthIn w) ≡ 0
   pub under : Under (lengthIn w) (rootIn w) w
 
@@ -66,7 +66,7 @@ built-ready w L s e =
       under = record { long = refl; root = refl; running = rw (root-back s) (g .1) };
     })
 
-fresh-or-built-ready : (w : World) → FreshOrBuilt w → Ready w
+pub fresh-or-built-ready : (w : World) → FreshOrBuilt w → Ready w
 fresh-or-built-ready _ (fresh w o d e) = fresh-ready w o d e
 fresh-or-built-ready _ (built w L s e) = built-ready w L s e
 
@@ -124,7 +124,7 @@ module _ (w : World) (ks : List Call) (ready : Ready w) where
   end : Under (lengthIn w) (rootIn w) (run w ks)
   end = run-under (lengthIn w) (rootIn w) ks w (ready .under)
 
-  end-ready : Ready (run w ks)
+  pub end-ready : Ready (run w ks)
   end-ready = record {
     limit = rw (end .long) (ready .limit);
     under = record { long = refl; root = refl; running = rw (end .long, end .root) (end .running) };

@@ -1,5 +1,5 @@
--- What taking in a datagram keeps of the channels, whatever the datagram: all that opening a channel, changing a row with its
--- bits, and writing a reply keep. Assumes nothing.
+-- What taking in a datagram keeps of the channels, whatever the datagram: all that opening a channel, changing a row, the
+-- effects of messages and writing a reply keep. Assumes nothing.
 use Prim.Native.Nat.{ℕ}
 use mathlib.Core.Path.{_≡_, refl, _∙_}
 use mathlib.Core.Bool.{Bool, true, false}
@@ -20,7 +20,8 @@ use Rattle.channel.proofs.OutLaws.{unless-keeps}
 
 module _ {A : Type 0} (f : Channels → A)
     (opening : (ch : Channels) (r : Row) → f (occupied ch r .after) ≡ f ch)
-    (changing : (ch : Channels) (i : ℕ) (r : Row) (has wants : List ℕ) → f (channelsOf (putRow (ch .state) i r) has wants (ch .reply)) ≡ f ch)
+    (changing : (ch : Channels) (i : ℕ) (r : Row) → f (channelsOf (putRow (ch .state) i r) (ch .has) (ch .wants) (ch .reply)) ≡ f ch)
+    (affecting : (ch : Channels) (s : List ℕ) → f (affected ch s) ≡ f ch)
     (replying : (ch : Channels) (s : List ℕ) → f (replied ch s) ≡ f ch) where
   abbrev of-world : World → A
   of-world w = f (w .channels)
@@ -33,21 +34,17 @@ module _ {A : Type 0} (f : Channels → A)
   unfolding handshakeTaken
   handshake-keeps ch id s source o =
       unless-keeps f (handshakeAnswer (tableRows (ch .state)) (be32 s 0) source (ours (orderRoot (ch .state)) s o) id) ch _
-      (either (eqb (be32 s 0) 0) ch (occupied ch (openedRow id source)) _ (opening ch (openedRow id source)) (changing ch _ _ (ch .has) (ch .wants)))
-
-  affected-keeps : (ch : Channels) (s : List ℕ) → f (affected ch s) ≡ f ch
-  unfolding affected
-  affected-keeps ch s = changing ch _ _ _ _
+      (either (eqb (be32 s 0) 0) ch (occupied ch (openedRow id source)) _ (opening ch (openedRow id source)) (changing ch _ _))
 
   messages-keeps : (ch : Channels) (s : List ℕ) → f (messagesTaken ch s .after) ≡ f ch
   unfolding messagesTaken
-  messages-keeps ch s = unless-keeps f (messagesNumber (ch .state) s) ch (outOf 0 0 (affected ch s)) (affected-keeps ch s)
+  messages-keeps ch s = unless-keeps f (messagesNumber (ch .state) s) ch (outOf 0 0 (affected ch s)) (affecting ch s)
 
   data-keeps : (w : World) (clock : ℕ) (s entries : List ℕ) (c timestamp start n : ℕ) → of-world (dataTaken w clock s entries c timestamp start n .after) ≡ of-world w
   unfolding dataTaken dataBy
   data-keeps w clock s entries c timestamp start n =
       unless-keeps of-world (messagesNumber (w .channels .state) s) w _
-      (unless-keeps of-world (storeOut w s entries c start n .answer) w _ (replying (affected (w .channels) s) _ ∙ affected-keeps (w .channels) s))
+      (unless-keeps of-world (storeOut w s entries c start n .answer) w _ (replying (affected (w .channels) s) _ ∙ affecting (w .channels) s))
 
   layout-keeps : (w : World) (clock id : ℕ) (s : List ℕ) (l : Layout) → of-world (byLayout w clock id s l .after) ≡ of-world w
   unfolding byLayout

@@ -16,4 +16,6 @@ pub mod ReplyLaws
 pub mod ShorterLaws
 pub mod ShapeLaws
 pub mod NumberLaws
+pub mod ReadBackLaws
+pub mod SufficeLaws
 pub mod Promise

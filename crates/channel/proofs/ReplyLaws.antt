@@ -10,7 +10,7 @@ use Rattle.channel.specs.World.{Channels, World}
 use Rattle.channel.specs.Answers.{allRoomsAnswer}
 use Rattle.channel.specs.Opening.{ourHandshake, occupied}
 use Rattle.channel.specs.Starting.{freshChannels, startSpec}
-use Rattle.channel.specs.Take.{takeSpec}
+use Rattle.channel.specs.Take.{affected, takeSpec}
 use Rattle.channel.proofs.OutLaws.{unless-keeps}
 use Rattle.channel.proofs.KeepLaws.{take-keeps}
 
@@ -25,5 +25,9 @@ occupied-reply : (ch : Channels) (r : Row) → replyLength (occupied ch r .after
 unfolding occupied
 occupied-reply ch r = placed-length (ch .reply) 0 (ourHandshake (ch .state) r) refl
 
+affected-reply : (ch : Channels) (s : List ℕ) → replyLength (affected ch s) ≡ replyLength ch
+unfolding affected
+affected-reply ch s = refl
+
 pub take-reply : (w : World) (clock id : ℕ) (s : List ℕ) → length (takeSpec w clock id s .after .channels .reply) ≡ length (w .channels .reply)
-take-reply = take-keeps replyLength occupied-reply (λ ch i r has wants. refl) (λ ch s. placed-length (ch .reply) 0 s refl)
+take-reply = take-keeps replyLength occupied-reply (λ ch i r. refl) affected-reply (λ ch s. placed-length (ch .reply) 0 s refl)

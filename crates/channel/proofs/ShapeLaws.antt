@@ -13,7 +13,7 @@ use Rattle.channel.specs.World.{Channels, World, Out, unless, beside, ta
 use Rattle.channel.specs.Answers.{allRoomsAnswer}
 use Rattle.channel.specs.Opening.{callingRow, occupied, openNumber, openSpec}
 use Rattle.channel.specs.Starting.{freshState, freshChannels, orderFor, startSpec, buildNumber, buildSpec}
-use Rattle.channel.specs.Take.{takeSpec}
+use Rattle.channel.specs.Take.{affected, takeSpec}
 use Rattle.channel.specs.Write.{writeNumber, writeSpec}
 use Rattle.channel.specs.Run.{Call, opening, taking, writing, asking, lend, step}
 use Rattle.channel.proofs.OutLaws.{unless-zero, unless-keeps}
@@ -38,8 +38,12 @@ open-rows w id =
     unless-keeps rowsIn (openNumber w id) w (beside (w .rooms) (occupied (w .channels) (callingRow id)))
     (occupied-rows (w .channels) (callingRow id))
 
+affected-rows : (ch : Channels) (s : List ℕ) → rowsOf (affected ch s) ≡ rowsOf ch
+unfolding affected
+affected-rows ch s = with-row-length (ch .state .table) _ _
+
 take-rows : (w : World) (clock id : ℕ) (s : List ℕ) → rowsIn (takeSpec w clock id s .after) ≡ rowsIn w
-take-rows = take-keeps rowsOf occupied-rows (λ ch i r has wants. with-row-length (ch .state .table) i r) (λ ch s. refl)
+take-rows = take-keeps rowsOf occupied-rows (λ ch i r. with-row-length (ch .state .table) i r) affected-rows (λ ch s. refl)
 
 -- Writing a chunk leaves the state.
 pub write-state : (w : World) (id c clock : ℕ) → writeSpec w id c clock .after .channels .state ≡ w .channels .state

@@ -16,7 +16,7 @@ use Rattle.channel.specs.Answers.{channelRoomsAnswer, PeersEnough, chann
 use Rattle.channel.specs.Starting.{startSpec, buildNumber, buildSpec}
 use Rattle.channel.proofs.AcceptLaws.{channel-rooms-accepted}
 
-channel-rooms-enough : (L h w r : ℕ) → PeersEnough L h w r → channelRoomsAnswer L h w r ≡ 0
+pub channel-rooms-enough : (L h w r : ℕ) → PeersEnough L h w r → channelRoomsAnswer L h w r ≡ 0
 unfolding channelRoomsAnswer
 channel-rooms-enough L h w r p = rw (le-ltb h (rowCount * rowWords (countOf L)) (p .0), le-ltb w (rowCount * rowWords (countOf L)) (p .1), le-ltb r maxSize (p .2))
 

@@ -18,7 +18,7 @@ use Rattle.table.specs.declared.rows.Row.{Row}
 use Rattle.channel.specs.World.{Channels, World, Out, outOf, unless, beside, orderRoot, orderLength}
 use Rattle.channel.specs.Answers.{ownRoomsAnswer}
 use Rattle.channel.specs.Opening.{callingRow, occupied, openNumber, openSpec}
-use Rattle.channel.specs.Take.{handshakeTaken, messagesNumber, messagesTaken, dataBy, storeOut, dataTaken, byLayout, takeSpec}
+use Rattle.channel.specs.Take.{handshakeTaken, messagesNumber, affected, messagesTaken, dataBy, storeOut, dataTaken, byLayout, takeSpec}
 use Rattle.channel.specs.Write.{writeNumber, writeSpec}
 use Rattle.channel.specs.Run.{Call, opening, taking, writing, asking, lend, step, dataFor, brings}
 use Rattle.channel.proofs.OutLaws.{unless-keeps}
@@ -43,8 +43,12 @@ open-order w id =
     unless-keeps orderOf (openNumber w id) w (beside (w .rooms) (occupied (w .channels) (callingRow id)))
     (occupied-order (w .channels) (callingRow id))
 
+affected-order : (ch : Channels) (s : List ℕ) → orderIn (affected ch s) ≡ orderIn ch
+unfolding affected
+affected-order ch s = refl
+
 take-order : (w : World) (clock id : ℕ) (s : List ℕ) → orderOf (takeSpec w clock id s .after) ≡ orderOf w
-take-order = take-keeps orderIn occupied-order (λ ch i r has wants. refl) (λ ch s. refl)
+take-order = take-keeps orderIn occupied-order (λ ch i r. refl) affected-order (λ ch s. refl)
 
 write-order : (w : World) (id c clock : ℕ) → orderOf (writeSpec w id c clock .after) ≡ orderOf w
 unfolding writeSpec

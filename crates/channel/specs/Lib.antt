@@ -5,5 +5,6 @@ pub mod Starting
 pub mod Take
 pub mod Write
 pub mod Ask
+pub mod Reply
 pub mod Run
 pub mod Demand

@@ -1,5 +1,5 @@
--- What the crates above know of this one: of its definitions the names passed on here, and that quiet messages change
--- nothing. Assumes nothing.
+-- What the crates above know of this one: of its definitions the names passed on here, that quiet messages change nothing,
+-- and that rooms stay as long as they are. Assumes nothing.
 use Prim.Native.Nat.{ℕ}
 use mathlib.Core.Path.{_≡_}
 use mathlib.Core.Bool.{true}
@@ -7,8 +7,10 @@ use mathlib.Core.List.{List}
 use Rattle.writer.proofs.Promise.{Item}
 use Rattle.effects.proofs.EffectLaws as laws
 use Rattle.effects.proofs.ReadLaws as reading
+use Rattle.effects.proofs.LengthLaws as lengths
 pub use Rattle.effects.specs.Effects.{anyPast, Peer, peerOf, effects}
 pub use Rattle.effects.specs.Steps.{allQuiet, quietWithin}
+pub use Rattle.effects.proofs.LengthLaws.{SameLengths}
 
 -- Quiet messages change neither has, wants nor the mark.
 pub quiet-effects : (b : ℕ) (is : List Item) (m : Peer) → allQuiet is ≡ true → effects b is m ≡ m
@@ -17,3 +19,7 @@ quiet-effects = laws.quiet-effects
 -- Messages that are quiet within the pack are quiet.
 pub quiet-means : (N : ℕ) (is : List Item) → quietWithin N is ≡ true → allQuiet is ≡ true
 quiet-means = reading.quiet-means
+
+-- Both rooms stay as long as they are.
+pub effects-lengths : (b : ℕ) (is : List Item) (m : Peer) → SameLengths m (effects b is m)
+effects-lengths = lengths.effects-lengths

@@ -14,7 +14,8 @@ use Rattle.tree.specs.Pack.{levels}
 use Rattle.tree.specs.Peaks.{sent, peakBit}
 use Rattle.tree.specs.Steps.{peakAt, siblingAt, peakTurn, sentBelow}
 use Rattle.tree.proofs.BinLaws.{bin-inj}
-use Rattle.tree.proofs.SentLaws.{sent-is, Later, AllLater, Sorted, sent-sorted}
+use Rattle.tree.specs.Verdicts.{Each}
+use Rattle.tree.proofs.SentLaws.{sent-is, Later, Sorted, sent-sorted}
 
 -- ---- a list of numbers in which none comes twice
 
@@ -31,10 +32,6 @@ Distinct (b ∷ bs) = Differs b bs × Distinct bs
 abbrev Aligned : Node → Type 0
 Aligned n = (k : ℕ) × (n .from ≡ k * 2 ^ (n .high))
 
-abbrev AllAligned : List Node → Type 0
-AllAligned [] = Unit {0}
-AllAligned (n ∷ ns) = Aligned n × AllAligned ns
-
 -- a multiple of a node's chunks is one of its children's
 halved : (h x : ℕ) → x * 2 ^ suc h ≡ x * 2 * 2 ^ h
 halved h x = rw (pow-suc 2 h, mul-comm (2 ^ h) 2) (sym (mul-assoc x 2 (2 ^ h)))
@@ -49,11 +46,11 @@ sibling-aligned c h = go (ltb c (above (suc h) c + 2 ^ h))
     go true = (c / 2 ^ suc h * 2 + 1, omega (arith, halved h (c / 2 ^ suc h)))
     go false = (c / 2 ^ suc h * 2, halved h (c / 2 ^ suc h))
 
-turn-aligned : (t : Bool) (n : Node) (ns : List Node) → Aligned n → AllAligned ns → AllAligned (pick t (n ∷ []) [] ++ ns)
+turn-aligned : (t : Bool) (n : Node) (ns : List Node) → Aligned n → Each Aligned ns → Each Aligned (pick t (n ∷ []) [] ++ ns)
 turn-aligned true n ns a b = (a, b)
 turn-aligned false n ns a b = b
 
-below-aligned : (N c h : ℕ) → AllAligned (sentBelow N c h)
+below-aligned : (N c h : ℕ) → Each Aligned (sentBelow N c h)
 unfolding sentBelow
 below-aligned N c zero = tt
 below-aligned N c (suc h) =
@@ -70,11 +67,11 @@ later-differs n m a b l e =
     go (inl lower) i = omega (arith, lower, i .0)
     go (inr right) i = omega (arith, right .1, i .1, a .1, b .1)
 
-all-differ : (n : Node) (ms : List Node) → Aligned n → AllAligned ms → AllLater n ms → Differs (num n) (map num ms)
+all-differ : (n : Node) (ms : List Node) → Aligned n → Each Aligned ms → Each (Later n) ms → Differs (num n) (map num ms)
 all-differ n [] a b l = tt
 all-differ n (m ∷ ms) a b l = (later-differs n m a (b .0) (l .0), all-differ n ms a (b .1) (l .1))
 
-distinct : (ns : List Node) → AllAligned ns → Sorted ns → Distinct (map num ns)
+distinct : (ns : List Node) → Each Aligned ns → Sorted ns → Distinct (map num ns)
 distinct [] a s = tt
 distinct (n ∷ ns) a s = (all-differ n ns (a .0) (a .1) (s .0), distinct ns (a .1) (s .1))
 

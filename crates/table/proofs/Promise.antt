@@ -2,7 +2,8 @@
 -- that a table keeps its number of rows, and which numbers it can give. Assumes nothing.
 use Prim.Native.Nat.{ℕ}
 use mathlib.Core.Path.{_≡_, ap}
-use mathlib.Core.Bool.{Bool}
+use mathlib.Core.Logic.{_≢_, _⊎_}
+use mathlib.Core.Bool.{Bool, true}
 use mathlib.Core.List.{List, [], _∷_}
 use lib.ListN.{length, length-set}
 use lib.Seq.{set-getD}
@@ -36,3 +37,16 @@ handshake-numbered = numbers.handshake-one
 
 pub write-numbered : (rs : List Row) (id : ℕ) → OneOf (0 ∷ 3 ∷ []) (writeAnswer rs id)
 write-numbered = numbers.write-one
+
+-- ---- what the number 0 says
+
+-- A channel is opened under another ID than 0, by a call of ours and by a HANDSHAKE to channel 0.
+pub open-some : (rs : List Row) (id : ℕ) → openAnswer rs id ≡ 0 → id ≢ 0
+open-some = numbers.open-some
+
+pub handshake-opened : (rs : List Row) (to a : ℕ) (ours : Bool) (id : ℕ) → to ≡ 0 → handshakeAnswer rs to a ours id ≡ 0 → id ≢ 0
+handshake-opened = numbers.handshake-opened
+
+-- A HANDSHAKE that is taken has the options of the order, or closes.
+pub handshake-taken : (rs : List Row) (to a : ℕ) (ours : Bool) (id : ℕ) → handshakeAnswer rs to a ours id ≡ 0 → (ours ≡ true) ⊎ (a ≡ 0)
+handshake-taken = numbers.handshake-taken

@@ -15,4 +15,5 @@ pub mod FaultLaws
 pub mod NumberLaws
 pub mod CountLaws
 pub mod DataLaws
+pub mod AloneLaws
 pub mod Promise

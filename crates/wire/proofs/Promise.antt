@@ -7,6 +7,7 @@ use lib.ListN.{length, take}
 use Rattle.base.specs.Among.{OneOf}
 use Rattle.wire.proofs.FaultLaws.{numbered, passed}
 use Rattle.wire.proofs.NumberLaws as numbers
+use Rattle.wire.proofs.AloneLaws as alone
 use Rattle.wire.proofs.CountLaws.{entries-fit}
 use Rattle.wire.proofs.DataLaws as data-laws
 use Rattle.wire.specs.declared.layout.Layout.{Layout}
@@ -17,9 +18,10 @@ pub use Rattle.wire.specs.Read.{cursor, stepAt}
 pub use Rattle.wire.specs.Layout.{Checked, checkedOf, numberOf, isEndOnly, layoutOf, checkSpec}
 unfoldable pub use Rattle.wire.specs.Layout.{seen, handshakeFault}
 pub use Rattle.wire.proofs.FaultLaws.{Passed, Numbered}
+pub use Rattle.wire.proofs.AloneLaws.{Alone}
 pub use Rattle.wire.proofs.CountLaws.{Says}
 pub use Rattle.wire.proofs.DataLaws.{ToEnd}
-pub use Rattle.wire.proofs.PlacedLaws.{placed-none, placed-length, placed-then}
+pub use Rattle.wire.proofs.PlacedLaws.{placed-none, placed-length, placed-then, placed-front}
 
 -- A refusal is 1, 2 or 3.
 pub layout-numbered : (s : List ℕ) → Numbered (layoutOf s .layout)
@@ -31,6 +33,10 @@ layout-one = numbers.layout-one
 -- A datagram with the number 0 has a sound size and is not refused.
 pub layout-passed : (s : List ℕ) → numberOf (layoutOf s .layout) ≡ 0 → (minSize ≤ length s) × (length s ≤ maxSize) × Passed (layoutOf s .layout)
 layout-passed = passed
+
+-- A HANDSHAKE that passes has no fault of its own; its source is the number that stands there.
+pub layout-alone : (s : List ℕ) → Alone s (layoutOf s .layout)
+layout-alone = alone.layout-alone
 
 -- Its layout says how many words its entries have, and a room for them has as many.
 pub layout-entries : (s : List ℕ) → Says (layoutOf s .layout) (length (layoutOf s .entries)) × (length (layoutOf s .entries) ≤ entryWords)

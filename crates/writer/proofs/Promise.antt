@@ -24,6 +24,7 @@ pub use Rattle.writer.specs.Lists.{Item, itemOf, encode, Fits, AllFit, A
 unfoldable pub use Rattle.writer.specs.Lists.{readFrom}
 unfoldable pub use Rattle.writer.specs.Steps.{faultBehind}
 pub use Rattle.writer.proofs.PlaceLaws.{size32}
+pub use Rattle.writer.proofs.NumberLaws.{be32-fits}
 pub use Rattle.writer.proofs.ComposeLaws.{Joining, notedAll}
 
 -- A message that can be written has the size that the table says.

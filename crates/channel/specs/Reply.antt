@@ -1,0 +1,61 @@
+-- The replies that 01 names, as messages to a peer's channel (01, "Entry points"; "Datagrams", the effects; "Writing a
+-- chunk"), and that a reply reads back as them (00, demand 2: "What is written reads back as the same messages"). Assumes
+-- nothing.
+use Prim.Native.Nat.{ℕ, _<_, _^_}
+use mathlib.Core.Path.{_≡_}
+use mathlib.Core.List.{List}
+use mathlib.Core.Option.{Option, none, some}
+use lib.Dec.{eqb}
+use lib.ListN.{length, take}
+use Rattle.base.specs.Pick.{pick}
+use Rattle.wire.proofs.Promise.{be32}
+use Rattle.wire.specs.declared.layout.Layout.{Layout}
+use Rattle.wire.specs.declared.layout.Layout.the-variants.{Fault, HandshakeAlone, Messages, MessagesAndData}
+use Rattle.writer.proofs.Promise.{Item, Reads}
+use Rattle.replies.proofs.Promise.{handshakeItems, ackItems, chunkItems}
+use Rattle.table.proofs.Promise.{openRowOf, rowAt}
+use Rattle.store.proofs.Promise.{chunkIn}
+use Rattle.channel.specs.declared.state.State.{State}
+use Rattle.channel.specs.World.{World, Out, orderRoot, orderLength, chunkCount, tableRows}
+use Rattle.channel.specs.Take.{rowFor, delay}
+
+-- A reply: the channel of the peer that it goes to, and its messages.
+pub record Reply : Type 0 where
+  pub to : ℕ
+  pub items : List Item
+
+abbrev pub replyOf : ℕ → List Item → Reply
+replyOf to items = record { to = to; items = items }
+
+-- Opening a channel: "the reply is our HANDSHAKE to channel 0".
+abbrev pub openReply : State → (id : ℕ) → Reply
+openReply st id = replyOf 0 (handshakeItems id (orderRoot st))
+
+-- Taking in a datagram s of this layout: a HANDSHAKE to channel 0 is answered by ours, DATA by "one ACK naming that chunk
+-- alone, its delay the clock minus the timestamp"; both go "to the peer's source channel". No other has a reply.
+abbrev pub takeReply : State → (clock id : ℕ) (s : List ℕ) → Layout → Option Reply
+takeReply st clock id s (Fault n) = none
+takeReply st clock id s (HandshakeAlone source o) = pick (eqb (be32 s 0) 0) (some (replyOf source (handshakeItems id (orderRoot st)))) none
+takeReply st clock id s (Messages k) = none
+takeReply st clock id s (MessagesAndData c timestamp start n k) =
+    some (replyOf (rowAt (tableRows st) (rowFor st s) .peer) (ackItems c c (delay clock timestamp)))
+
+-- Writing chunk c: the hashes that go out with it, as the hash room has them, then DATA with the given clock.
+abbrev pub writeReply : World → (id c clock : ℕ) → Reply
+writeReply w id c clock =
+    replyOf (rowAt (tableRows (w .channels .state)) (openRowOf (tableRows (w .channels .state)) id) .peer)
+    (chunkItems (w .rooms .hashes) (chunkCount (w .channels .state)) c clock (chunkIn (orderLength (w .channels .state)) (w .rooms .bytes) c))
+
+-- The reply that a call left: the first bytes of its reply room, as many as it says.
+abbrev pub leftIn : Out World → List ℕ
+leftIn o = take (o .len) (o .after .channels .reply)
+
+-- It passes the checks and reads back as these messages, to this channel; where there is none, its length is 0.
+abbrev pub Replies : Out World → Option Reply → Type 0
+Replies o none = o .len ≡ 0
+Replies o (some r) = Reads (leftIn o) (r .to) (r .items)
+
+-- What its types say of a state's numbers: a root has eight words, and a peer's channel 32 bits.
+pub record Typed (st : State) : Type 0 where
+  pub root-words : length (st .order .root .words) ≡ 8
+  pub peers-fit : (i : ℕ) → rowAt (tableRows st) i .peer < 2 ^ 32
