@@ -2,16 +2,17 @@
 use Prim.Native.Nat.{_≤_}
 use native.Mathlib.Omega.{arith}
 use mathlib.Core.Path.{_≡_, refl, sym, ap, _∙_}
+use mathlib.Core.Logic.{_≢_}
 use mathlib.Core.Bool.{Bool, true, false}
 use mathlib.Core.List.{List}
 use lib.ListN.{length}
 use Rattle.store.proofs.Promise.{Alike}
 use Rattle.store.specs.declared.calls.Order.{Order}
 use Rattle.hash.proofs.Promise.{bytesOf}
-use Rattle.channel.proofs.Promise.{World, Call, run, askSpec, FreshOrBuilt, BothWhole, demand-3}
+use Rattle.channel.proofs.Promise.{World, Call, run, answerTo, ReplyFits, never-short, askSpec, FreshOrBuilt, BothWhole, demand-3}
 use Rattle.loader.specs.State.{stateWords, stateIn, flag}
 use Rattle.loader.specs.Calls.{Lent, worldIn, Counted, counted}
-use Rattle.loader.specs.Run.{runOn, asked, answerIn, FreshOrBuiltIn, fresh, built, BothWholeIn, DemandIn}
+use Rattle.loader.specs.Run.{runOn, asked, answerOn, FreshOrBuiltIn, fresh, built, BothWholeIn, DemandIn}
 use Rattle.loader.proofs.LinkLaws.{run-world, run-words, ask-given, answer-world}
 use Rattle.loader.proofs.StartLaws.{start-fresh, start-long, build-fresh, build-long}
 
@@ -59,7 +60,14 @@ module _ (l : Lent) (ks : List Call) (b : FreshOrBuiltIn l) where
       record {
         demand = demand-3 (worldIn l) ks (in-them l b .0);
         in-rooms = run-world ks l h;
-        same-answer = λ c. answer-world (runOn l ks) (run-words ks l h) c ∙ ap (λ (w : World). answerIn w c) (run-world ks l h);
+        same-answer = λ c. answer-world (runOn l ks) (run-words ks l h) c ∙ ap (λ (w : World). answerTo w c) (run-world ks l h);
         same-asked = asked-world l ks h;
         alike = alike-in;
       }
+
+  -- No call that follows, lent a reply room of the least size, is refused with 11 or 12.
+  pub never-short-in : (k : Call) → ReplyFits k → (answerOn (runOn l ks) k ≢ 11) × (answerOn (runOn l ks) k ≢ 12)
+  never-short-in k r =
+      let n = never-short (worldIn l) ks k (in-them l b .0) r in
+      let e = demand-in .same-answer k in
+      (λ z. n .0 (sym e ∙ z), λ z. n .1 (sym e ∙ z))

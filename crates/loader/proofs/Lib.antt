@@ -8,4 +8,6 @@ pub mod StartLaws
 pub mod RefusedLaws
 pub mod DemandLaws
 pub mod SizeLaws
+pub mod NumberLaws
+pub mod TypedLaws
 pub mod Promise

@@ -13,10 +13,10 @@ use Rattle.hash.proofs.Promise.{words}
 use Rattle.table.proofs.Promise.{rowCount}
 use Rattle.store.proofs.Promise.{root-words}
 use Rattle.channel.specs.declared.state.State.{State}
-use Rattle.channel.proofs.Promise.{World, channelsOf, Out, Shaped, Unaltered, Call, opening, taking, writing, asking, step, run, openSpec, takeSpec, writeSpec, askSpec, open-refused-same, take-refused-same, step-shaped, write-state}
+use Rattle.channel.proofs.Promise.{World, channelsOf, Out, Shaped, Unaltered, Call, opening, taking, writing, asking, step, run, answerTo, openSpec, takeSpec, writeSpec, askSpec, open-refused-same, take-refused-same, step-shaped, write-state}
 use Rattle.loader.specs.State.{layoutVersion, stateWords, rowsPlace, rowsIn, orderIn, unstarted, stateIn, orderWords, tableWords, statePut}
 use Rattle.loader.specs.Calls.{Lent, worldIn, leaving, wordsAfter, encoded, callOn, callBeside, Counted, counted, askOn}
-use Rattle.loader.specs.Run.{lendReply, stepOn, runOn, asked, answerOn, answerIn}
+use Rattle.loader.specs.Run.{lendReply, stepOn, runOn, asked, answerOn}
 use Rattle.loader.proofs.RoundLaws.{state-back}
 
 -- ---- what is decoded has the shape of a state
@@ -107,7 +107,7 @@ pub ask-given : (l : Lent) → stateWords ≤ length (l .words) → asked l ≡ 
 unfolding askOn
 ask-given l h = rw (le-ltb (length (l .words)) stateWords h)
 
-pub answer-world : (l : Lent) → stateWords ≤ length (l .words) → (k : Call) → answerOn l k ≡ answerIn (worldIn l) k
+pub answer-world : (l : Lent) → stateWords ≤ length (l .words) → (k : Call) → answerOn l k ≡ answerTo (worldIn l) k
 answer-world l h (opening reply id) = ap (λ (o : Out Lent). o .answer) (call-given (lendReply l reply) h (λ w. openSpec w id) 11)
 answer-world l h (taking reply clock id s) = ap (λ (o : Out Lent). o .answer) (call-given (lendReply l reply) h (λ w. takeSpec w clock id s) 11)
 answer-world l h (writing reply id c clock) = ap (λ (o : Out Lent). o .answer) (beside-given (lendReply l reply) h (λ w. writeSpec w id c clock))

@@ -4,7 +4,7 @@ use Prim.Native.Nat.{ℕ}
 use mathlib.Core.Path.{_≡_}
 use mathlib.Core.List.{List, [], _∷_}
 use Rattle.store.proofs.Promise.{Alike}
-use Rattle.channel.proofs.Promise.{World, Call, opening, taking, writing, asking, lend, openSpec, takeSpec, writeSpec, askSpec, run, Demand}
+use Rattle.channel.proofs.Promise.{Call, opening, taking, writing, asking, openSpec, takeSpec, writeSpec, askSpec, run, answerTo, Demand}
 use Rattle.loader.specs.State.{stateIn}
 use Rattle.loader.specs.Calls.{Lent, worldIn, callOn, callBeside, startOn, buildOn, Counted, counted, askOn}
 
@@ -32,18 +32,12 @@ asked l = askOn (l .words) (l .rooms .map)
 
 -- ---- the numbers given back
 
--- By the call through the interface, and by the entry point.
+-- By the call through the interface; the entry point's is `answerTo`.
 abbrev pub answerOn : Lent → Call → ℕ
 answerOn l (opening reply id) = callOn 11 (lendReply l reply) (λ w. openSpec w id) .answer
 answerOn l (taking reply clock id s) = callOn 11 (lendReply l reply) (λ w. takeSpec w clock id s) .answer
 answerOn l (writing reply id c clock) = callBeside (lendReply l reply) (λ w. writeSpec w id c clock) .answer
 answerOn l asking = asked l .answer
-
-abbrev pub answerIn : World → Call → ℕ
-answerIn w (opening reply id) = openSpec (lend w reply) id .answer
-answerIn w (taking reply clock id s) = takeSpec (lend w reply) clock id s .answer
-answerIn w (writing reply id c clock) = writeSpec (lend w reply) id c clock .answer
-answerIn w asking = askSpec (w .channels .state) (w .rooms .map) .answer
 
 -- ---- demand 3 at the interface
 
@@ -66,7 +60,7 @@ pub record DemandIn (l : Lent) (ks : List Call) : Type 0 where
   pub demand : Demand (worldIn l) ks
   pub in-rooms : worldIn (runOn l ks) ≡ run (worldIn l) ks
   -- any call that follows gives back the entry point's number,
-  pub same-answer : (k : Call) → answerOn (runOn l ks) k ≡ answerIn (run (worldIn l) ks) k
+  pub same-answer : (k : Call) → answerOn (runOn l ks) k ≡ answerTo (run (worldIn l) ks) k
   -- and ppspp_ask gives what demand 3 says of asking.
   pub same-asked : asked (runOn l ks) ≡ counted (askSpec (run (worldIn l) ks .channels .state) (run (worldIn l) ks .rooms .map))
   -- Two such rooms, both whole, hold the same bytes over the length, or a SHA-256 collision is named.

@@ -1,11 +1,11 @@
 -- What the crates above know of this one: of its definitions the names passed on here, that a row put back changes nothing,
 -- that a table keeps its number of rows, and which numbers it can give. Assumes nothing.
 use Prim.Native.Nat.{ℕ}
-use mathlib.Core.Path.{_≡_, ap}
+use mathlib.Core.Path.{_≡_, refl, ap}
 use mathlib.Core.Logic.{_≢_, _⊎_}
 use mathlib.Core.Bool.{Bool, true}
 use mathlib.Core.List.{List, [], _∷_}
-use lib.ListN.{length, length-set}
+use lib.ListN.{length, getD, length-set}
 use lib.Seq.{set-getD}
 use Rattle.base.specs.Among.{OneOf}
 use Rattle.table.specs.declared.rows.Row.{Row}
@@ -13,6 +13,11 @@ use Rattle.table.specs.declared.rows.Table.{Table}
 use Rattle.table.proofs.NumberLaws as numbers
 pub use Rattle.table.specs.Rows.{rowCount, freeRow, freeTable, lowestFree, rowOf, openRowOf, rowAt, withRow, rowAfter}
 pub use Rattle.table.specs.Answers.{openAnswer, messagesAnswer, handshakeAnswer, writeAnswer}
+
+-- The row at a place; past the table a free one.
+pub row-at : (rs : List Row) (i : ℕ) → rowAt rs i ≡ getD rs i freeRow
+unfolding rowAt
+row-at rs i = refl
 
 -- A table with its own row at a place is that table.
 pub row-put-back : (t : Table) (i : ℕ) → withRow t i (rowAt (t .rows) i) ≡ t
