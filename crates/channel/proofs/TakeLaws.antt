@@ -9,7 +9,7 @@ use mathlib.Core.List.{List, []}
 use lib.Dec.{eqb}
 use lib.ListN.{length, take, drop}
 use Rattle.bits.proofs.Promise.{rowWords, row-words}
-use Rattle.wire.proofs.Promise.{be32, placed, minSize, layoutOf, Says, layout-data, layout-entries, layout-passed, layout-told, numberOf, checkedOf, checkSpec, entryWords}
+use Rattle.wire.proofs.Promise.{be32, placed, minSize, layoutOf, Says, layout-data, layout-entries, layout-passed, layout-told, length-told, entries-told, numberOf, checkedOf, checkSpec, entryWords}
 use Rattle.wire.specs.declared.message.Options.{Options}
 use Rattle.wire.specs.declared.layout.Layout.{Layout}
 use Rattle.wire.specs.declared.layout.Layout.the-variants.{Fault, HandshakeAlone, Messages, MessagesAndData}
@@ -189,11 +189,11 @@ pub take-laid : (w : World) (clock id : ℕ) (s : List ℕ) {k : ℕ} {l : Layou
 unfolding takeSpec
 take-laid w clock id s e z le p = p ∙ ap (byLayout w clock id s) le ∙ unless-done (ownRoomsAnswer w) w _ (sym e ∙ z)
 
--- What the layout pass told of a datagram, in a room that is large enough.
-module _ (room s : List ℕ) {l : Layout} {after : List ℕ} (h : entryWords ≤ length room) (e : checkedOf l after ≡ checkSpec room s) where
+-- What the layout pass told of a datagram.
+module _ (room s : List ℕ) {l : Layout} {after : List ℕ} (e : checkedOf l after ≡ checkSpec room s) where
   -- The layout is the datagram's.
   pub laid : {m : Layout} → l ≡ m → m ≡ layoutOf s .layout
-  laid q = sym q ∙ layout-told room s h e .0
+  laid q = sym q ∙ layout-told room s e
 
   -- One that is not refused has its destination.
   pub laid-long : {m : Layout} → l ≡ m → numberOf m ≡ 0 → minSize ≤ length s
@@ -210,12 +210,13 @@ module _ (room s : List ℕ) {l : Layout} {after : List ℕ} (h : entryWords ≤
         says : {m : Layout} {j : ℕ} → Says m j → MessagesAndData c x b n k ≡ m → k ≡ j
         says g f = rw (← f) at g
 
-    -- Its entries have room, and stand at the front.
-    pub laid-few : k ≤ entryWords
-    laid-few = omega (arith, told, layout-entries s .1)
+    -- Its entries lie in a room for any datagram's, and stand at the front.
+    module _ (h : entryWords ≤ length room) where
+      pub laid-few : k ≤ length after
+      laid-few = omega (arith, told, layout-entries s .1, length-told room s e)
 
-    pub laid-entries : take (k - 0) (drop 0 after) ≡ layoutOf s .entries
-    laid-entries = let z : k - 0 ≡ k = omega arith in rw (z, told) (layout-told room s h e .1)
+      pub laid-entries : take (k - 0) (drop 0 after) ≡ layoutOf s .entries
+      laid-entries = let z : k - 0 ≡ k = omega arith in rw (z, told) (entries-told room s e h)
 
 -- ---- by its layout
 

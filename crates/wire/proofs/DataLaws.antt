@@ -6,9 +6,9 @@ use mathlib.Core.List.{List, [], _∷_, _++_}
 use mathlib.Core.Bool.{Bool, true, false}
 use lib.ListN.{length, take, drop, length-drop}
 use lib.Dec.{ltb, eqb}
-use borrow.Author.Tests.{le-ltb, ltb-false}
+use borrow.Author.Tests.{ltb-false}
 use Rattle.base.specs.Pick.{pick}
-use Rattle.wire.specs.Bytes.{be32, placed}
+use Rattle.wire.specs.Bytes.{be32}
 use Rattle.wire.specs.Limits.{minSize, maxSize, entryWords}
 use Rattle.wire.specs.Range.{firstOf, lastOf}
 use Rattle.wire.specs.Options.{optionsSize}
@@ -19,7 +19,7 @@ use Rattle.wire.specs.declared.message.Step.{Step}
 use Rattle.wire.specs.declared.message.Step.the-variants.{End, Refused}
 use Rattle.wire.specs.declared.layout.Layout.{Layout}
 use Rattle.wire.specs.declared.layout.Layout.the-variants.{Fault, HandshakeAlone, Messages, MessagesAndData}
-use Rattle.wire.proofs.PlacedLaws.{placed-front}
+use Rattle.wire.proofs.PlacedLaws.{placed-length, placed-front}
 use Rattle.wire.proofs.CountLaws.{entries-fit}
 use Rattle.wire.proofs.ViewLaws.{View, the-end, refused, a-handshake, a-data, an-ack, a-have, an-integrity, a-request, a-cancel, a-choke, an-unchoke, view}
 
@@ -76,12 +76,22 @@ to-end s = by (ltb (length s) minSize) (ltb maxSize (length s)) refl
     by false true p = tt
     by false false p = from-to-end (length s) s [] minSize (ltb-false (length s) minSize p)
 
--- A room that is large enough: the layout is the datagram's, and its entries stand at the front.
-pub check-told : (room s : List ℕ) {l : Layout} {after : List ℕ} → entryWords ≤ length room → checkedOf l after ≡ checkSpec room s
-    → (l ≡ layoutOf s .layout) × (take (length (layoutOf s .entries)) after ≡ layoutOf s .entries)
-unfolding checkSpec
-check-told room s {l} {after} h e =
-    let f : checkedOf l after ≡ checkedOf (layoutOf s .layout) (placed room 0 (layoutOf s .entries)) = e ∙ rw (le-ltb (length room) entryWords h) in
-    let g = entries-fit s .1 in
-    let z : 0 + length (layoutOf s .entries) ≡ length (layoutOf s .entries) = omega arith in
-    (ap (λ (c : Checked). c .layout) f, ap (λ (c : Checked). take (length (layoutOf s .entries)) (c .entries)) f ∙ (rw z at (placed-front room 0 (layoutOf s .entries) (omega arith))))
+-- What the checks gave, with a room for the entries.
+module _ (room s : List ℕ) {l : Layout} {after : List ℕ} (e : checkedOf l after ≡ checkSpec room s) where
+  -- The layout is the datagram's.
+  pub layout-told : l ≡ layoutOf s .layout
+  unfolding checkSpec
+  layout-told = ap (λ (c : Checked). c .layout) e
+
+  -- The room keeps its length.
+  pub length-told : length after ≡ length room
+  unfolding checkSpec
+  length-told = placed-length room 0 (layoutOf s .entries) (ap (λ (c : Checked). c .entries) e)
+
+  -- Its entries stand at the front of a room that has as many words as any datagram's.
+  pub entries-told : entryWords ≤ length room → take (length (layoutOf s .entries)) after ≡ layoutOf s .entries
+  unfolding checkSpec
+  entries-told h =
+      let g = entries-fit s .1 in
+      let z : 0 + length (layoutOf s .entries) ≡ length (layoutOf s .entries) = omega arith in
+      ap (λ (c : Checked). take (length (layoutOf s .entries)) (c .entries)) e ∙ (rw z at (placed-front room 0 (layoutOf s .entries) (omega arith)))

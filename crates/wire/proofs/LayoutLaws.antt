@@ -11,7 +11,7 @@ use lib.Dec.{eqb}
 use borrow.Author.Tests.{lt-ltb, le-ltb, eq-eqb, ne-eqb}
 use Rattle.base.specs.Pick.{pick}
 use Rattle.wire.specs.Bytes.{be32, placed}
-use Rattle.wire.specs.Limits.{minSize, maxSize, entryWords}
+use Rattle.wire.specs.Limits.{minSize, maxSize}
 use Rattle.wire.specs.Layout.{Checked, checkedOf, seen, isEndOnly, handshakeFault, orFault, handshakeLayout, layoutOf, checkSpec}
 use Rattle.wire.specs.Steps.{turnedOf, noted, passSpec}
 use Rattle.wire.specs.declared.message.Options.{Options}
@@ -141,27 +141,21 @@ module _ (room : List ℕ) (used node hash next : ℕ) (b : Bool) (e : b ≡ see
   unfolding noted placed
   note-new p = let q = came in rw (add-one used) (simp (← q, p))
 
--- ---- the whole check: the room, the size, the messages
+-- ---- the whole check: the size, the messages
 
 module _ (room s : List ℕ) where
-  -- the room is too small
-  pub check-room : length room < entryWords → checkedOf (Fault 11) room ≡ checkSpec room s
-  unfolding checkSpec
-  check-room h = simp (lt-ltb (length room) entryWords h)
+  -- the datagram is too short
+  pub check-low : length s < minSize → checkedOf (Fault 1) room ≡ checkSpec room s
+  unfolding checkSpec layoutOf placed
+  check-low h = simp (lt-ltb (length s) minSize h)
 
-  module _ (roomy : entryWords ≤ length room) where
-    -- the datagram is too short
-    pub check-low : length s < minSize → checkedOf (Fault 1) room ≡ checkSpec room s
+  module _ (low : minSize ≤ length s) where
+    -- the datagram is too long
+    pub check-high : maxSize < length s → checkedOf (Fault 1) room ≡ checkSpec room s
     unfolding checkSpec layoutOf placed
-    check-low h = simp (le-ltb (length room) entryWords roomy, lt-ltb (length s) minSize h)
+    check-high h = simp (le-ltb (length s) minSize low, lt-ltb maxSize (length s) h)
 
-    module _ (low : minSize ≤ length s) where
-      -- the datagram is too long
-      pub check-high : maxSize < length s → checkedOf (Fault 1) room ≡ checkSpec room s
-      unfolding checkSpec layoutOf placed
-      check-high h = simp (le-ltb (length room) entryWords roomy, le-ltb (length s) minSize low, lt-ltb maxSize (length s) h)
-
-      -- the messages decide
-      pub check-good : length s ≤ maxSize → {c : Checked} → c ≡ passSpec room s → c ≡ checkSpec room s
-      unfolding checkSpec layoutOf passSpec
-      check-good h e = e ∙ simp (le-ltb (length room) entryWords roomy, le-ltb (length s) minSize low, le-ltb maxSize (length s) h)
+    -- the messages decide
+    pub check-good : length s ≤ maxSize → {c : Checked} → c ≡ passSpec room s → c ≡ checkSpec room s
+    unfolding checkSpec layoutOf passSpec
+    check-good h e = e ∙ simp (le-ltb (length s) minSize low, le-ltb maxSize (length s) h)

@@ -46,7 +46,15 @@ layout-entries = entries-fit
 pub layout-data : (s : List ℕ) → ToEnd (layoutOf s .layout) (length s)
 layout-data = data-laws.to-end
 
--- The checks with a room that is large enough: the layout is the datagram's, and its entries stand at the room's front.
-pub layout-told : (room s : List ℕ) {l : Layout} {after : List ℕ} → entryWords ≤ length room → checkedOf l after ≡ checkSpec room s
-    → (l ≡ layoutOf s .layout) × (take (length (layoutOf s .entries)) after ≡ layoutOf s .entries)
-layout-told = data-laws.check-told
+-- The checks with a room for the entries: the layout is the datagram's.
+pub layout-told : (room s : List ℕ) {l : Layout} {after : List ℕ} → checkedOf l after ≡ checkSpec room s → l ≡ layoutOf s .layout
+layout-told = data-laws.layout-told
+
+-- The room keeps its length.
+pub length-told : (room s : List ℕ) {l : Layout} {after : List ℕ} → checkedOf l after ≡ checkSpec room s → length after ≡ length room
+length-told = data-laws.length-told
+
+-- Its entries stand at the front of a room of `entryWords` words.
+pub entries-told : (room s : List ℕ) {l : Layout} {after : List ℕ} → checkedOf l after ≡ checkSpec room s
+    → entryWords ≤ length room → take (length (layoutOf s .entries)) after ≡ layoutOf s .entries
+entries-told = data-laws.entries-told

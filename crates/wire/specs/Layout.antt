@@ -7,7 +7,7 @@ use lib.ListN.{length}
 use lib.Dec.{ltb, eqb}
 use Rattle.base.specs.Pick.{pick}
 use Rattle.wire.specs.Bytes.{be32, placed}
-use Rattle.wire.specs.Limits.{minSize, maxSize, entryWords}
+use Rattle.wire.specs.Limits.{minSize, maxSize}
 use Rattle.wire.specs.Read.{stepAt}
 use Rattle.wire.specs.declared.message.Options.{Options}
 use Rattle.wire.specs.declared.message.Options.the-variants.{Fixed, EndOnly, Other}
@@ -18,7 +18,7 @@ use Rattle.wire.specs.declared.message.Step.the-variants.{Read, End, Ref
 use Rattle.wire.specs.declared.layout.Layout.{Layout}
 use Rattle.wire.specs.declared.layout.Layout.the-variants.{Fault, HandshakeAlone, Messages, MessagesAndData}
 
--- The number that refuses a datagram, or a room for its nodes, or 0.
+-- The number that refuses a datagram, or 0.
 abbrev pub numberOf : Layout → ℕ
 numberOf (Fault n) = n
 numberOf (HandshakeAlone a o) = 0
@@ -91,9 +91,7 @@ layoutOf s =
     (pick (ltb maxSize (length s)) (checkedOf (Fault 1) [])
     (layoutFrom (length s) s [] minSize))
 
--- The checks, with a room for the entries, which is scratch of the caller: 11 where it is too small, before all else; after
--- a refusal it has those of the messages before; what stands past them stays.
+-- The checks, with a room for the entries, which is scratch of the caller: after a refusal it has those of the messages
+-- before; what stands past them stays.
 unfoldable pub checkSpec : List ℕ → List ℕ → Checked
-checkSpec room s =
-    pick (ltb (length room) entryWords) (checkedOf (Fault 11) room)
-    (checkedOf (layoutOf s .layout) (placed room 0 (layoutOf s .entries)))
+checkSpec room s = checkedOf (layoutOf s .layout) (placed room 0 (layoutOf s .entries))

@@ -18,7 +18,7 @@ use crate::read;
 
 // What a datagram is. `entries` says how many words of the room for nodes are written.
 pub enum Layout {
-    // Refused with 1, 2 or 3; or 11, where the room for nodes is too small.
+    // Refused with 1, 2 or 3.
     Fault {
         number: u32,
     },
@@ -263,14 +263,11 @@ fn pass(datagram: &[u8], entries: &mut [u64]) -> Layout
     Layout::Messages { entries: used }
 }
 
-// The checks of size and layout. The nodes of INTEGRITY messages and the places of their hashes are written to `entries`,
-// from its front, as far as the messages were read; 11 where it has no room for a datagram's. It is scratch of the caller.
-pub fn check(datagram: &[u8], entries: &mut [u64]) -> Layout
+// The checks of size and layout, for whoever has a slice for the entries.
+pub fn check_into(datagram: &[u8], entries: &mut [u64]) -> Layout
+    requires { ⌜ entryWords ≤ length (now entries) ⌝ }
     ensures { λ r. ⌜ checkedOf r (now (entries .exit)) ≡ checkSpec (now (entries .entry)) (now (datagram .entry)) ⌝ }
 {
-    if entries.len() < ENTRIES {
-        return Layout::Fault { number: 11 };
-    }
     if datagram.len() < MIN_SIZE {
         return Layout::Fault { number: 1 };
     }
@@ -278,4 +275,12 @@ pub fn check(datagram: &[u8], entries: &mut [u64]) -> Layout
         return Layout::Fault { number: 1 };
     }
     pass(datagram, entries)
+}
+
+// The checks of size and layout. The nodes of INTEGRITY messages and the places of their hashes are written to `entries`,
+// scratch of the caller, from its front, as far as the messages were read.
+pub fn check(datagram: &[u8], entries: &mut [u64; ENTRIES]) -> Layout
+    ensures { λ r. ⌜ checkedOf r (now (entries .exit)) ≡ checkSpec (now (entries .entry)) (now (datagram .entry)) ⌝ }
+{
+    check_into(datagram, entries)
 }

@@ -4,7 +4,7 @@ use mathlib.Core.Path.{_≡_}
 use mathlib.Core.List.{List}
 use lib.ListN.{length}
 use borrow.Author.Tests.{lt-ltb, le-ltb}
-use Rattle.wire.proofs.Promise.{numberOf, checkedOf, checkSpec}
+use Rattle.wire.proofs.Promise.{entryWords, numberOf, checkedOf, checkSpec}
 use Rattle.wire.specs.declared.layout.Layout.{Layout}
 use Rattle.wire_c.specs.Words.{layoutPut}
 use Rattle.wire_c.specs.Calls.{laidOf, layoutTold}
@@ -14,7 +14,12 @@ module _ (s es out : List ℕ) where
   unfolding layoutTold
   layout-short h = rw (lt-ltb (length out) 6 h)
 
-  pub layout-done : 6 ≤ length out → {l : Layout} {n : ℕ} {es′ out′ : List ℕ}
-      → checkedOf l es′ ≡ checkSpec es s → out′ ≡ layoutPut out l → n ≡ numberOf l → laidOf n es′ out′ ≡ layoutTold s es out
-  unfolding layoutTold
-  layout-done h e p q = rw (le-ltb (length out) 6 h, ← e, p, q)
+  module _ (long : 6 ≤ length out) where
+    pub layout-few : length es < entryWords → laidOf 11 es out ≡ layoutTold s es out
+    unfolding layoutTold
+    layout-few h = rw (le-ltb (length out) 6 long, lt-ltb (length es) entryWords h)
+
+    pub layout-done : entryWords ≤ length es → {l : Layout} {n : ℕ} {es′ out′ : List ℕ}
+        → checkedOf l es′ ≡ checkSpec es s → out′ ≡ layoutPut out l → n ≡ numberOf l → laidOf n es′ out′ ≡ layoutTold s es out
+    unfolding layoutTold
+    layout-done h e p q = rw (le-ltb (length out) 6 long, le-ltb (length es) entryWords h, ← e, p, q)

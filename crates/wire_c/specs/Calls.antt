@@ -5,7 +5,7 @@ use mathlib.Core.List.{List}
 use lib.ListN.{length}
 use lib.Dec.{ltb}
 use Rattle.base.specs.Pick.{pick}
-use Rattle.wire.proofs.Promise.{Checked, numberOf, checkSpec}
+use Rattle.wire.proofs.Promise.{entryWords, Checked, numberOf, checkSpec}
 use Rattle.wire_c.specs.Words.{layoutPut}
 
 -- The layout checks: the number, the room for entries and the words.
@@ -21,7 +21,9 @@ laidOf n entries out = record { answer = n; entries = entries; out = out }
 abbrev pub checkedTold : List ℕ → Checked → Laid
 checkedTold out c = laidOf (numberOf (c .layout)) (c .entries) (layoutPut out (c .layout))
 
--- Six words are needed.
+-- Six words are needed, and room for the entries of any datagram.
 unfoldable pub layoutTold : List ℕ → List ℕ → List ℕ → Laid
 layoutTold datagram entries out =
-    pick (ltb (length out) 6) (laidOf 11 entries out) (checkedTold out (checkSpec entries datagram))
+    pick (ltb (length out) 6) (laidOf 11 entries out)
+    (pick (ltb (length entries) entryWords) (laidOf 11 entries out)
+    (checkedTold out (checkSpec entries datagram)))

@@ -10,6 +10,7 @@ pub mod words; // the words of a layout
 ghost use mathlib.Core.Path.{_≡_};
 ghost use Rattle.wire_c.specs.Calls.{laidOf, layoutTold};
 use wire::layout;
+use wire::limits::ENTRIES;
 
 // The number of a datagram's layout. Unless it is refused, `out` gets six words: 1 for a HANDSHAKE alone, 2 for messages
 // without DATA, 3 for messages with DATA; four for the fields of that HANDSHAKE or DATA, else zeros; and how many words
@@ -21,7 +22,10 @@ pub extern "C" fn wire_layout(datagram: &[u8], entries: &mut [u64], out: &mut [u
     if out.len() < 6 {
         return 11;
     }
-    let found = layout::check(datagram, entries);
+    if entries.len() < ENTRIES {
+        return 11;
+    }
+    let found = layout::check_into(datagram, entries);
     words::put_layout(out, found);
     layout::number(found)
 }

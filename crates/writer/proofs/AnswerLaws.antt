@@ -1,11 +1,11 @@
 -- The answers of begin and add, test by test as the code has them. Assumes nothing.
 use Prim.Native.Nat.{ℕ, zero, suc, _+_, _-_, _<_, _≤_}
 use native.Mathlib.Omega.{arith}
-use native.Mathlib.Nat.{zero-add, sub-zero}
+use native.Mathlib.Nat.{sub-zero}
 use mathlib.Core.Path.{_≡_, refl, sym, ap, _∙_}
 use mathlib.Core.List.{List, _++_}
 use mathlib.Core.Bool.{Bool, true, false, not}
-use lib.ListN.{length, take, replicate, length-append, length-replicate}
+use lib.ListN.{length, take, length-append}
 use lib.Seq.{length-take-le}
 use borrow.Author.Tests.{lt-ltb, le-ltb, eq-eqb, ne-eqb, not-false}
 use Rattle.base.specs.Pick.{pick, earlier}
@@ -20,11 +20,11 @@ use Rattle.wire.specs.declared.message.Message.{Message}
 use Rattle.wire.specs.declared.message.Message.the-variants.{Handshake}
 use Rattle.wire.specs.declared.layout.Layout.{Layout}
 use Rattle.wire.specs.declared.layout.Layout.the-variants.{Fault, HandshakeAlone, Messages, MessagesAndData}
-use Rattle.wire.proofs.PlacedLaws.{placed-front}
 use Rattle.wire.proofs.ReadLaws.{node-covers, node-sum, no-node-covers}
 use Rattle.wire.proofs.ExtendLaws.{Extended}
 use Rattle.wire.proofs.FaultLaws.{Passed, passed, too-long}
 use Rattle.wire.proofs.CountLaws.{Says, entries-fit}
+use Rattle.wire.proofs.DataLaws.{layout-told, length-told, entries-told}
 use Rattle.writer.specs.Bytes.{bytes32}
 use Rattle.writer.specs.Message.{bytesOf, writable, sizeOf}
 use Rattle.writer.specs.Add.{hasData, addAnswer, writtenOf, decide, beginSpec, addSpec}
@@ -34,28 +34,14 @@ use Rattle.writer.proofs.SizeLaws.{bytes-length}
 use Rattle.writer.proofs.AcceptLaws.{size-some}
 use Rattle.writer.proofs.AddLaws.{joined, behind-number}
 
--- ---- what the checks of the datagram so far gave
-module _ (zeros p : List ℕ) (some : entryWords ≤ length zeros) {l : Layout} {es : List ℕ} (e : checkedOf l es ≡ checkSpec zeros p) where
-  opened : checkedOf l es ≡ checkedOf (layoutOf p .layout) (placed zeros 0 (layoutOf p .entries))
-  unfolding checkSpec
-  opened = e ∙ rw (le-ltb (length zeros) entryWords some)
-
-  pub so-far : l ≡ layoutOf p .layout
-  so-far = ap (λ (c : Checked). c .layout) opened
-
-  pub entries-front : take (length (layoutOf p .entries)) es ≡ layoutOf p .entries
-  entries-front =
-      let n = entries-fit p .1 in
-      ap (λ (c : Checked). take (length (layoutOf p .entries)) (c .entries)) opened
-      ∙ (rw zero-add at (placed-front zeros 0 (layoutOf p .entries) (omega (arith, n))))
-
+-- ---- the room for entries
 roomy : (l : Layout) (k size : ℕ) → Says l k → k ≤ size → Roomy l size
 roomy (Fault n) k size h o = tt
 roomy (HandshakeAlone a b) k size h o = tt
 roomy (Messages j) k size h o = omega (arith, h)
 roomy (MessagesAndData c x b n j) k size h o = tt
 
--- the room has the entries
+-- it has those of the datagram so far
 pub has-entries : (p : List ℕ) (size : ℕ) → entryWords ≤ size → {l : Layout} → l ≡ layoutOf p .layout → Roomy l size
 has-entries p size h e = let f = entries-fit p in rw e (roomy (layoutOf p .layout) (length (layoutOf p .entries)) size (f .0) (omega (arith, f .1)))
 
@@ -201,23 +187,19 @@ unfolding faultAfter
 after-messages es to len m {n = n} e p = rw e (p .0 ∙ ap (λ (gs : List ℕ). faultBehind gs to len m) (cut n es), p .1)
 
 -- the checks of the first bytes of a room
-module _ (zeros room : List ℕ) (len : ℕ) (some : entryWords ≤ length zeros) {l : Layout} {es : List ℕ} (e : checkedOf l es ≡ checkSpec zeros (take (len - 0) room)) where
-  at-len : checkedOf l es ≡ checkSpec zeros (take len room)
-  at-len = e ∙ ap (checkSpec zeros) (cut len room)
+module _ (old room : List ℕ) (len : ℕ) {l : Layout} {es : List ℕ} (e : checkedOf l es ≡ checkSpec old (take (len - 0) room)) where
+  at-len : checkedOf l es ≡ checkSpec old (take len room)
+  at-len = e ∙ ap (checkSpec old) (cut len room)
 
   pub front-layout : l ≡ layoutOf (take len room) .layout
-  front-layout = so-far zeros (take len room) some at-len
+  front-layout = layout-told old (take len room) at-len
 
-  pub front-entries : take (length (layoutOf (take len room) .entries)) es ≡ layoutOf (take len room) .entries
-  front-entries = entries-front zeros (take len room) some at-len
+  pub front-length : length es ≡ length old
+  front-length = length-told old (take len room) at-len
+
+  pub front-entries : entryWords ≤ length old → take (length (layoutOf (take len room) .entries)) es ≡ layoutOf (take len room) .entries
+  front-entries = entries-told old (take len room) at-len
 
 -- they have a destination
 pub front-low : (room : List ℕ) (len : ℕ) {l : Layout} → l ≡ layoutOf (take len room) .layout → {w : ℕ} → w ≡ numberOf l → w ≡ 0 → minSize ≤ length (take (len - 0) room)
 front-low room len e we z = rw (cut len room) (passed (take len room) (ap numberOf (sym e) ∙ sym we ∙ z) .0)
-
--- the room for entries that the code lends
-abbrev pub zeros98 : List ℕ
-zeros98 = replicate 98 0
-
-pub zeros-length : entryWords ≤ length zeros98
-zeros-length = omega (arith, length-replicate {A = ℕ} 98 0)

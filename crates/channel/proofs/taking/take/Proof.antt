@@ -13,9 +13,6 @@ all-rooms-answer-requires c κs = search needs
 returns : tie.Need-returns
 returns c = let a = c .before .before .before .before .before .before .before .before .before .before .before .args in take-refused (worldOf (a .state) (a .chunks .now) (a .map .now) (a .hashes .now) (a .trusted .now) (a .has .now) (a .wants .now) (a .reply .now)) (a .clock) (a .id) (a .datagram .now) (c .before .all-rooms-answer .ensures) (c .if1 .taken)
 
-slice-aggregate-check : tie.Need-slice-aggregate-check
-slice-aggregate-check c = search needs
-
 check-requires : tie.Need-check-requires
 check-requires c κs = search needs
 
@@ -26,13 +23,13 @@ enum-known-source : tie.Need-enum-known-source
 enum-known-source c = search needs
 
 handshake-requires : tie.Need-handshake-requires
-handshake-requires c κs = let a = c .before .before .before .before .before .before .before .before .before .before .before .before .before .before .before .before .before .before .before .before .args in ((call-accepted _ _ _ _ _ _ _ _ (sym (c .before .before .before .before .before .before .before .before .before .before .all-rooms-answer .ensures) ∙ omega (arith, c .before .before .before .before .before .before .before .before .before .if1 .left))) .1, laid-long _ (a .datagram .now) (search needs) (c .before .before .before .before .before .before .before .check .ensures) (c .before .before .before .before .source .given .1) refl)
+handshake-requires c κs = let a = c .before .before .before .before .before .before .before .before .before .before .before .before .before .before .before .before .before .before .before .args in ((call-accepted _ _ _ _ _ _ _ _ (sym (c .before .before .before .before .before .before .before .before .before .all-rooms-answer .ensures) ∙ omega (arith, c .before .before .before .before .before .before .before .before .if1 .left))) .1, laid-long _ (a .datagram .now) (c .before .before .before .before .before .before .check .ensures) (c .before .before .before .before .source .given .1) refl)
 
 enum-told : tie.Need-enum-told
 enum-told c = search needs
 
 messages-requires : tie.Need-messages-requires
-messages-requires c κs = let a = c .before .before .before .before .before .before .before .before .before .before .before .before .before .before .before .before .before .before .before .args in ((call-accepted _ _ _ _ _ _ _ _ (sym (c .before .before .before .before .before .before .before .before .before .all-rooms-answer .ensures) ∙ omega (arith, c .before .before .before .before .before .before .before .before .if1 .left))) .0, laid-long _ (a .datagram .now) (search needs) (c .before .before .before .before .before .before .check .ensures) (c .before .before .before .enum-told .given .1) refl)
+messages-requires c κs = let a = c .before .before .before .before .before .before .before .before .before .before .before .before .before .before .before .before .before .before .args in ((call-accepted _ _ _ _ _ _ _ _ (sym (c .before .before .before .before .before .before .before .before .all-rooms-answer .ensures) ∙ omega (arith, c .before .before .before .before .before .before .before .if1 .left))) .0, laid-long _ (a .datagram .now) (c .before .before .before .before .before .check .ensures) (c .before .before .before .enum-told .given .1) refl)
 
 enum-known-chunk : tie.Need-enum-known-chunk
 enum-known-chunk c = search needs
@@ -44,13 +41,13 @@ part-take-chunk-start : tie.Need-part-take-chunk-start
 part-take-chunk-start c = search needs
 
 part-take-chunk-end : tie.Need-part-take-chunk-end
-part-take-chunk-end c = let a = c .before .before .before .before .before .before .before .before .before .before .before .before .before .before .before .before .before .before .before .before .before .before .before .before .before .args in omega (arith, laid-few _ (a .datagram .now) (search needs) (c .before .before .before .before .before .before .before .before .before .before .before .before .check .ensures) (c .before .before .before .before .before .before .before .before .before .chunk .given .1), c .before .before .before .before .before .before .before .before .before .before .before .before .check .kept)
+part-take-chunk-end c = let a = c .before .before .before .before .before .before .before .before .before .before .before .before .before .before .before .before .before .before .before .before .before .before .before .before .args in laid-few _ (a .datagram .now) (c .before .before .before .before .before .before .before .before .before .before .before .check .ensures) (c .before .before .before .before .before .before .before .before .before .chunk .given .1) (search needs)
 
 take-chunk-requires : tie.Need-take-chunk-requires
-take-chunk-requires c κs = let a = c .before .before .before .before .before .before .before .before .before .before .before .before .before .before .before .before .before .before .before .before .before .before .before .before .before .before .args in ((call-accepted _ _ _ _ _ _ _ _ (sym (c .before .before .before .before .before .before .before .before .before .before .before .before .before .before .before .before .all-rooms-answer .ensures) ∙ omega (arith, c .before .before .before .before .before .before .before .before .before .before .before .before .before .before .before .if1 .left))) .0, ((call-accepted _ _ _ _ _ _ _ _ (sym (c .before .before .before .before .before .before .before .before .before .before .before .before .before .before .before .before .all-rooms-answer .ensures) ∙ omega (arith, c .before .before .before .before .before .before .before .before .before .before .before .before .before .before .before .if1 .left))) .1, (laid-long _ (a .datagram .now) (search needs) (c .before .before .before .before .before .before .before .before .before .before .before .before .before .check .ensures) (c .before .before .before .before .before .before .before .before .before .before .chunk .given .1) refl, laid-end _ (a .datagram .now) (search needs) (c .before .before .before .before .before .before .before .before .before .before .before .before .before .check .ensures) (c .before .before .before .before .before .before .before .before .before .before .chunk .given .1))))
+take-chunk-requires c κs = let a = c .before .before .before .before .before .before .before .before .before .before .before .before .before .before .before .before .before .before .before .before .before .before .before .before .before .args in ((call-accepted _ _ _ _ _ _ _ _ (sym (c .before .before .before .before .before .before .before .before .before .before .before .before .before .before .before .all-rooms-answer .ensures) ∙ omega (arith, c .before .before .before .before .before .before .before .before .before .before .before .before .before .before .if1 .left))) .0, ((call-accepted _ _ _ _ _ _ _ _ (sym (c .before .before .before .before .before .before .before .before .before .before .before .before .before .before .before .all-rooms-answer .ensures) ∙ omega (arith, c .before .before .before .before .before .before .before .before .before .before .before .before .before .before .if1 .left))) .1, (laid-long _ (a .datagram .now) (c .before .before .before .before .before .before .before .before .before .before .before .before .check .ensures) (c .before .before .before .before .before .before .before .before .before .before .chunk .given .1) refl, laid-end _ (a .datagram .now) (c .before .before .before .before .before .before .before .before .before .before .before .before .check .ensures) (c .before .before .before .before .before .before .before .before .before .before .chunk .given .1))))
 
 returns-2 : tie.Need-returns-2
-returns-2 c = let a = c .before .before .before .before .before .before .before .before .before .before .before .before .before .before .before .before .before .args in take-laid (worldOf (a .state) (a .chunks .now) (a .map .now) (a .hashes .now) (a .trusted .now) (a .has .now) (a .wants .now) (a .reply .now)) (a .clock) (a .id) (a .datagram .now) (c .before .before .before .before .before .before .before .all-rooms-answer .ensures) (omega (arith, c .before .before .before .before .before .before .if1 .left)) (laid _ (a .datagram .now) (search needs) (c .before .before .before .before .check .ensures) (c .before .number .given .1)) (laid-fault (worldOf (a .state) (a .chunks .now) (a .map .now) (a .hashes .now) (a .trusted .now) (a .has .now) (a .wants .now) (a .reply .now)) (a .clock) (a .id) (a .datagram .now) _)
+returns-2 c = let a = c .before .before .before .before .before .before .before .before .before .before .before .before .before .before .before .before .args in take-laid (worldOf (a .state) (a .chunks .now) (a .map .now) (a .hashes .now) (a .trusted .now) (a .has .now) (a .wants .now) (a .reply .now)) (a .clock) (a .id) (a .datagram .now) (c .before .before .before .before .before .before .all-rooms-answer .ensures) (omega (arith, c .before .before .before .before .before .if1 .left)) (laid _ (a .datagram .now) (c .before .before .before .check .ensures) (c .before .number .given .1)) (laid-fault (worldOf (a .state) (a .chunks .now) (a .map .now) (a .hashes .now) (a .trusted .now) (a .has .now) (a .wants .now) (a .reply .now)) (a .clock) (a .id) (a .datagram .now) _)
 
 same-length : tie.Need-same-length
 same-length c = search needs
@@ -62,7 +59,7 @@ same-length-3 : tie.Need-same-length-3
 same-length-3 c = search needs
 
 returns-3 : tie.Need-returns-3
-returns-3 c = let a = c .before .before .before .before .before .before .before .before .before .before .before .before .before .before .before .before .before .before .before .before .before .before .before .before .before .before .before .args in take-laid (worldOf (a .state) (a .chunks .now) (a .map .now) (a .hashes .now) (a .trusted .now) (a .has .now) (a .wants .now) (a .reply .now)) (a .clock) (a .id) (a .datagram .now) (c .before .before .before .before .before .before .before .before .before .before .before .before .before .before .before .before .before .all-rooms-answer .ensures) (omega (arith, c .before .before .before .before .before .before .before .before .before .before .before .before .before .before .before .before .if1 .left)) (laid _ (a .datagram .now) (search needs) (c .before .before .before .before .before .before .before .before .before .before .before .before .before .before .check .ensures) (c .before .before .before .before .before .before .before .before .before .before .before .source .given .1)) (laid-handshake (worldOf (a .state) (a .chunks .now) (a .map .now) (a .hashes .now) (a .trusted .now) (a .has .now) (a .wants .now) (a .reply .now)) (a .clock) (a .id) (a .datagram .now) _ _ (c .before .before .before .before .before .before .handshake .ensures))
+returns-3 c = let a = c .before .before .before .before .before .before .before .before .before .before .before .before .before .before .before .before .before .before .before .before .before .before .before .before .before .before .args in take-laid (worldOf (a .state) (a .chunks .now) (a .map .now) (a .hashes .now) (a .trusted .now) (a .has .now) (a .wants .now) (a .reply .now)) (a .clock) (a .id) (a .datagram .now) (c .before .before .before .before .before .before .before .before .before .before .before .before .before .before .before .before .all-rooms-answer .ensures) (omega (arith, c .before .before .before .before .before .before .before .before .before .before .before .before .before .before .before .if1 .left)) (laid _ (a .datagram .now) (c .before .before .before .before .before .before .before .before .before .before .before .before .before .check .ensures) (c .before .before .before .before .before .before .before .before .before .before .before .source .given .1)) (laid-handshake (worldOf (a .state) (a .chunks .now) (a .map .now) (a .hashes .now) (a .trusted .now) (a .has .now) (a .wants .now) (a .reply .now)) (a .clock) (a .id) (a .datagram .now) _ _ (c .before .before .before .before .before .before .handshake .ensures))
 
 same-length-4 : tie.Need-same-length-4
 same-length-4 c = search needs
@@ -74,7 +71,7 @@ same-length-6 : tie.Need-same-length-6
 same-length-6 c = search needs
 
 returns-4 : tie.Need-returns-4
-returns-4 c = let a = c .before .before .before .before .before .before .before .before .before .before .before .before .before .before .before .before .before .before .before .before .before .before .before .before .args in take-laid (worldOf (a .state) (a .chunks .now) (a .map .now) (a .hashes .now) (a .trusted .now) (a .has .now) (a .wants .now) (a .reply .now)) (a .clock) (a .id) (a .datagram .now) (c .before .before .before .before .before .before .before .before .before .before .before .before .before .before .all-rooms-answer .ensures) (omega (arith, c .before .before .before .before .before .before .before .before .before .before .before .before .before .if1 .left)) (laid _ (a .datagram .now) (search needs) (c .before .before .before .before .before .before .before .before .before .before .before .check .ensures) (c .before .before .before .before .before .before .before .before .enum-told .given .1)) (laid-messages (worldOf (a .state) (a .chunks .now) (a .map .now) (a .hashes .now) (a .trusted .now) (a .has .now) (a .wants .now) (a .reply .now)) (a .clock) (a .id) (a .datagram .now) _ (c .before .before .before .before .messages .ensures))
+returns-4 c = let a = c .before .before .before .before .before .before .before .before .before .before .before .before .before .before .before .before .before .before .before .before .before .before .before .args in take-laid (worldOf (a .state) (a .chunks .now) (a .map .now) (a .hashes .now) (a .trusted .now) (a .has .now) (a .wants .now) (a .reply .now)) (a .clock) (a .id) (a .datagram .now) (c .before .before .before .before .before .before .before .before .before .before .before .before .before .all-rooms-answer .ensures) (omega (arith, c .before .before .before .before .before .before .before .before .before .before .before .before .if1 .left)) (laid _ (a .datagram .now) (c .before .before .before .before .before .before .before .before .before .before .check .ensures) (c .before .before .before .before .before .before .before .before .enum-told .given .1)) (laid-messages (worldOf (a .state) (a .chunks .now) (a .map .now) (a .hashes .now) (a .trusted .now) (a .has .now) (a .wants .now) (a .reply .now)) (a .clock) (a .id) (a .datagram .now) _ (c .before .before .before .before .messages .ensures))
 
 same-length-7 : tie.Need-same-length-7
 same-length-7 c = search needs
@@ -98,7 +95,7 @@ same-length-13 : tie.Need-same-length-13
 same-length-13 c = search needs
 
 returns-5 : tie.Need-returns-5
-returns-5 c = let a = c .before .before .before .before .before .before .before .before .before .before .before .before .before .before .before .before .before .before .before .before .before .before .before .before .before .before .before .before .before .before .before .before .before .before .before .before .before .before .before .before .before .args in take-laid (worldOf (a .state) (a .chunks .now) (a .map .now) (a .hashes .now) (a .trusted .now) (a .has .now) (a .wants .now) (a .reply .now)) (a .clock) (a .id) (a .datagram .now) (c .before .before .before .before .before .before .before .before .before .before .before .before .before .before .before .before .before .before .before .before .before .before .before .before .before .before .before .before .before .before .before .all-rooms-answer .ensures) (omega (arith, c .before .before .before .before .before .before .before .before .before .before .before .before .before .before .before .before .before .before .before .before .before .before .before .before .before .before .before .before .before .before .if1 .left)) (laid _ (a .datagram .now) (search needs) (c .before .before .before .before .before .before .before .before .before .before .before .before .before .before .before .before .before .before .before .before .before .before .before .before .before .before .before .before .check .ensures) (c .before .before .before .before .before .before .before .before .before .before .before .before .before .before .before .before .before .before .before .before .before .before .before .before .before .chunk .given .1)) (laid-data (worldOf (a .state) (a .chunks .now) (a .map .now) (a .hashes .now) (a .trusted .now) (a .has .now) (a .wants .now) (a .reply .now)) (a .clock) (a .id) (a .datagram .now) _ _ _ _ _ _ (laid-entries _ (a .datagram .now) (search needs) (c .before .before .before .before .before .before .before .before .before .before .before .before .before .before .before .before .before .before .before .before .before .before .before .before .before .before .before .before .check .ensures) (c .before .before .before .before .before .before .before .before .before .before .before .before .before .before .before .before .before .before .before .before .before .before .before .before .before .chunk .given .1)) (c .before .before .before .before .before .before .before .before .before .before .before .before .before .before .take-chunk .ensures))
+returns-5 c = let a = c .before .before .before .before .before .before .before .before .before .before .before .before .before .before .before .before .before .before .before .before .before .before .before .before .before .before .before .before .before .before .before .before .before .before .before .before .before .before .before .before .args in take-laid (worldOf (a .state) (a .chunks .now) (a .map .now) (a .hashes .now) (a .trusted .now) (a .has .now) (a .wants .now) (a .reply .now)) (a .clock) (a .id) (a .datagram .now) (c .before .before .before .before .before .before .before .before .before .before .before .before .before .before .before .before .before .before .before .before .before .before .before .before .before .before .before .before .before .before .all-rooms-answer .ensures) (omega (arith, c .before .before .before .before .before .before .before .before .before .before .before .before .before .before .before .before .before .before .before .before .before .before .before .before .before .before .before .before .before .if1 .left)) (laid _ (a .datagram .now) (c .before .before .before .before .before .before .before .before .before .before .before .before .before .before .before .before .before .before .before .before .before .before .before .before .before .before .before .check .ensures) (c .before .before .before .before .before .before .before .before .before .before .before .before .before .before .before .before .before .before .before .before .before .before .before .before .before .chunk .given .1)) (laid-data (worldOf (a .state) (a .chunks .now) (a .map .now) (a .hashes .now) (a .trusted .now) (a .has .now) (a .wants .now) (a .reply .now)) (a .clock) (a .id) (a .datagram .now) _ _ _ _ _ _ (laid-entries _ (a .datagram .now) (c .before .before .before .before .before .before .before .before .before .before .before .before .before .before .before .before .before .before .before .before .before .before .before .before .before .before .before .check .ensures) (c .before .before .before .before .before .before .before .before .before .before .before .before .before .before .before .before .before .before .before .before .before .before .before .before .before .chunk .given .1) (search needs)) (c .before .before .before .before .before .before .before .before .before .before .before .before .before .before .take-chunk .ensures))
 
 pub take-spec : {M : Type 1} → statement M
 take-spec =
@@ -106,7 +103,6 @@ take-spec =
     (tie.spec
     all-rooms-answer-requires
     returns
-    slice-aggregate-check
     check-requires
     enum-known-number
     enum-known-source

@@ -8,75 +8,93 @@ use mathlib.Core.List.{List}
 use borrow.Author.Tests.{not-false}
 use lib.ListN.{length, take}
 use Rattle.wire.specs.Bytes.{be32}
-use Rattle.writer.proofs.AnswerLaws.{zeros98, zeros-length, cut, front-low, has-entries, front-layout, front-entries, add-room, add-size, add-so-far, add-unwritable, add-long, add-after, add-fits}
+use Rattle.writer.proofs.AnswerLaws.{cut, front-low, has-entries, front-layout, front-length, front-entries, add-room, add-size, add-so-far, add-unwritable, add-long, add-after, add-fits}
 
--- src/add.rt:118:9
 returns : tie.Need-returns
-returns c = (add-room (c .before .before .before .args .room .now) (c .before .before .before .args .len) (c .before .before .before .args .message) (c .before .before .before .args .bytes .now) (c .if1 .taken), λ e. absurd (omega (arith, e)))
+returns c =
+    let a = c .before .before .before .args in
+    (add-room (a .room .now) (a .len) (a .message) (a .bytes .now) (c .if1 .taken), λ e. absurd (omega (arith, e)))
 
--- src/add.rt:121:9
 returns-2 : tie.Need-returns-2
-returns-2 c = (add-size (c .before .before .before .before .args .room .now) (c .before .before .before .before .args .len) (c .before .before .before .before .args .message) (c .before .before .before .before .args .bytes .now) (c .before .if1 .left) (c .if2 .taken), λ e. absurd (omega (arith, e)))
+returns-2 c =
+    let a = c .before .before .before .before .args in
+    (add-size (a .room .now) (a .len) (a .message) (a .bytes .now) (c .before .if1 .left) (c .if2 .taken), λ e. absurd (omega (arith, e)))
 
--- src/add.rt:123:18
 sub-prefix : tie.Need-sub-prefix
 sub-prefix c = search needs
 
--- src/add.rt:123:18
 part-prefix-start : tie.Need-part-prefix-start
 part-prefix-start c = search needs
 
--- src/add.rt:123:18
 part-prefix-end : tie.Need-part-prefix-end
 part-prefix-end c = search needs
 
--- src/add.rt:125:40
-slice-aggregate-check : tie.Need-slice-aggregate-check
-slice-aggregate-check c = search needs
-
--- src/add.rt:125:9
 check-requires : tie.Need-check-requires
 check-requires c κs = search needs
 
--- src/add.rt:126:9
 number-requires : tie.Need-number-requires
 number-requires c κs = search needs
 
--- src/add.rt:128:9
 returns-3 : tie.Need-returns-3
-returns-3 c = (add-so-far (c .before .before .before .before .before .before .before .before .before .before .args .room .now) (c .before .before .before .before .before .before .before .before .before .before .args .len) (c .before .before .before .before .before .before .before .before .before .before .args .message) (c .before .before .before .before .before .before .before .before .before .before .args .bytes .now) (c .before .before .before .before .before .before .before .if1 .left) (c .before .before .before .before .before .before .if2 .left) _ (front-layout zeros98 (c .before .before .before .before .before .before .before .before .before .before .args .room .now) (c .before .before .before .before .before .before .before .before .before .before .args .len) zeros-length (c .before .before .before .check .ensures)) (c .before .number .ensures) (c .if3 .taken), λ e. absurd (c .if3 .taken e))
+returns-3 c =
+    let a = c .before .before .before .before .before .before .before .before .before .args in
+    let l = front-layout _ (a .room .now) (a .len) (c .before .before .check .ensures) in
+    (add-so-far (a .room .now) (a .len) (a .message) (a .bytes .now) (c .before .before .before .before .before .before .if1 .left) (c .before .before .before .before .before .if2 .left) _ l (c .before .number .ensures) (c .if3 .taken), λ e. absurd (c .if3 .taken e))
 
--- src/add.rt:130:9
 writable-requires : tie.Need-writable-requires
 writable-requires c κs = search needs
 
--- src/add.rt:131:9
 returns-4 : tie.Need-returns-4
-returns-4 c = (add-unwritable (c .before .before .before .before .before .before .before .before .before .before .before .before .args .room .now) (c .before .before .before .before .before .before .before .before .before .before .before .before .args .len) (c .before .before .before .before .before .before .before .before .before .before .before .before .args .message) (c .before .before .before .before .before .before .before .before .before .before .before .before .args .bytes .now) (c .before .before .before .before .before .before .before .before .before .if1 .left) (c .before .before .before .before .before .before .before .before .if2 .left) _ (front-layout zeros98 (c .before .before .before .before .before .before .before .before .before .before .before .before .args .room .now) (c .before .before .before .before .before .before .before .before .before .before .before .before .args .len) zeros-length (c .before .before .before .before .before .check .ensures)) (c .before .before .before .number .ensures) (c .before .before .if3 .left) (c .before .writable .ensures) (c .if4 .taken), λ e. absurd (omega (arith, e)))
+returns-4 c =
+    let a = c .before .before .before .before .before .before .before .before .before .before .before .args in
+    let l = front-layout _ (a .room .now) (a .len) (c .before .before .before .before .check .ensures) in
+    (add-unwritable (a .room .now) (a .len) (a .message) (a .bytes .now) (c .before .before .before .before .before .before .before .before .if1 .left) (c .before .before .before .before .before .before .before .if2 .left) _ l (c .before .before .before .number .ensures) (c .before .before .if3 .left) (c .before .writable .ensures) (c .if4 .taken), λ e. absurd (omega (arith, e)))
 
--- src/add.rt:133:25
 size-of-requires : tie.Need-size-of-requires
 size-of-requires c κs = sym (c .before .writable .ensures) ∙ not-false _ (c .if4 .left)
 
--- src/add.rt:134:9
 returns-5 : tie.Need-returns-5
-returns-5 c = (add-long (c .before .before .before .before .before .before .before .before .before .before .before .before .before .before .args .room .now) (c .before .before .before .before .before .before .before .before .before .before .before .before .before .before .args .len) (c .before .before .before .before .before .before .before .before .before .before .before .before .before .before .args .message) (c .before .before .before .before .before .before .before .before .before .before .before .before .before .before .args .bytes .now) (c .before .before .before .before .before .before .before .before .before .before .before .if1 .left) (c .before .before .before .before .before .before .before .before .before .before .if2 .left) _ (front-layout zeros98 (c .before .before .before .before .before .before .before .before .before .before .before .before .before .before .args .room .now) (c .before .before .before .before .before .before .before .before .before .before .before .before .before .before .args .len) zeros-length (c .before .before .before .before .before .before .before .check .ensures)) (c .before .before .before .before .before .number .ensures) (c .before .before .before .before .if3 .left) (c .before .before .before .writable .ensures) (c .before .before .if4 .left) (c .before .size-of .ensures .0) (c .if5 .taken), λ e. absurd (omega (arith, e)))
+returns-5 c =
+    let a = c .before .before .before .before .before .before .before .before .before .before .before .before .before .args in
+    let l = front-layout _ (a .room .now) (a .len) (c .before .before .before .before .before .before .check .ensures) in
+    (add-long (a .room .now) (a .len) (a .message) (a .bytes .now) (c .before .before .before .before .before .before .before .before .before .before .if1 .left) (c .before .before .before .before .before .before .before .before .before .if2 .left) _ l (c .before .before .before .before .before .number .ensures) (c .before .before .before .before .if3 .left) (c .before .before .before .writable .ensures) (c .before .before .if4 .left) (c .before .size-of .ensures .0) (c .if5 .taken), λ e. absurd (omega (arith, e)))
 
--- src/add.rt:136:25
 slice-aggregate-fault-after : tie.Need-slice-aggregate-fault-after
-slice-aggregate-fault-after c = search needs
+slice-aggregate-fault-after c =
+    let a = c .before .before .before .before .before .before .before .before .before .before .before .before .before .before .args in
+    sym (front-length _ (a .room .now) (a .len) (c .before .before .before .before .before .before .before .check .ensures))
 
--- src/add.rt:136:35
 load32-requires : tie.Need-load32-requires
-load32-requires c κs = front-low (c .before .before .before .before .before .before .before .before .before .before .before .before .before .before .before .args .room .now) (c .before .before .before .before .before .before .before .before .before .before .before .before .before .before .before .args .len) (front-layout zeros98 (c .before .before .before .before .before .before .before .before .before .before .before .before .before .before .before .args .room .now) (c .before .before .before .before .before .before .before .before .before .before .before .before .before .before .before .args .len) zeros-length (c .before .before .before .before .before .before .before .before .check .ensures)) (c .before .before .before .before .before .before .number .ensures) (c .before .before .before .before .before .if3 .left)
+load32-requires c κs =
+    let a = c .before .before .before .before .before .before .before .before .before .before .before .before .before .before .args in
+    let l = front-layout _ (a .room .now) (a .len) (c .before .before .before .before .before .before .before .check .ensures) in
+    front-low (a .room .now) (a .len) l (c .before .before .before .before .before .before .number .ensures) (c .before .before .before .before .before .if3 .left)
 
--- src/add.rt:136:5
 fault-after-requires : tie.Need-fault-after-requires
-fault-after-requires c κs = has-entries (take (c .before .before .before .before .before .before .before .before .before .before .before .before .before .before .before .before .args .len) (c .before .before .before .before .before .before .before .before .before .before .before .before .before .before .before .before .args .room .now)) (length (c .before .before .before .before .before .before .before .before .before .check .last .1 .0)) (omega (arith, c .before .before .before .before .before .before .before .before .before .check .kept .1 .0, zeros-length)) (front-layout zeros98 (c .before .before .before .before .before .before .before .before .before .before .before .before .before .before .before .before .args .room .now) (c .before .before .before .before .before .before .before .before .before .before .before .before .before .before .before .before .args .len) zeros-length (c .before .before .before .before .before .before .before .before .before .check .ensures))
+fault-after-requires c κs =
+    let a = c .before .before .before .before .before .before .before .before .before .before .before .before .before .before .before .args in
+    let l = front-layout _ (a .room .now) (a .len) (c .before .before .before .before .before .before .before .before .check .ensures) in
+    let k = front-length _ (a .room .now) (a .len) (c .before .before .before .before .before .before .before .before .check .ensures) in
+    has-entries (take (a .len) (a .room .now)) (length (c .before .before .before .before .before .before .before .before .check .last .1 .0)) (omega (arith, k)) l
 
--- src/add.rt:114:1
 returns-6 : tie.Need-returns-6
-returns-6 c = (add-after (c .before .before .before .before .before .before .before .before .before .before .before .before .before .before .before .before .before .args .room .now) (c .before .before .before .before .before .before .before .before .before .before .before .before .before .before .before .before .before .args .len) (c .before .before .before .before .before .before .before .before .before .before .before .before .before .before .before .before .before .args .message) (c .before .before .before .before .before .before .before .before .before .before .before .before .before .before .before .before .before .args .bytes .now) (c .before .before .before .before .before .before .before .before .before .before .before .before .before .before .if1 .left) (c .before .before .before .before .before .before .before .before .before .before .before .before .before .if2 .left) _ (front-layout zeros98 (c .before .before .before .before .before .before .before .before .before .before .before .before .before .before .before .before .before .args .room .now) (c .before .before .before .before .before .before .before .before .before .before .before .before .before .before .before .before .before .args .len) zeros-length (c .before .before .before .before .before .before .before .before .before .before .check .ensures)) (c .before .before .before .before .before .before .before .before .number .ensures) (c .before .before .before .before .before .before .before .if3 .left) (c .before .before .before .before .before .before .writable .ensures) (c .before .before .before .before .before .if4 .left) (c .before .before .before .before .size-of .ensures .0) (c .before .before .before .if5 .left) _ (front-entries zeros98 (c .before .before .before .before .before .before .before .before .before .before .before .before .before .before .before .before .before .args .room .now) (c .before .before .before .before .before .before .before .before .before .before .before .before .before .before .before .before .before .args .len) zeros-length (c .before .before .before .before .before .before .before .before .before .before .check .ensures)) (c .fault-after .ensures .1) (c .before .load32 .ensures ∙ ap (λ (r : List ℕ). be32 r 0) (cut (c .before .before .before .before .before .before .before .before .before .before .before .before .before .before .before .before .before .args .len) (c .before .before .before .before .before .before .before .before .before .before .before .before .before .before .before .before .before .args .room .now))) (c .fault-after .ensures .0), λ _. add-fits (c .before .before .before .before .before .before .before .before .before .before .before .before .before .before .before .before .before .args .room .now) (c .before .before .before .before .before .before .before .before .before .before .before .before .before .before .before .before .before .args .len) (c .before .before .before .before .before .before .before .before .before .before .before .before .before .before .before .before .before .args .message) (c .before .before .before .before .before .before .before .before .before .before .before .before .before .before .before .before .before .args .bytes .now) (c .before .before .before .before .before .before .before .before .before .before .before .before .before .before .if1 .left) (c .before .before .before .before .before .before .before .before .before .before .before .before .before .if2 .left) _ (front-layout zeros98 (c .before .before .before .before .before .before .before .before .before .before .before .before .before .before .before .before .before .args .room .now) (c .before .before .before .before .before .before .before .before .before .before .before .before .before .before .before .before .before .args .len) zeros-length (c .before .before .before .before .before .before .before .before .before .before .check .ensures)) (c .before .before .before .before .before .before .before .before .number .ensures) (c .before .before .before .before .before .before .before .if3 .left) (c .before .before .before .before .before .before .writable .ensures) (c .before .before .before .before .before .if4 .left) (c .before .before .before .before .size-of .ensures .0) (c .before .before .before .if5 .left))
+returns-6 c =
+    let a = c .before .before .before .before .before .before .before .before .before .before .before .before .before .before .before .before .args in
+    let e = c .before .before .before .before .before .before .before .before .before .check .ensures in
+    let l = front-layout _ (a .room .now) (a .len) e in
+    let es = front-entries _ (a .room .now) (a .len) e (search needs) in
+    let d = c .before .load32 .ensures ∙ ap (λ (r : List ℕ). be32 r 0) (cut (a .len) (a .room .now)) in
+    let big = c .before .before .before .before .before .before .before .before .before .before .before .before .before .if1 .left in
+    let short = c .before .before .before .before .before .before .before .before .before .before .before .before .if2 .left in
+    let n = c .before .before .before .before .before .before .before .before .number .ensures in
+    let z = c .before .before .before .before .before .before .before .if3 .left in
+    let w = c .before .before .before .before .before .before .writable .ensures in
+    let can = c .before .before .before .before .before .if4 .left in
+    let s = c .before .before .before .before .size-of .ensures .0 in
+    let fits = c .before .before .before .if5 .left in (
+      add-after (a .room .now) (a .len) (a .message) (a .bytes .now) big short _ l n z w can s fits _ es (c .fault-after .ensures .1) d (c .fault-after .ensures .0),
+      λ _. add-fits (a .room .now) (a .len) (a .message) (a .bytes .now) big short _ l n z w can s fits,
+    )
 
 pub add-answer-spec : {M : Type 1} → statement M
 add-answer-spec =
@@ -87,7 +105,6 @@ add-answer-spec =
     sub-prefix
     part-prefix-start
     part-prefix-end
-    slice-aggregate-check
     check-requires
     number-requires
     returns-3
