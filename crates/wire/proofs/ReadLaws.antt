@@ -37,7 +37,7 @@ last-is t e = ap (λ (x : Range). x .last) e
 
 -- whether a range is a node's, from the node found
 module _ (f l : ℕ) where
-  pub node-covers : {n : RangeNode} {x : ℕ} → n ≡ nodeOfRange f l → n ≡ Node x → covers (f + l) f l ≡ true
+  node-covers : {n : RangeNode} {x : ℕ} → n ≡ nodeOfRange f l → n ≡ Node x → covers (f + l) f l ≡ true
   unfolding nodeOfRange
   node-covers {n} {x} e g = by (covers (f + l) f l) (sym e ∙ g)
     where
@@ -54,7 +54,7 @@ module _ (f l : ℕ) where
       by true h = cc
       by false h = cc
 
-  pub no-node-covers : {n : RangeNode} → n ≡ nodeOfRange f l → n ≡ NoNode → covers (f + l) f l ≡ false
+  no-node-covers : {n : RangeNode} → n ≡ nodeOfRange f l → n ≡ NoNode → covers (f + l) f l ≡ false
   unfolding nodeOfRange
   no-node-covers {n} e g = by (covers (f + l) f l) (sym e ∙ g)
     where

@@ -8,7 +8,7 @@ use lib.Dec.{ltb, eqb}
 use Rattle.base.specs.Pick.{pick}
 use Rattle.wire.specs.Bytes.{be32, placed}
 use Rattle.wire.specs.Limits.{minSize, maxSize}
-use Rattle.wire.specs.Read.{stepAt}
+use Rattle.wire.specs.Read.{stepNumber, stepAt}
 use Rattle.wire.specs.declared.message.Options.{Options}
 use Rattle.wire.specs.declared.message.Options.the-variants.{Fixed, EndOnly, Other}
 use Rattle.wire.specs.declared.message.Message.{Message}
@@ -76,7 +76,7 @@ layoutOn s es at next Unchoke rest = rest es
 abbrev pub layoutStep : List ℕ → List ℕ → ℕ → Step → (List ℕ → ℕ → Checked) → Checked
 layoutStep s es at (Read m next) rest = layoutOn s es at (next .at) m (λ gs. rest gs (next .at))
 layoutStep s es at End rest = checkedOf (Messages (length es)) es
-layoutStep s es at Refused rest = checkedOf (Fault 2) es
+layoutStep s es at Refused rest = checkedOf (Fault (stepNumber Refused)) es
 
 -- The messages from `at` on, of which there are at most n: n is the datagram's length at first, and each message has a byte
 -- at least, so it is never used up.

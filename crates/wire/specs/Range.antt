@@ -1,6 +1,8 @@
 -- A message's range (01, "Datagrams": "A range is first and last chunk, 32 bits each, both included"). Assumes nothing.
 use Prim.Native.Nat.{ℕ}
 use mathlib.Core.List.{List}
+use Rattle.tree.specs.declared.bin.RangeNode.{RangeNode}
+use Rattle.tree.specs.declared.bin.RangeNode.the-variants.{Node, NoNode}
 use Rattle.wire.specs.Bytes.{be32}
 use Rattle.wire.specs.declared.range.Range.{Range}
 
@@ -13,3 +15,8 @@ lastOf t = be32 t 5
 
 abbrev pub rangeOf : List ℕ → Range
 rangeOf t = record { first = firstOf t; last = lastOf t }
+
+-- The number of 01 for an INTEGRITY's range, by its node: 2 for "INTEGRITY range no node".
+abbrev pub nodeNumber : RangeNode → ℕ
+nodeNumber (Node b) = 0
+nodeNumber NoNode = 2

@@ -17,6 +17,12 @@ use Rattle.wire.specs.declared.message.Cursor.{Cursor}
 use Rattle.wire.specs.declared.message.Step.{Step}
 use Rattle.wire.specs.declared.message.Step.the-variants.{Read, End, Refused}
 
+-- The number of 01 that a step stands for: 2 for what is refused, 0 for a message and for the end.
+abbrev pub stepNumber : Step → ℕ
+stepNumber (Read m next) = 0
+stepNumber End = 0
+stepNumber Refused = 2
+
 abbrev pub cursor : ℕ → Cursor
 cursor at = record { at = at }
 

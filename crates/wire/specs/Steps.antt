@@ -8,6 +8,7 @@ use lib.Dec.{leb, eqb}
 use Rattle.base.specs.Pick.{pick}
 use Rattle.wire.specs.Bytes.{placed}
 use Rattle.wire.specs.Limits.{minSize, maxSize, entryWords}
+use Rattle.wire.specs.Read.{stepNumber}
 use Rattle.wire.specs.Layout.{Checked, checkedOf, seen, handshakeLayout, layoutFrom}
 use Rattle.wire.specs.declared.message.Message.{Message}
 use Rattle.wire.specs.declared.message.Message.the-variants.{Handshake, Data, Ack, Have, Integrity, Request, Cancel, Choke, Unchoke}
@@ -51,7 +52,7 @@ isSingle s at = pick (leb (length s) at) false (pick (eqb (getD s at 0) 10) true
 abbrev pub turnAt : List ℕ → List ℕ → ℕ → ℕ → Step → Turned
 turnAt s room used at (Read m next) = turnOn s room used at (next .at) m
 turnAt s room used at End = turnedOf (Over (Messages used)) room
-turnAt s room used at Refused = turnedOf (Over (Fault 2)) room
+turnAt s room used at Refused = turnedOf (Over (Fault (stepNumber Refused))) room
 
 -- Where a turn begins: the sizes are sound, and each two words of entries came with 41 bytes behind the destination.
 pub record Standing (s : List ℕ) (size at used : ℕ) : Type 0 where

@@ -53,7 +53,7 @@ pub struct Cursor {
     pub at: usize,
 }
 
-// What stands at a cursor. Refused is the number 2.
+// What stands at a cursor; `stepNumber` (specs/Read) gives its number.
 pub enum Step {
     Read { message: Message, next: Cursor },
     End,

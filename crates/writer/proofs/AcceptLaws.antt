@@ -8,7 +8,9 @@ use lib.ListN.{length, take, length-append}
 use lib.Dec.{ltb, eqb}
 use borrow.Author.Tests.{ltb-false, not-false}
 use Rattle.base.specs.Pick.{pick, earlier}
-use Rattle.tree.specs.Range.{covers}
+use Rattle.tree.specs.Range.{covers, nodeOfRange}
+use Rattle.tree.specs.declared.bin.RangeNode.the-variants.{Node, NoNode}
+use Rattle.wire.specs.Range.{nodeNumber}
 use Rattle.wire.specs.Bytes.{be32}
 use Rattle.wire.specs.Limits.{minSize, maxSize}
 use Rattle.wire.specs.Layout.{Checked, numberOf, seen, layoutOf}
@@ -71,17 +73,17 @@ chunk-good : (x : Bool) → _≡_ {A = ℕ} (pick x 0 2) 0 → x ≡ true
 chunk-good true e = refl
 chunk-good false e = absurd (omega arith)
 
-node-good : (x : Bool) (n : ℕ) → pick x n 2 ≡ 0 → x ≡ true
-node-good true n e = refl
-node-good false n e = absurd (omega arith)
+node-good : (x : Bool) (b n : ℕ) → earlier (nodeNumber (pick x (Node b) NoNode)) n ≡ 0 → x ≡ true
+node-good true b n e = refl
+node-good false b n e = absurd (omega arith)
 
 pub good-message : (es : List ℕ) (to len : ℕ) (m : Message) → faultBehind es to len m ≡ 0 → allowed m ≡ true
-unfolding faultBehind
+unfolding faultBehind nodeOfRange
 good-message es to len (Handshake a o) e = refl
 good-message es to len (Data f l x b n) e = chunk-good (eqb f l) e
 good-message es to len (Ack f l d) e = range-good (ltb l f) e
 good-message es to len (Have f l) e = range-good (ltb l f) e
-good-message es to len (Integrity f l h) e = node-good (covers (f + l) f l) (pick (seen (f + l) es) 2 0) e
+good-message es to len (Integrity f l h) e = node-good (covers (f + l) f l) (f + l) (pick (seen (f + l) es) 2 0) e
 good-message es to len (Request f l) e = range-good (ltb l f) e
 good-message es to len (Cancel f l) e = range-good (ltb l f) e
 good-message es to len Choke e = refl

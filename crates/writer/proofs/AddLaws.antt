@@ -8,10 +8,12 @@ use lib.ListN.{length, length-append}
 use lib.Seq.{drop-append-seam}
 use lib.Dec.{ltb, eqb}
 use borrow.Author.Tests.{eq-eqb}
-use Rattle.base.specs.Pick.{pick}
-use Rattle.tree.specs.Range.{covers}
+use Rattle.base.specs.Pick.{pick, earlier}
+use Rattle.tree.specs.Range.{covers, nodeOfRange}
+use Rattle.tree.specs.declared.bin.RangeNode.the-variants.{Node, NoNode}
 use Rattle.wire.specs.Bytes.{be32}
 use Rattle.wire.specs.Limits.{minSize, maxSize}
+use Rattle.wire.specs.Range.{nodeNumber}
 use Rattle.wire.specs.Read.{cursor, refusing, stepOf}
 use Rattle.wire.specs.Layout.{Checked, checkedOf, numberOf, seen, isEndOnly, handshakeFault, orFault, handshakeLayout, layoutStep, layoutFrom, layoutOf}
 use Rattle.wire.specs.declared.message.Options.{Options}
@@ -54,7 +56,8 @@ module _ (s gs : List ℕ) (at next : ℕ) (to : ℕ) (dest : be32 s 0 ≡ to) (
   one-chunk true m e = e
   one-chunk false m e = refl
 
-  noded : (x : Bool) (f l h : ℕ) → numberAt (refusing (not x) (Read (Integrity f l h) (cursor next))) ≡ pick x (pick (seen (f + l) gs) 2 0) 2
+  noded : (x : Bool) (f l h : ℕ) → numberAt (refusing (not x) (Read (Integrity f l h) (cursor next)))
+      ≡ earlier (nodeNumber (pick x (Node (f + l)) NoNode)) (pick (seen (f + l) gs) 2 0)
   noded false f l h = refl
   noded true f l h = by (seen (f + l) gs)
     where
@@ -69,7 +72,7 @@ module _ (s gs : List ℕ) (at next : ℕ) (to : ℕ) (dest : be32 s 0 ≡ to) (
       ∙ rw (eq-eqb next (length s) end, dest, same-end (at + 5) o)
 
   pub step-number : (m : Message) → numberAt (refusing (not (allowed m)) (Read (moved at m) (cursor next))) ≡ faultBehind gs to at m
-  unfolding faultBehind
+  unfolding faultBehind nodeOfRange
   step-number (Handshake a o) = opening a o
   step-number (Data f l x b n) = one-chunk (eqb f l) (Data f l x (at + 17) n) refl
   step-number (Ack f l d) = ranged (ltb l f) (Ack f l d) (passes gs)

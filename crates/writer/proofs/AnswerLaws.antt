@@ -20,7 +20,7 @@ use Rattle.wire.specs.declared.message.Message.{Message}
 use Rattle.wire.specs.declared.message.Message.the-variants.{Handshake}
 use Rattle.wire.specs.declared.layout.Layout.{Layout}
 use Rattle.wire.specs.declared.layout.Layout.the-variants.{Fault, HandshakeAlone, Messages, MessagesAndData}
-use Rattle.wire.proofs.ReadLaws.{node-covers, node-sum, no-node-covers}
+use Rattle.wire.proofs.ReadLaws.{node-sum}
 use Rattle.wire.proofs.ExtendLaws.{Extended}
 use Rattle.wire.proofs.FaultLaws.{Passed, passed, too-long}
 use Rattle.wire.proofs.CountLaws.{Says, entries-fit}
@@ -158,13 +158,13 @@ module _ (room : List ℕ) (to : ℕ) where
 -- ---- a message behind others, as the code tests it
 module _ (es : List ℕ) (f l : ℕ) {r : RangeNode} (e : r ≡ nodeOfRange f l) where
   pub node-seen : {b : ℕ} → r ≡ Node b → {t : Bool} → t ≡ seen b es → t ≡ true → 2 ≡ nodeFault es f l
-  node-seen g p q = rw (node-covers f l e g, ← node-sum f l e g, ← p, q)
+  node-seen g p q = rw (← e, g, ← node-sum f l e g, ← p, q)
 
   pub node-new : {b : ℕ} → r ≡ Node b → {t : Bool} → t ≡ seen b es → t ≡ false → 0 ≡ nodeFault es f l
-  node-new g p q = rw (node-covers f l e g, ← node-sum f l e g, ← p, q)
+  node-new g p q = rw (← e, g, ← node-sum f l e g, ← p, q)
 
   pub no-node : r ≡ NoNode → 2 ≡ nodeFault es f l
-  no-node g = rw (no-node-covers f l e g)
+  no-node g = rw (← e, g)
 
 -- a HANDSHAKE behind the destination alone, or behind a message
 module _ (es : List ℕ) (to len a : ℕ) (o : Options) where

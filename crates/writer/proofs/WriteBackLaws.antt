@@ -9,6 +9,7 @@ use borrow.Author.Tests.{le-ltb, eqb-true}
 use lib.ListN.{length, take, drop, take-append-drop, length-append, length-drop}
 use lib.Seq.{take-at, length-take-le, drop-length, getD-drop}
 use Rattle.base.specs.Pick.{pick}
+use Rattle.tree.specs.Range.{nodeOfRange}
 use Rattle.wire.specs.Bytes.{be32, placed}
 use Rattle.wire.specs.Limits.{minSize, maxSize}
 use Rattle.wire.specs.Read.{cursor, stepAt}
@@ -94,7 +95,7 @@ module _ (s es : List ℕ) (at next : ℕ) (rest : List ℕ → ℕ → Checked)
 
   -- it gets no number behind the same entries
   pub no-fault : (m : Message) → allowed m ≡ true → numberOf (layoutStep s es at (Read m (cursor next)) rest .layout) ≡ 0 → faultBehind es (be32 s 0) at m ≡ 0
-  unfolding faultBehind handshakeLayout
+  unfolding faultBehind handshakeLayout nodeOfRange
   no-fault (Handshake a o) g e =
       let f = first-of (eqb at minSize) (eqb next (length s)) (handshakeFault (be32 s 0) a o) (number-of _ a o e) in
       rw (f .0, f .2)

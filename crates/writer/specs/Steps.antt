@@ -5,9 +5,10 @@ use mathlib.Core.List.{List}
 use mathlib.Core.Bool.{true}
 use lib.ListN.{take}
 use lib.Dec.{ltb, eqb}
-use Rattle.base.specs.Pick.{pick}
-use Rattle.tree.specs.Range.{covers}
+use Rattle.base.specs.Pick.{pick, earlier}
+use Rattle.tree.specs.Range.{nodeOfRange}
 use Rattle.wire.specs.Limits.{minSize, maxSize}
+use Rattle.wire.specs.Range.{nodeNumber}
 use Rattle.wire.specs.Layout.{seen, handshakeFault}
 use Rattle.wire.specs.declared.message.Message.{Message}
 use Rattle.wire.specs.declared.message.Message.the-variants.{Handshake, Data, Ack, Have, Integrity, Request, Cancel, Choke, Unchoke}
@@ -26,7 +27,7 @@ chunkFault f l = pick (eqb f l) 0 2
 
 -- 2 for a range that is no node's, or one's that is among the entries.
 abbrev pub nodeFault : List ℕ → ℕ → ℕ → ℕ
-nodeFault es f l = pick (covers (f + l) f l) (pick (seen (f + l) es) 2 0) 2
+nodeFault es f l = earlier (nodeNumber (nodeOfRange f l)) (pick (seen (f + l) es) 2 0)
 
 -- The number for a message behind len bytes of a datagram without HANDSHAKE or DATA, with its destination and entries.
 unfoldable pub faultBehind : List ℕ → ℕ → ℕ → Message → ℕ
