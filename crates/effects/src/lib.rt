@@ -1,5 +1,5 @@
-// What the messages of a datagram do to a channel: whether their ranges lie in the pack, and what they change of what the
-// peer has, what it wants and the choke mark.
+// What the messages of a datagram do to a channel: whether their ranges lie in the pack, and what they change of what
+// the peer has, what it wants and the choke mark.
 ghost use mathlib.Core.Path.{_≡_};
 ghost use mathlib.Core.Bool.{false};
 ghost use Rattle.base.specs.Pick.{pick};
@@ -102,7 +102,8 @@ pub struct Found {
 
 // The ranges of a datagram's messages against n chunks, and whether the messages are quiet.
 pub fn survey(datagram: &[u8], n: u32) -> Found
-    ensures { λ r. ⌜ (r .past ≡ anyPast n (readAll (now (datagram .entry)))) × (r .quiet ≡ quietWithin n (readAll (now (datagram .entry)))) ⌝ }
+    ensures { λ r. ⌜ (r .past ≡ anyPast n (readAll (now (datagram .entry))))
+        × (r .quiet ≡ quietWithin n (readAll (now (datagram .entry)))) ⌝ }
 {
     let mut at: usize = MIN_SIZE;
     let mut left: usize = datagram.len();
@@ -141,7 +142,8 @@ fn have(
     last: u32,
 ) -> bool
     requires { ⌜ base < 2 ^ 32 ⌝ }
-    ensures { λ r. ⌜ peerOf (now (has .exit)) (now (wants .exit)) r ≡ effect base (Message.Have first last) (peerOf (now (has .entry)) (now (wants .entry)) choked) ⌝ }
+    ensures { λ r. ⌜ peerOf (now (has .exit)) (now (wants .exit)) r
+        ≡ effect base (Message.Have first last) (peerOf (now (has .entry)) (now (wants .entry)) choked) ⌝ }
 {
     let from = base + first as usize;
     let upto = base + last as usize + 1;
@@ -159,7 +161,8 @@ fn apply_one(
     message: Message,
 ) -> bool
     requires { ⌜ base < 2 ^ 32 ⌝ }
-    ensures { λ r. ⌜ peerOf (now (has .exit)) (now (wants .exit)) r ≡ effect base message (peerOf (now (has .entry)) (now (wants .entry)) choked) ⌝ }
+    ensures { λ r. ⌜ peerOf (now (has .exit)) (now (wants .exit)) r
+        ≡ effect base message (peerOf (now (has .entry)) (now (wants .entry)) choked) ⌝ }
 {
     match message {
         Message::Ack {
@@ -200,7 +203,9 @@ fn apply_turn(
     datagram: &[u8],
 ) -> Turn
     requires { ⌜ base < 2 ^ 32 ⌝ }
-    ensures { λ r. ⌜ turnOf (peerOf (now (has .exit)) (now (wants .exit)) (r .choked)) (r .at) (r .left) ≡ turned base (peerOf (now (has .entry)) (now (wants .entry)) choked) left (stepAt (now (datagram .entry)) at) ⌝ }
+    ensures { λ r. ⌜ turnOf (peerOf (now (has .exit)) (now (wants .exit)) (r .choked)) (r .at) (r .left)
+        ≡ turned base (peerOf (now (has .entry)) (now (wants .entry)) choked) left
+        (stepAt (now (datagram .entry)) at) ⌝ }
 {
     match read::read(datagram, Cursor { at }) {
         Step::Read { message, next } => Turn {
@@ -224,7 +229,8 @@ fn apply_turn(
 // The effects of a datagram's messages, one after the other; whether the peer choked us afterwards.
 pub fn apply(has: &mut [u32], wants: &mut [u32], base: usize, choked: bool, datagram: &[u8]) -> bool
     requires { ⌜ base < 2 ^ 32 ⌝ }
-    ensures { λ r. ⌜ peerOf (now (has .exit)) (now (wants .exit)) r ≡ effects base (readAll (now (datagram .entry))) (peerOf (now (has .entry)) (now (wants .entry)) choked) ⌝ }
+    ensures { λ r. ⌜ peerOf (now (has .exit)) (now (wants .exit)) r
+        ≡ effects base (readAll (now (datagram .entry))) (peerOf (now (has .entry)) (now (wants .entry)) choked) ⌝ }
 {
     let mut mark = choked;
     let mut at: usize = MIN_SIZE;

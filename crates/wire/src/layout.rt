@@ -4,7 +4,8 @@ ghost use Prim.Native.Nat.{_+_, _≤_};
 ghost use lib.ListN.{length};
 ghost use Rattle.wire.specs.Limits.{minSize, maxSize, entryWords};
 ghost use Rattle.wire.specs.Read.{cursor, stepAt};
-ghost use Rattle.wire.specs.Layout.{numberOf, seen, isEndOnly, handshakeFault, handshakeLayout, checkSpec, checkedOf};
+ghost use Rattle.wire.specs.Layout.{numberOf, seen, isEndOnly, handshakeFault, handshakeLayout};
+ghost use Rattle.wire.specs.Layout.{checkSpec, checkedOf};
 ghost use Rattle.wire.specs.Steps.{turnedOf, noted, isSingle, turnOn, turnAt, Standing, passSpec};
 use crate::bytes;
 use crate::limits::ENTRIES;
@@ -165,7 +166,8 @@ fn take_message(
 ) -> Turn
     requires { ⌜ Standing (now datagram) (length (now entries)) at used ⌝ }
     requires { ⌜ stepAt (now datagram) at ≡ Step.Read message (cursor next) ⌝ }
-    ensures { λ r. ⌜ turnedOf r (now (entries .exit)) ≡ turnOn (now (datagram .entry)) (now (entries .entry)) used at next message ⌝ }
+    ensures { λ r. ⌜ turnedOf r (now (entries .exit))
+        ≡ turnOn (now (datagram .entry)) (now (entries .entry)) used at next message ⌝ }
 {
     match message {
         Message::Handshake { source, options } => Turn::Over {
@@ -196,8 +198,8 @@ fn take_message(
     }
 }
 
-// Whether a message of one byte, CHOKE or UNCHOKE, stands at a place. A datagram has room for 2,044 of them: they are told
-// without a value.
+// Whether a message of one byte, CHOKE or UNCHOKE, stands at a place. A datagram has room for 2,044 of them: they are
+// told without a value.
 fn is_single(datagram: &[u8], at: usize) -> bool
     ensures { λ r. ⌜ r ≡ isSingle (now (datagram .entry)) at ⌝ }
 {
@@ -214,7 +216,8 @@ fn is_single(datagram: &[u8], at: usize) -> bool
 // What stands at `at`.
 fn take_turn(datagram: &[u8], entries: &mut [u64], at: usize, used: usize) -> Turn
     requires { ⌜ Standing (now datagram) (length (now entries)) at used ⌝ }
-    ensures { λ r. ⌜ turnedOf r (now (entries .exit)) ≡ turnAt (now (datagram .entry)) (now (entries .entry)) used at (stepAt (now (datagram .entry)) at) ⌝ }
+    ensures { λ r. ⌜ turnedOf r (now (entries .exit))
+        ≡ turnAt (now (datagram .entry)) (now (entries .entry)) used at (stepAt (now (datagram .entry)) at) ⌝ }
 {
     if is_single(datagram, at) {
         return Turn::On {
@@ -277,8 +280,8 @@ pub fn check_into(datagram: &[u8], entries: &mut [u64]) -> Layout
     pass(datagram, entries)
 }
 
-// The checks of size and layout. The nodes of INTEGRITY messages and the places of their hashes are written to `entries`,
-// scratch of the caller, from its front, as far as the messages were read.
+// The checks of size and layout. The nodes of INTEGRITY messages and the places of their hashes are written to
+// `entries`, scratch of the caller, from its front, as far as the messages were read.
 pub fn check(datagram: &[u8], entries: &mut [u64; ENTRIES]) -> Layout
     ensures { λ r. ⌜ checkedOf r (now (entries .exit)) ≡ checkSpec (now (entries .entry)) (now (datagram .entry)) ⌝ }
 {

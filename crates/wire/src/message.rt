@@ -13,7 +13,8 @@ pub enum Message {
         source: u32,
         options: Options,
     },
-    // The chunk's bytes begin at start and are len many. What is read names one chunk; what is to be added may name any.
+    // The chunk's bytes begin at start and are len many. What is read names one chunk; what is to be added may name
+    // others.
     Data {
         first: u32,
         last: u32,

@@ -1,11 +1,10 @@
 // Beginning a datagram in a lent room, and adding a message to it.
 ghost use mathlib.Core.Path.{_≡_};
-ghost use Prim.Native.Nat.{_+_, _≤_, _<_};
-ghost use mathlib.Core.Bool.{true};
 ghost use lib.ListN.{length};
 ghost use Rattle.writer.specs.Add.{addAnswer, addSpec, beginSpec, writtenOf};
 ghost use Rattle.writer.specs.Lists.{Fits};
-ghost use Rattle.writer.specs.Steps.{rangeFault, chunkFault, nodeFault, faultBehind, Roomy, faultAfter, FitsBehind, Addable};
+ghost use Rattle.writer.specs.Steps.{rangeFault, chunkFault, nodeFault, faultBehind};
+ghost use Rattle.writer.specs.Steps.{Roomy, faultAfter, FitsBehind, Addable};
 use crate::place;
 use crate::put;
 use crate::size;
@@ -49,7 +48,8 @@ fn node_fault(entries: &[u64], first: u32, last: u32) -> u32
     }
 }
 
-// The number for a message behind `len` bytes of a datagram without HANDSHAKE or DATA, with its destination and entries.
+// The number for a message behind `len` bytes of a datagram without HANDSHAKE or DATA, with its destination and
+// entries.
 fn fault_behind(entries: &[u64], destination: u32, len: usize, message: Message) -> u32
     ensures { λ r. ⌜ (r ≡ faultBehind (now (entries .entry)) destination len message) × Fits message ⌝ }
 {
@@ -95,7 +95,8 @@ fn fault_after(
     message: Message,
 ) -> u32
     requires { ⌜ Roomy layout (length (now entries)) ⌝ }
-    ensures { λ r. ⌜ (r ≡ faultAfter layout (now (entries .entry)) destination len message) × FitsBehind layout message ⌝ }
+    ensures { λ r. ⌜ (r ≡ faultAfter layout (now (entries .entry)) destination len message)
+        × FitsBehind layout message ⌝ }
 {
     match layout {
         Layout::Fault { number } => number,
@@ -118,7 +119,8 @@ fn fault_after(
 
 // The number for adding a message to the first `len` bytes of the room.
 fn add_answer(room: &[u8], len: usize, message: Message, bytes: &[u8]) -> u32
-    ensures { λ r. ⌜ (r ≡ addAnswer (now (room .entry)) len message (now (bytes .entry))) × (r ≡ 0 → Addable (length (now (room .entry))) len message (length (now (bytes .entry)))) ⌝ }
+    ensures { λ r. ⌜ (r ≡ addAnswer (now (room .entry)) len message (now (bytes .entry)))
+        × (r ≡ 0 → Addable (length (now (room .entry))) len message (length (now (bytes .entry)))) ⌝ }
 {
     if room.len() < MAX_SIZE {
         return 11;
@@ -150,7 +152,8 @@ pub struct Added {
 
 // Begins a datagram: its destination channel.
 pub fn begin(room: &mut [u8], destination: u32) -> Added
-    ensures { λ r. ⌜ writtenOf (r .answer) (r .len) (now (room .exit)) ≡ beginSpec (now (room .entry)) destination ⌝ }
+    ensures { λ r. ⌜ writtenOf (r .answer) (r .len) (now (room .exit))
+        ≡ beginSpec (now (room .entry)) destination ⌝ }
 {
     if room.len() < MAX_SIZE {
         return Added { answer: 11, len: 0 };
@@ -164,7 +167,8 @@ pub fn begin(room: &mut [u8], destination: u32) -> Added
 
 // Adds a message to the datagram in the first `len` bytes of the room; its hash, chunk or root is taken from `bytes`.
 pub fn add(room: &mut [u8], len: usize, message: Message, bytes: &[u8]) -> Added
-    ensures { λ r. ⌜ writtenOf (r .answer) (r .len) (now (room .exit)) ≡ addSpec (now (room .entry)) len message (now (bytes .entry)) ⌝ }
+    ensures { λ r. ⌜ writtenOf (r .answer) (r .len) (now (room .exit))
+        ≡ addSpec (now (room .entry)) len message (now (bytes .entry)) ⌝ }
 {
     let answer = add_answer(room, len, message, bytes);
     if answer != 0 {

@@ -17,7 +17,8 @@ use wire::options::FIXED_TAIL;
 fn put_fixed(room: &mut [u8], at: usize, root: usize, bytes: &[u8])
     requires { ⌜ at + 51 ≤ length (now room) ⌝ }
     requires { ⌜ root + 32 ≤ length (now bytes) ⌝ }
-    ensures { λ _. ⌜ now (room .exit) ≡ placed (now (room .entry)) at (optionBytes (now (bytes .entry)) (Options.Fixed root)) ⌝ }
+    ensures { λ _. ⌜ now (room .exit)
+        ≡ placed (now (room .entry)) at (optionBytes (now (bytes .entry)) (Options.Fixed root)) ⌝ }
 {
     place::place_all(room, at, &FIXED_HEAD);
     let end = root + 32;
@@ -28,7 +29,8 @@ fn put_fixed(room: &mut [u8], at: usize, root: usize, bytes: &[u8])
 fn put_options(room: &mut [u8], at: usize, options: Options, bytes: &[u8])
     requires { ⌜ at + optionSpan options ≤ length (now room) ⌝ }
     requires { ⌜ writableOptions (length (now bytes)) options ≡ true ⌝ }
-    ensures { λ _. ⌜ now (room .exit) ≡ placed (now (room .entry)) at (optionBytes (now (bytes .entry)) options) ⌝ }
+    ensures { λ _. ⌜ now (room .exit)
+        ≡ placed (now (room .entry)) at (optionBytes (now (bytes .entry)) options) ⌝ }
 {
     match options {
         Options::Fixed { root } => {
@@ -44,7 +46,8 @@ fn put_options(room: &mut [u8], at: usize, options: Options, bytes: &[u8])
 fn put_handshake(room: &mut [u8], at: usize, source: u32, options: Options, bytes: &[u8])
     requires { ⌜ at + (5 + optionSpan options) ≤ length (now room) ⌝ }
     requires { ⌜ writableOptions (length (now bytes)) options ≡ true ⌝ }
-    ensures { λ _. ⌜ now (room .exit) ≡ placed (now (room .entry)) at (bytesOf (now (bytes .entry)) (Message.Handshake source options)) ⌝ }
+    ensures { λ _. ⌜ now (room .exit)
+        ≡ placed (now (room .entry)) at (bytesOf (now (bytes .entry)) (Message.Handshake source options)) ⌝ }
 {
     place::place8(room, at, 0);
     place::place32(room, at + 1, source);
@@ -63,7 +66,8 @@ fn put_data(
 )
     requires { ⌜ at + (17 + len) ≤ length (now room) ⌝ }
     requires { ⌜ start + len ≤ length (now bytes) ⌝ }
-    ensures { λ _. ⌜ now (room .exit) ≡ placed (now (room .entry)) at (bytesOf (now (bytes .entry)) (Message.Data first last timestamp start len)) ⌝ }
+    ensures { λ _. ⌜ now (room .exit)
+        ≡ placed (now (room .entry)) at (bytesOf (now (bytes .entry)) (Message.Data first last timestamp start len)) ⌝ }
 {
     place::place_range(room, at, 1, first, last);
     place::place64(room, at + 9, timestamp);
@@ -73,7 +77,8 @@ fn put_data(
 
 fn put_ack(room: &mut [u8], at: usize, first: u32, last: u32, delay: u64, bytes: &[u8])
     requires { ⌜ at + 17 ≤ length (now room) ⌝ }
-    ensures { λ _. ⌜ now (room .exit) ≡ placed (now (room .entry)) at (bytesOf (now (bytes .entry)) (Message.Ack first last delay)) ⌝ }
+    ensures { λ _. ⌜ now (room .exit)
+        ≡ placed (now (room .entry)) at (bytesOf (now (bytes .entry)) (Message.Ack first last delay)) ⌝ }
 {
     place::place_range(room, at, 2, first, last);
     place::place64(room, at + 9, delay);
@@ -83,7 +88,8 @@ fn put_ack(room: &mut [u8], at: usize, first: u32, last: u32, delay: u64, bytes:
 pub fn put_integrity(room: &mut [u8], at: usize, first: u32, last: u32, hash: usize, bytes: &[u8])
     requires { ⌜ at + 41 ≤ length (now room) ⌝ }
     requires { ⌜ hash + 32 ≤ length (now bytes) ⌝ }
-    ensures { λ _. ⌜ now (room .exit) ≡ placed (now (room .entry)) at (bytesOf (now (bytes .entry)) (Message.Integrity first last hash)) ⌝ }
+    ensures { λ _. ⌜ now (room .exit)
+        ≡ placed (now (room .entry)) at (bytesOf (now (bytes .entry)) (Message.Integrity first last hash)) ⌝ }
 {
     place::place_range(room, at, 4, first, last);
     let end = hash + 32;
@@ -94,7 +100,8 @@ pub fn put_integrity(room: &mut [u8], at: usize, first: u32, last: u32, hash: us
 pub fn put(room: &mut [u8], at: usize, message: Message, bytes: &[u8])
     requires { ⌜ at + sizeOf message ≤ length (now room) ⌝ }
     requires { ⌜ writable (length (now bytes)) message ≡ true ⌝ }
-    ensures { λ _. ⌜ now (room .exit) ≡ placed (now (room .entry)) at (bytesOf (now (bytes .entry)) message) ⌝ }
+    ensures { λ _. ⌜ now (room .exit)
+        ≡ placed (now (room .entry)) at (bytesOf (now (bytes .entry)) message) ⌝ }
 {
     match message {
         Message::Handshake { source, options } => {
