@@ -4,13 +4,13 @@ ghost use Prim.Native.Nat.{_+_, _≤_, _<_};
 ghost use lib.ListN.{length};
 ghost use Rattle.wire.specs.Bytes.{be16, be32, be64, begins};
 
-pub fn wide(b: u8) -> u32
+pub(crate) fn wide(b: u8) -> u32
     ensures { λ r. ⌜ (r ≡ b) × (r < 256) ⌝ }
 {
     b as u32
 }
 
-pub fn load16(s: &[u8], at: usize) -> u32
+pub(crate) fn load16(s: &[u8], at: usize) -> u32
     requires { ⌜ at + 2 ≤ length (now s) ⌝ }
     ensures { λ r. ⌜ (r ≡ be16 (now (s .entry)) at) × (r < 65536) ⌝ }
 {
@@ -38,7 +38,7 @@ pub fn load64(s: &[u8], at: usize) -> u64
 }
 
 // Whether s begins with the bytes p.
-pub fn begins(s: &[u8], p: &[u8]) -> bool
+pub(crate) fn begins(s: &[u8], p: &[u8]) -> bool
     ensures { λ r. ⌜ r ≡ begins (now (p .entry)) (now (s .entry)) ⌝ }
 {
     let mut bytes = s;

@@ -70,7 +70,7 @@ fn option_size(rest: &[u8], least: u8) -> usize
 }
 
 // Where the options end, End included; 0 where they are refused.
-pub fn options_size(options: &[u8]) -> usize
+pub(crate) fn options_size(options: &[u8]) -> usize
     ensures { λ r. ⌜ (r ≡ optionsSize (now (options .entry))) × (r ≤ length (now (options .entry))) ⌝ }
 {
     let mut rest = options;
@@ -94,7 +94,7 @@ pub fn options_size(options: &[u8]) -> usize
 }
 
 // Whether they begin with the fixed options around some root.
-pub fn is_fixed(options: &[u8]) -> bool
+pub(crate) fn is_fixed(options: &[u8]) -> bool
     ensures { λ r. ⌜ r ≡ isFixed (now (options .entry)) ⌝ }
 {
     if options.len() < 51 {

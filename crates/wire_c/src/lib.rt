@@ -6,7 +6,7 @@
 // of the chunk's bytes.
 //
 // A slice that is too short for its words is answered with 11, before all else.
-pub mod words; // the words of a layout
+mod words; // the words of a layout
 
 ghost use mathlib.Core.Path.{_≡_};
 ghost use Rattle.wire_c.specs.Calls.{laidOf, layoutTold};

@@ -40,7 +40,7 @@ fn put(out: &mut [u64], words: [u64; 6])
 }
 
 // Nothing of a layout that is refused.
-pub fn put_layout(out: &mut [u64], layout: Layout)
+pub(crate) fn put_layout(out: &mut [u64], layout: Layout)
     requires { ⌜ 6 ≤ length (now out) ⌝ }
     ensures { λ _. ⌜ now (out .exit) ≡ layoutPut (now (out .entry)) layout ⌝ }
 {

@@ -6,14 +6,14 @@ ghost use lib.ListN.{length};
 ghost use Rattle.wire.specs.Bytes.{placed};
 ghost use Rattle.writer.specs.Bytes.{bytes32, bytes64, rangeBytes};
 
-pub fn place8(room: &mut [u8], at: usize, x: u8)
+pub(crate) fn place8(room: &mut [u8], at: usize, x: u8)
     requires { ⌜ at + 1 ≤ length (now room) ⌝ }
     ensures { λ _. ⌜ now (room .exit) ≡ placed (now (room .entry)) at (x ∷ []) ⌝ }
 {
     room[at] = x;
 }
 
-pub fn place32(room: &mut [u8], at: usize, x: u32)
+pub(crate) fn place32(room: &mut [u8], at: usize, x: u32)
     requires { ⌜ at + 4 ≤ length (now room) ⌝ }
     ensures { λ _. ⌜ now (room .exit) ≡ placed (now (room .entry)) at (bytes32 x) ⌝ }
 {
@@ -23,7 +23,7 @@ pub fn place32(room: &mut [u8], at: usize, x: u32)
     room[at + 3] = (x % 256) as u8;
 }
 
-pub fn place64(room: &mut [u8], at: usize, x: u64)
+pub(crate) fn place64(room: &mut [u8], at: usize, x: u64)
     requires { ⌜ at + 8 ≤ length (now room) ⌝ }
     ensures { λ _. ⌜ now (room .exit) ≡ placed (now (room .entry)) at (bytes64 x) ⌝ }
 {
@@ -31,7 +31,7 @@ pub fn place64(room: &mut [u8], at: usize, x: u64)
     place32(room, at + 4, (x % 4294967296) as u32);
 }
 
-pub fn place_all(room: &mut [u8], at: usize, bytes: &[u8])
+pub(crate) fn place_all(room: &mut [u8], at: usize, bytes: &[u8])
     requires { ⌜ at + length (now bytes) ≤ length (now room) ⌝ }
     ensures { λ _. ⌜ now (room .exit) ≡ placed (now (room .entry)) at (now (bytes .entry)) ⌝ }
 {
@@ -43,7 +43,7 @@ pub fn place_all(room: &mut [u8], at: usize, bytes: &[u8])
 }
 
 // A message's type and range, whose two numbers are written here alone.
-pub fn place_range(room: &mut [u8], at: usize, kind: u8, first: u32, last: u32)
+pub(crate) fn place_range(room: &mut [u8], at: usize, kind: u8, first: u32, last: u32)
     requires { ⌜ at + 9 ≤ length (now room) ⌝ }
     ensures { λ _. ⌜ now (room .exit) ≡ placed (now (room .entry)) at (rangeBytes kind first last) ⌝ }
 {

@@ -28,7 +28,7 @@ fn writable_options(size: usize, options: Options) -> bool
 }
 
 // Whether a message can be written from `size` bytes.
-pub fn writable(size: usize, message: Message) -> bool
+pub(crate) fn writable(size: usize, message: Message) -> bool
     ensures { λ r. ⌜ r ≡ writable size message ⌝ }
 {
     match message {
