@@ -23,7 +23,7 @@ use Rattle.verdict.specs.Verdict.{roomVerdict}
 use Rattle.store.specs.Storing.{storeSpec, roomsBy}
 use Rattle.store.specs.Building.{clearRow, startRooms, buildRooms}
 use Rattle.store.specs.Answers.{refuse, earlier, lengthAnswer, roomAnswer, orderAnswer, chunkAnswer}
-use Rattle.store.specs.Calls.{Out, outOf, decide, unless, roomsAnswer, startSpec, buildAnswer, buildSpec, foundRoot, settleSpec, takeSpec}
+use Rattle.store.specs.Calls.{Out, outOf, decide, unless, roomsAnswer, startSpec, buildAnswer, buildSpec, foundRoot, storeIfFits, takeSpec}
 use Rattle.store.proofs.AnswerLaws.{both-zero, room-facts, chunk-facts}
 use Rattle.tree.proofs.ChunkLaws.{chunk-inside}
 
@@ -109,25 +109,25 @@ stays WrongPeaks w new h = refl
 stays WrongClimb w new h = refl
 
 module _ (w : Rooms) (r : List ℕ) (N c : ℕ) (d : List ℕ) (o : Integrity) (v : Verdict) (vo : v ≡ roomVerdict N r (w .hashes) (w .trusted) c d o) where
-  settle-by : (n : ℕ) (w′ : Rooms) → n ≡ number v → w′ ≡ roomsBy v w (λ t. storeSpec w N c t d o) → outOf n w′ ≡ settleSpec w r N c d o
-  unfolding settleSpec
-  settle-by n w′ e f =
+  fits-by : (n : ℕ) (w′ : Rooms) → n ≡ number v → w′ ≡ roomsBy v w (λ t. storeSpec w N c t d o) → outOf n w′ ≡ storeIfFits w r N c d o
+  unfolding storeIfFits
+  fits-by n w′ e f =
       ap₂ outOf (e ∙ ap number vo) (f ∙ ap (λ (x : Verdict). roomsBy x w (λ t. storeSpec w N c t d o)) vo)
 
-  pub settle-fits : (n t : ℕ) (w′ : Rooms) → n ≡ number v → v ≡ Fits t → w′ ≡ storeSpec w N c t d o → outOf n w′ ≡ settleSpec w r N c d o
-  settle-fits n t w′ k e f = settle-by n w′ k (f ∙ ap (λ (x : Verdict). roomsBy x w (λ k. storeSpec w N c k d o)) (sym e))
+  pub if-fits : (n t : ℕ) (w′ : Rooms) → n ≡ number v → v ≡ Fits t → w′ ≡ storeSpec w N c t d o → outOf n w′ ≡ storeIfFits w r N c d o
+  if-fits n t w′ k e f = fits-by n w′ k (f ∙ ap (λ (x : Verdict). roomsBy x w (λ k. storeSpec w N c k d o)) (sym e))
 
-  pub settle-refused : (n : ℕ) → n ≡ number v → OneOf refusals (tagOf verdict.the-type v) → outOf n w ≡ settleSpec w r N c d o
-  settle-refused n k h = settle-by n w k (stays v w (λ t. storeSpec w N c t d o) h)
+  pub if-refused : (n : ℕ) → n ≡ number v → OneOf refusals (tagOf verdict.the-type v) → outOf n w ≡ storeIfFits w r N c d o
+  if-refused n k h = fits-by n w k (stays v w (λ t. storeSpec w N c t d o) h)
 
 module _ (w : Rooms) (r : List ℕ) (L c : ℕ) (d : List ℕ) (o : Integrity) (k : ℕ) (ke : k ≡ earlier (roomsAnswer L w) (chunkAnswer L c (length d))) where
   pub take-refused : k ≢ 0 → outOf k w ≡ takeSpec w r L c d o
   unfolding takeSpec
-  take-refused q = ap (λ (x : ℕ). outOf x w) ke ∙ unless-not _ w (settleSpec w r (countOf L) c d o) (λ z. q (ke ∙ z))
+  take-refused q = ap (λ (x : ℕ). outOf x w) ke ∙ unless-not _ w (storeIfFits w r (countOf L) c d o) (λ z. q (ke ∙ z))
 
-  pub take-settled : k ≡ 0 → (n : ℕ) {x : Out} → n ≡ countOf L → x ≡ settleSpec w r n c d o → x ≡ takeSpec w r L c d o
+  pub take-judged : k ≡ 0 → (n : ℕ) {x : Out} → n ≡ countOf L → x ≡ storeIfFits w r n c d o → x ≡ takeSpec w r L c d o
   unfolding takeSpec
-  take-settled z n ne e = e ∙ ap (λ (y : ℕ). settleSpec w r y c d o) ne ∙ unless-done _ w (settleSpec w r (countOf L) c d o) (sym ke ∙ z)
+  take-judged z n ne e = e ∙ ap (λ (y : ℕ). storeIfFits w r y c d o) ne ∙ unless-done _ w (storeIfFits w r (countOf L) c d o) (sym ke ∙ z)
 
   -- an answer of 0: the chunk is one of the pack, has its length, and its place in the room
   pub take-facts : k ≡ 0 → (n : ℕ) → n ≡ countOf L → (c < n) × (chunkSize * c + length d ≤ length (w .bytes))

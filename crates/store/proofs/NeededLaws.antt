@@ -3,18 +3,17 @@
 use mathlib.Core.Path.{_≡_, refl, sym, ap, ap₂, _∙_}
 use mathlib.Core.Bool.{Bool, true, false}
 use mathlib.Core.List.{List}
-use Prim.Native.Nat.{ℕ, zero, suc, _*_, _/_, _%_, _^_, _<_}
+use Prim.Native.Nat.{ℕ, suc, _*_, _/_, _%_, _^_, _<_}
 use native.Mathlib.Omega.{arith}
-use borrow.Author.Tests.{lt-leb, eq-eqb, eqb-true}
+use borrow.Author.Tests.{lt-leb, eq-eqb}
 use lib.ListN.{length, drop, length-drop}
 use lib.Seq.{length-take-le}
 use Rattle.hash.proofs.Promise.{sha256}
 use Rattle.bits.proofs.Promise.{bitAt, setBit}
 use Rattle.base.specs.Pick.{pick}
-use Rattle.tree.specs.Bin.{bin}
 use Rattle.tree.specs.Node.{other, above}
 use Rattle.tree.specs.Pack.{chunkSize, size, levels}
-use Rattle.tree.specs.Peaks.{peaks, peakBit}
+use Rattle.tree.specs.Peaks.{peaks}
 use Rattle.tree.specs.Tree.{climb}
 use Rattle.tree.specs.Verdicts.{orElse, every, number, peaksTrusted, reached}
 use Rattle.tree.specs.declared.verdict.Verdict.{Verdict}
@@ -29,37 +28,12 @@ use Rattle.verdict.specs.Integrity.{Integrity, cameFrom}
 use Rattle.verdict.specs.Rooms.{Rooms, roomsOf, countOf, chunkIn, stateOf, trustedIn, gotBy}
 use Rattle.verdict.specs.Verdict.{roomVerdict}
 use Rattle.verdict.proofs.VerdictLaws.{verdict-sees}
-use Rattle.store.specs.Storing.{Put, mark, putIf, putPeaks, putPath, putAll, copied, stored, storeSpec, roomsBy}
+use Rattle.store.specs.Storing.{Put, mark, putPeaks, putAll, copied, stored, storeSpec, roomsBy}
 use Rattle.store.specs.Building.{treeOf, rootOf}
 use Rattle.store.specs.Answers.{earlier, chunkAnswer}
-use Rattle.store.specs.Calls.{outOf, unless, roomsAnswer, settleSpec, takeSpec}
+use Rattle.store.specs.Calls.{outOf, unless, roomsAnswer, storeIfFits, takeSpec}
+use Rattle.store.proofs.StoringLaws.{peaks-alike, path-alike}
 use Rattle.store.specs.Needed.{SameNeeded, HoldsTrue, BringsTrue}
-
--- ---- what storing writes, from two sets of hashes
-
-module _ (put : Put) (x y : ℕ → ℕ → List ℕ) where
-  peaks-alike : (N k : ℕ) (l : List ℕ) → ((h : ℕ) → N / 2 ^ h % 2 ≡ 1 → x h (above (suc h) N) ≡ y h (above (suc h) N))
-      → putPeaks put x N k l ≡ putPeaks put y N k l
-  unfolding putPeaks
-  peaks-alike N zero l e = refl
-  peaks-alike N (suc h) l e = go (peakBit N h) refl (peaks-alike N h l e)
-    where
-      go : (b : Bool) → peakBit N h ≡ b → putPeaks put x N h l ≡ putPeaks put y N h l
-          → putIf put b (putPeaks put x N h l) (bin h (above (suc h) N)) (x h (above (suc h) N))
-          ≡ putIf put b (putPeaks put y N h l) (bin h (above (suc h) N)) (y h (above (suc h) N))
-      go true q ih = ap₂ (λ (m v : List ℕ). put m (bin h (above (suc h) N)) v) ih (e h (eqb-true (N / 2 ^ h % 2) 1 q))
-      go false q ih = ih
-
-  path-alike : (u v : ℕ → List ℕ) (c t : ℕ) (l : List ℕ) → ((h : ℕ) → h < t → u h ≡ v h)
-      → ((h : ℕ) → h < t → x h (other c h (above (suc h) c)) ≡ y h (other c h (above (suc h) c)))
-      → putPath put u x c t l ≡ putPath put v y c t l
-  unfolding putPath
-  path-alike u v c zero l p q = refl
-  path-alike u v c (suc h) l p q =
-      both _ _ _ _ _ _ _ _ (path-alike u v c h l (λ k i. p k (omega arith)) (λ k i. q k (omega arith))) (p h (omega arith)) (q h (omega arith))
-    where
-      both : (a b : ℕ) (l₁ l₂ u₁ u₂ v₁ v₂ : List ℕ) → l₁ ≡ l₂ → u₁ ≡ u₂ → v₁ ≡ v₂ → put (put l₁ a u₁) b v₁ ≡ put (put l₂ a u₂) b v₂
-      both a b l₁ l₂ u₁ u₂ v₁ v₂ e f g = cc
 
 -- ---- the call
 
@@ -91,10 +65,10 @@ module _ (w : Rooms) (L c : ℕ) (o p : Integrity) (A : SameNeeded L w c o p) wh
     put-same : (put : Put) (t : ℕ) (l : List ℕ) → t ≡ reached N (stateOf L w) c → putAll put peaksOpen N c t d o l ≡ putAll put peaksOpen N c t d p l
     unfolding putAll
     put-same put t l e =
-        path-alike put (gotBy o) (gotBy p) (λ h. climb sha256 (gotBy o) (sha256 d) c h (above h c)) (λ h. climb sha256 (gotBy p) (sha256 d) c h (above h c)) c t _
+        path-alike put (gotBy o) (gotBy p) (λ h. climb sha256 (gotBy o) (sha256 d) c h (above h c)) (λ h. climb sha256 (gotBy p) (sha256 d) c h (above h c)) c t
+        (go peaksOpen refl)
         (λ h u. truth.climb-agree sha256 (gotBy o) (gotBy p) (sha256 d) c h (λ k i. siblings-agree k (omega arith)))
         (λ h u. siblings-agree h (omega arith))
-        ∙ ap (putPath put (λ h. climb sha256 (gotBy p) (sha256 d) c h (above h c)) (gotBy p) c t) (go peaksOpen refl)
       where
         go : (b : Bool) → peaksOpen ≡ b → pick b l (putPeaks put (gotBy o) N (suc (levels N)) l) ≡ pick b l (putPeaks put (gotBy p) N (suc (levels N)) l)
         go true q = refl
@@ -115,7 +89,7 @@ module _ (w : Rooms) (L c : ℕ) (o p : Integrity) (A : SameNeeded L w c o p) wh
     rooms-same WrongClimb e = refl
 
     pub take-same : takeSpec w r L c d o ≡ takeSpec w r L c d p
-    unfolding takeSpec settleSpec
+    unfolding takeSpec storeIfFits
     take-same =
         ap (unless (earlier (roomsAnswer L w) (chunkAnswer L c (length d))) w)
         (ap₂ outOf (ap number verdicts-same)
@@ -135,7 +109,7 @@ chunk-long s c l =
 
 pub take-true : (w : Rooms) (s : List ℕ) (c : ℕ) (o : Integrity) → roomsAnswer (length s) w ≡ 0 → c < countOf (length s) → HoldsTrue w s → BringsTrue s c o
     → takeSpec w (rootOf s) (length s) c (chunkIn (length s) s c) o .answer ≡ 0
-unfolding takeSpec settleSpec HoldsTrue BringsTrue treeOf rootOf
+unfolding takeSpec storeIfFits HoldsTrue BringsTrue treeOf rootOf
 take-true w s c o e l T B =
     rw (e, chunk-right (length s) c _ l (chunk-long s c l))
     (ap number

@@ -6,7 +6,7 @@ use mathlib.Core.List.{List, map}
 use Prim.Native.Nat.{ℕ, zero, suc, _+_, _*_, _/_, _%_, _^_, _≤_, _<_}
 use native.Mathlib.Numerals.{add-one}
 use native.Mathlib.Omega.{arith}
-use borrow.Author.Tests.{eq-eqb, ne-eqb}
+use borrow.Author.Tests.{eq-eqb, ne-eqb, eqb-true}
 use lib.Dec.{eqb}
 use lib.Pow.{pow-pos}
 use lib.ListN.{length}
@@ -16,13 +16,13 @@ use Rattle.base.specs.Pick.{pick}
 use Rattle.tree.specs.Bin.{bin}
 use Rattle.tree.specs.Node.{other, above}
 use Rattle.tree.specs.Pack.{chunkSize, chunks, levels}
-use Rattle.tree.specs.Peaks.{peaks}
+use Rattle.tree.specs.Peaks.{peaks, peakBit}
 use Rattle.tree.specs.Tree.{climb}
 use Rattle.tree.specs.Verdicts.{got, every}
 use Rattle.verdict.specs.Room.{hashIn, putHash}
 use Rattle.verdict.specs.Integrity.{Integrity}
 use Rattle.verdict.specs.Rooms.{Rooms, roomsOf, trustedIn, gotBy}
-use Rattle.verdict.specs.Steps.{Climbed}
+use Rattle.store.specs.Steps.{Climbed}
 use Rattle.store.specs.Storing.{Put, mark, putIf, putPeaks, putPath, putAll, copied, stored, storeSpec}
 use Rattle.tree.proofs.NodeLaws.{above-in, above-right, above-inside}
 
@@ -100,14 +100,30 @@ open-no l e f g = rw (← e, f) g
 pub open-yes : (l x : List ℕ) {q b : Bool} → q ≡ b → q ≡ true → l ≡ pick b l x
 open-yes l x e f = rw (← e, f)
 
--- a path with the hashes that the scratch keeps is the climb's
-path-climbed : (put : Put) (got : ℕ → ℕ → List ℕ) (v : List ℕ) (c t : ℕ) (s : List ℕ) {l l′ : List ℕ} → l ≡ l′ → Climbed s got v c t
-    → putPath put (hashIn s) got c t l ≡ putPath put (λ h. climb sha256 got v c h (above h c)) got c t l′
-unfolding putPath Climbed
-path-climbed put got v c zero s e K = e
-path-climbed put got v c (suc h) s e K =
-    ap₂ (λ (x y : List ℕ). put (put x (bin h (above h c)) y) (bin h (other c h (above (suc h) c))) (got h (other c h (above (suc h) c))))
-    (path-climbed put got v c h s e (λ k l. K k (omega arith))) (K h (omega arith))
+-- what is written, from hashes that agree on it
+module _ (put : Put) (x y : ℕ → ℕ → List ℕ) where
+  pub peaks-alike : (N k : ℕ) (l : List ℕ) → ((h : ℕ) → N / 2 ^ h % 2 ≡ 1 → x h (above (suc h) N) ≡ y h (above (suc h) N))
+      → putPeaks put x N k l ≡ putPeaks put y N k l
+  unfolding putPeaks
+  peaks-alike N zero l e = refl
+  peaks-alike N (suc h) l e = go (peakBit N h) refl (peaks-alike N h l e)
+    where
+      go : (b : Bool) → peakBit N h ≡ b → putPeaks put x N h l ≡ putPeaks put y N h l
+          → putIf put b (putPeaks put x N h l) (bin h (above (suc h) N)) (x h (above (suc h) N))
+          ≡ putIf put b (putPeaks put y N h l) (bin h (above (suc h) N)) (y h (above (suc h) N))
+      go true q ih = ap₂ (λ (m v : List ℕ). put m (bin h (above (suc h) N)) v) ih (e h (eqb-true (N / 2 ^ h % 2) 1 q))
+      go false q ih = ih
+
+  pub path-alike : (u v : ℕ → List ℕ) (c t : ℕ) {l m : List ℕ} → l ≡ m → ((h : ℕ) → h < t → u h ≡ v h)
+      → ((h : ℕ) → h < t → x h (other c h (above (suc h) c)) ≡ y h (other c h (above (suc h) c)))
+      → putPath put u x c t l ≡ putPath put v y c t m
+  unfolding putPath
+  path-alike u v c zero e p q = e
+  path-alike u v c (suc h) e p q =
+      both _ _ _ _ _ _ _ _ (path-alike u v c h e (λ k i. p k (omega arith)) (λ k i. q k (omega arith))) (p h (omega arith)) (q h (omega arith))
+    where
+      both : (a b : ℕ) (l₁ l₂ u₁ u₂ v₁ v₂ : List ℕ) → l₁ ≡ l₂ → u₁ ≡ u₂ → v₁ ≡ v₂ → put (put l₁ a u₁) b v₁ ≡ put (put l₂ a u₂) b v₂
+      both a b l₁ l₂ u₁ u₂ v₁ v₂ e f g = cc
 
 -- four rooms equal, the rooms equal
 rooms-eq : {c c′ m m′ h h′ t t′ : List ℕ} → c ≡ c′ → m ≡ m′ → h ≡ h′ → t ≡ t′ → roomsOf c m h t ≡ roomsOf c′ m′ h′ t′
@@ -119,11 +135,16 @@ pub stored-is : (chunks map hashes trusted : List ℕ) (N c t : ℕ) (d : List �
     × (t1 ≡ pick (every (trustedIn trusted) (peaks N)) trusted (putPeaks mark (gotBy o) N (suc top) trusted))
     → (h2 ≡ putPath putHash (hashIn s) (gotBy o) c t h1) × (t2 ≡ putPath mark (hashIn s) (gotBy o) c t t1)
     → roomsOf chunks′ map′ h2 t2 ≡ stored (roomsOf chunks map hashes trusted) N c t d o
-unfolding stored putAll
+unfolding stored putAll Climbed
 stored-is chunks map hashes trusted N c t d o s e f g K p q =
-    rooms-eq e f
-    (q .0 ∙ path-climbed putHash (gotBy o) (sha256 d) c t s (p .0 ∙ ap (λ (x : ℕ). pick (every (trustedIn trusted) (peaks N)) hashes (putPeaks putHash (gotBy o) N (suc x) hashes)) g) K)
-    (q .1 ∙ path-climbed mark (gotBy o) (sha256 d) c t s (p .1 ∙ ap (λ (x : ℕ). pick (every (trustedIn trusted) (peaks N)) trusted (putPeaks mark (gotBy o) N (suc x) trusted)) g) K)
+    let b = every (trustedIn trusted) (peaks N) in
+    rooms-eq e f (q .0 ∙ climbed putHash hashes b (p .0) g) (q .1 ∙ climbed mark trusted b (p .1) g)
+  where
+    climbed : (put : Put) (l : List ℕ) (b : Bool) {m : List ℕ} {top : ℕ} → m ≡ pick b l (putPeaks put (gotBy o) N (suc top) l) → top ≡ levels N
+        → putPath put (hashIn s) (gotBy o) c t m
+        ≡ putPath put (λ h. climb sha256 (gotBy o) (sha256 d) c h (above h c)) (gotBy o) c t (pick b l (putPeaks put (gotBy o) N (suc (levels N)) l))
+    climbed put l b i j =
+        path-alike put (gotBy o) (gotBy o) (hashIn s) _ c t (i ∙ ap (λ (x : ℕ). pick b l (putPeaks put (gotBy o) N (suc x) l)) j) K (λ h u. refl)
 
 module _ (w : Rooms) (N c t : ℕ) (d : List ℕ) (o : Integrity) where
   pub store-new : {x : Rooms} {q : Bool} → q ≡ bitAt (w .map) c → q ≡ false → x ≡ stored w N c t d o → x ≡ storeSpec w N c t d o

@@ -25,7 +25,7 @@ use Rattle.verdict.specs.Verdict.{roomVerdict}
 use Rattle.store.specs.Storing.{mark, putAll, copied, stored, storeSpec, roomsBy}
 use Rattle.store.specs.Whole.{Roomy, SameSizes, Running}
 use Rattle.store.specs.Answers.{earlier, chunkAnswer}
-use Rattle.store.specs.Calls.{outOf, unless, roomsAnswer, settleSpec, takeSpec}
+use Rattle.store.specs.Calls.{outOf, unless, roomsAnswer, storeIfFits, takeSpec}
 use Rattle.verdict.proofs.RoomLaws.{length-putHash}
 use Rattle.verdict.proofs.VerdictLaws.{fits-within}
 use Rattle.store.proofs.StoringLaws.{length-path, length-open, length-mark}
@@ -44,7 +44,7 @@ module _ (w : Rooms) (r : List ℕ) (L c : ℕ) (d : List ℕ) (o : Integrity) w
   left = takeSpec w r L c d o .rooms
 
   pub take-refused-same : takeSpec w r L c d o .answer ≢ 0 → left ≡ w
-  unfolding takeSpec settleSpec
+  unfolding takeSpec storeIfFits
   take-refused-same = go (earlier (roomsAnswer L w) (chunkAnswer L c (length d))) told
     where
       go : (n : ℕ) (v : Verdict) → unless n w (outOf (number v) (roomsBy v w (λ t. storeSpec w (countOf L) c t d o))) .answer ≢ 0
@@ -63,11 +63,11 @@ module _ (w : Rooms) (r : List ℕ) (L c : ℕ) (d : List ℕ) (o : Integrity) w
     stored-so : left ≡ storeSpec w (countOf L) c height d o
 
   left-is : earlier (roomsAnswer L w) (chunkAnswer L c (length d)) ≡ 0 → left ≡ roomsBy told w (λ t. storeSpec w (countOf L) c t d o)
-  unfolding takeSpec settleSpec
+  unfolding takeSpec storeIfFits
   left-is e = ap (λ (n : ℕ). unless n w (outOf (number told) (roomsBy told w (λ t. storeSpec w (countOf L) c t d o))) .rooms) e
 
   taken : takeSpec w r L c d o .answer ≡ 0 → Taken
-  unfolding takeSpec settleSpec
+  unfolding takeSpec storeIfFits
   taken = go (earlier (roomsAnswer L w) (chunkAnswer L c (length d))) told refl refl
     where
       go : (n : ℕ) (v : Verdict) → earlier (roomsAnswer L w) (chunkAnswer L c (length d)) ≡ n → told ≡ v

@@ -51,11 +51,11 @@ foundRoot zero r = r
 foundRoot (suc n) r = filler
 
 -- Taking chunk c of N with the bytes d and the hashes that came with it, by the verdict: 9, 10, or it is stored.
-unfoldable pub settleSpec : Rooms → List ℕ → ℕ → ℕ → List ℕ → Integrity → Out
-settleSpec w r N c d o =
+unfoldable pub storeIfFits : Rooms → List ℕ → ℕ → ℕ → List ℕ → Integrity → Out
+storeIfFits w r N c d o =
     outOf (number (roomVerdict N r (w .hashes) (w .trusted) c d o))
     (roomsBy (roomVerdict N r (w .hashes) (w .trusted) c d o) w (λ t. storeSpec w N c t d o))
 
 -- Before that 12, 11, 7 and 8.
 unfoldable pub takeSpec : Rooms → List ℕ → ℕ → ℕ → List ℕ → Integrity → Out
-takeSpec w r L c d o = unless (earlier (roomsAnswer L w) (chunkAnswer L c (length d))) w (settleSpec w r (countOf L) c d o)
+takeSpec w r L c d o = unless (earlier (roomsAnswer L w) (chunkAnswer L c (length d))) w (storeIfFits w r (countOf L) c d o)

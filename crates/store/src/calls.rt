@@ -9,7 +9,7 @@ ghost use Rattle.verdict.specs.Integrity.{integrityOf};
 ghost use Rattle.verdict.specs.Rooms.{roomsOf, countOf};
 ghost use Rattle.verdict.specs.Verdict.{roomVerdict};
 ghost use Rattle.store.specs.Building.{rootOf};
-ghost use Rattle.store.specs.Calls.{outOf, startSpec, buildSpec, foundRoot, settleSpec, takeSpec};
+ghost use Rattle.store.specs.Calls.{outOf, startSpec, buildSpec, foundRoot, storeIfFits, takeSpec};
 use crate::answers;
 use crate::building;
 use crate::storing;
@@ -118,7 +118,7 @@ pub fn verdict(
 }
 
 // The verdict's number, and the chunk stored where it fits.
-fn settle(
+fn store_if_fits(
     chunks: &mut [u8],
     map: &mut [u32],
     hashes: &mut [u32],
@@ -131,7 +131,7 @@ fn settle(
     bytes: &[u8],
 ) -> u32
     requires { ⌜ (c < n) × (chunkSize * c + length (now chunk) ≤ length (now chunks)) ⌝ }
-    ensures { λ r. ⌜ outOf r (roomsOf (now (chunks .exit)) (now (map .exit)) (now (hashes .exit)) (now (trusted .exit))) ≡ settleSpec (roomsOf (now (chunks .entry)) (now (map .entry)) (now (hashes .entry)) (now (trusted .entry))) (bytesOf (root .words)) n c (now (chunk .entry)) (integrityOf (now (entries .entry)) (now (bytes .entry))) ⌝ }
+    ensures { λ r. ⌜ outOf r (roomsOf (now (chunks .exit)) (now (map .exit)) (now (hashes .exit)) (now (trusted .exit))) ≡ storeIfFits (roomsOf (now (chunks .entry)) (now (map .entry)) (now (hashes .entry)) (now (trusted .entry))) (bytesOf (root .words)) n c (now (chunk .entry)) (integrityOf (now (entries .entry)) (now (bytes .entry))) ⌝ }
 {
     let mut scratch = [0u32; verdicts::SCRATCH];
     let v = verdicts::judge(
@@ -196,7 +196,7 @@ pub fn take(
         return refused;
     }
     let n = tree::pack::chunk_count(length);
-    settle(
+    store_if_fits(
         chunks,
         map,
         hashes,

@@ -13,13 +13,14 @@ ghost use Rattle.tree.specs.Verdicts.{every};
 ghost use Rattle.verdict.specs.Room.{hashIn, putHash};
 ghost use Rattle.verdict.specs.Integrity.{integrityOf};
 ghost use Rattle.verdict.specs.Rooms.{roomsOf, trustedIn, gotBy};
-ghost use Rattle.verdict.specs.Steps.{Climbed};
+ghost use Rattle.store.specs.Steps.{Climbed};
 ghost use Rattle.store.specs.Storing.{mark, putIf, putPeaks, putPath, copied, stored, storeSpec};
 use hash::value::HashValue;
 use tree::pack::CHUNK_SIZE;
 use verdict::integrity;
 use verdict::peaks;
 use verdict::room;
+use verdict::verdicts::SCRATCH;
 
 // The bytes of src into dst from a place on.
 pub fn copy_in(dst: &mut [u8], at: usize, src: &[u8])
@@ -114,7 +115,7 @@ fn put_pair(
 fn put_path(
     hashes: &mut [u32],
     trusted: &mut [u32],
-    scratch: &[u32],
+    scratch: &[u32; SCRATCH],
     entries: &[u64],
     bytes: &[u8],
     c: u32,
@@ -140,7 +141,7 @@ fn put(
     n: u32,
     c: u32,
     t: u32,
-    scratch: &[u32],
+    scratch: &[u32; SCRATCH],
     chunk: &[u8],
     entries: &[u64],
     bytes: &[u8],
@@ -166,7 +167,7 @@ pub fn store(
     n: u32,
     c: u32,
     t: u32,
-    scratch: &[u32],
+    scratch: &[u32; SCRATCH],
     chunk: &[u8],
     entries: &[u64],
     bytes: &[u8],

@@ -1,6 +1,6 @@
 -- The scratch that keeps a climb, filled height by height. Assumes nothing.
-use mathlib.Core.Path.{_≡_, ap, _∙_}
-use mathlib.Core.Logic.{_⊎_, inl, inr, _≢_}
+use mathlib.Core.Path.{_≡_, refl, sym, ap, ap₂, _∙_}
+use mathlib.Core.Logic.{_⊎_, inl, inr}
 use mathlib.Core.List.{List}
 use Prim.Native.Nat.{ℕ, zero, suc, _*_, _≤_, _<_}
 use native.Mathlib.Omega.{arith}
@@ -8,13 +8,15 @@ use lib.ListN.{length}
 use Rattle.hash.proofs.Promise.{sha256}
 use Rattle.tree.specs.Node.{above}
 use Rattle.tree.specs.Tree.{climb}
-use Rattle.tree.specs.Verdicts.{number}
 use Rattle.tree.specs.declared.verdict.Verdict.{Verdict}
 use Rattle.tree.specs.declared.verdict.Verdict.the-variants.{Fits}
 use Rattle.verdict.specs.Room.{Digest, hashIn, putHash}
-use Rattle.verdict.specs.Steps.{Climbed}
+use Rattle.verdict.specs.Integrity.{Integrity}
+use Rattle.verdict.specs.Rooms.{gotBy}
+use Rattle.verdict.specs.Verdict.{roomVerdict, roomReached, kept, Judged, judgedOf, scratchBy, judgeSpec}
 use Rattle.tree.proofs.NodeLaws.{split}
-use Rattle.verdict.proofs.RoomLaws.{digest-hash, hash-same, hash-other}
+use Rattle.verdict.proofs.RoomLaws.{digest-hash, length-putHash, hash-same, hash-other}
+use Rattle.verdict.proofs.VerdictLaws.{fits-reached}
 
 module _ (got : ℕ → ℕ → List ℕ) (v : List ℕ) (c : ℕ) where
   pub digest-climb : Digest v → (h : ℕ) → Digest (climb sha256 got v c h (above h c))
@@ -22,26 +24,49 @@ module _ (got : ℕ → ℕ → List ℕ) (v : List ℕ) (c : ℕ) where
   digest-climb D zero = D
   digest-climb D (suc h) = digest-hash _
 
-  pub climbed-none : (s : List ℕ) → Climbed s got v c 0
-  unfolding Climbed
-  climbed-none s h l = absurd (omega arith)
+  -- turn by turn
+  pub kept-none : (s : List ℕ) → s ≡ kept s got v c 0
+  unfolding kept
+  kept-none s = refl
 
-  pub climbed-more : (s s′ : List ℕ) (t : ℕ) (x : List ℕ) → Climbed s got v c t → 8 * suc t ≤ length s → Digest v
-      → x ≡ climb sha256 got v c t (above t c) → s′ ≡ putHash s t x → Climbed s′ got v c (suc t)
-  unfolding Climbed
-  climbed-more s s′ t x K u D e f h l = ap (λ (y : List ℕ). hashIn y h) f ∙ go (split t h)
+  pub kept-more : (s : List ℕ) {s′ s″ : List ℕ} (t : ℕ) {x : List ℕ} → s′ ≡ kept s got v c t → x ≡ climb sha256 got v c t (above t c)
+      → s″ ≡ putHash s′ t x → s″ ≡ kept s got v c (suc t)
+  unfolding kept
+  kept-more s t e f g = g ∙ ap₂ (λ (y z : List ℕ). putHash y t z) e f
+
+  -- what is kept
+  kept-length : (s : List ℕ) (t : ℕ) → length (kept s got v c t) ≡ length s
+  unfolding kept
+  kept-length s zero = refl
+  kept-length s (suc t) = length-putHash (kept s got v c t) t _ ∙ kept-length s t
+
+  pub kept-at : (s : List ℕ) → Digest v → (t : ℕ) → 8 * t ≤ length s → (h : ℕ) → h < t → hashIn (kept s got v c t) h ≡ climb sha256 got v c h (above h c)
+  unfolding kept
+  kept-at s D zero u h l = absurd (omega arith)
+  kept-at s D (suc t) u h l = go (split t h) (kept-at s D t (omega arith) h)
     where
-      go : (t ≤ h) ⊎ (h < t) → hashIn (putHash s t x) h ≡ climb sha256 got v c h (above h c)
-      go (inl m) =
+      go : (t ≤ h) ⊎ (h < t) → (h < t → hashIn (kept s got v c t) h ≡ climb sha256 got v c h (above h c))
+          → hashIn (putHash (kept s got v c t) t (climb sha256 got v c t (above t c))) h ≡ climb sha256 got v c h (above h c)
+      go (inl m) ih =
           let q : h ≡ t = omega arith in
-          rw (q, e) (hash-same s t (climb sha256 got v c t (above t c)) (omega arith) (digest-climb D t))
-      go (inr m) = hash-other s t h x (λ z. omega arith) ∙ K h m
+          rw q (hash-same (kept s got v c t) t (climb sha256 got v c t (above t c)) (omega (arith, kept-length s t)) (digest-climb D t))
+      go (inr m) ih = hash-other (kept s got v c t) t h _ (λ z. omega arith) ∙ ih m
 
 -- ---- by the verdict
 
-pub climbed-fits : (s : List ℕ) (got : ℕ → ℕ → List ℕ) (c t : ℕ) {v v′ : List ℕ} → v ≡ v′ → Climbed s got v c t
-    → (t′ : ℕ) → Fits t ≡ Fits t′ → Climbed s got v′ c t′
-climbed-fits s got c t e K t′ f = let g : t ≡ t′ = cc in rw (e, g) at K
+module _ (s : List ℕ) (N : ℕ) (r hashes trusted : List ℕ) (c : ℕ) (d : List ℕ) (o : Integrity) where
+  module _ {v : Verdict} {s′ : List ℕ} (j : judgedOf v s′ ≡ judgeSpec s N r hashes trusted c d o) where
+    pub judged-verdict : v ≡ roomVerdict N r hashes trusted c d o
+    unfolding judgeSpec
+    judged-verdict = ap (λ (x : Judged). x .told) j
 
-pub climbed-not : (P : ℕ → Type 0) (v : Verdict) → number v ≢ 0 → (t : ℕ) → v ≡ Fits t → P t
-climbed-not P v d t e = absurd (d (ap number e))
+    -- where the chunk fits, the scratch keeps its climb
+    pub judged-climb : (t : ℕ) → v ≡ Fits t → 8 * t ≤ length s → (h : ℕ) → h < t → hashIn s′ h ≡ climb sha256 (gotBy o) (sha256 d) c h (above h c)
+    unfolding judgeSpec
+    judged-climb t e u h l =
+        let f : roomVerdict N r hashes trusted c d o ≡ Fits t = sym judged-verdict ∙ e in
+        let g : t ≡ roomReached N trusted c = fits-reached N r hashes trusted c d o t f in
+        ap (λ (x : Judged). hashIn (x .scratch) h) j
+        ∙ ap (λ (x : Verdict). hashIn (scratchBy x s (kept s (gotBy o) (sha256 d) c (roomReached N trusted c))) h) f
+        ∙ ap (λ (x : ℕ). hashIn (kept s (gotBy o) (sha256 d) c x) h) (sym g)
+        ∙ kept-at (gotBy o) (sha256 d) c s (digest-hash d) t u h l

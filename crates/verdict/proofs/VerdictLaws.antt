@@ -1,5 +1,5 @@
 -- The verdict in the rooms' words: what the code computes is the theory's verdict on the rooms. Assumes nothing.
-use mathlib.Core.Path.{_≡_, refl, sym, ap, _∙_}
+use mathlib.Core.Path.{_≡_, refl, sym, ap, ap₂, _∙_}
 use mathlib.Core.Bool.{Bool, true, false}
 use mathlib.Core.List.{List, [], map}
 use Prim.Native.Nat.{ℕ, suc, _+_, _^_, _≤_, _<_}
@@ -12,12 +12,13 @@ use Rattle.tree.specs.Peaks.{peaks, peakOf, siblings}
 use Rattle.tree.specs.Tree.{given, combined, climb}
 use Rattle.tree.specs.State.{adopted}
 use Rattle.tree.specs.Verdicts.{got, every, reachFrom, peaksTrusted, reached, needed, counted, complete, rooted, met, verdict}
+use Rattle.tree.specs.declared.verdict.Verdict.{Verdict}
 use Rattle.tree.specs.declared.verdict.Verdict.the-variants.{Fits, Missing, WrongPeaks, WrongClimb}
 use Rattle.verdict.specs.Room.{filler}
 use Rattle.verdict.specs.Integrity.{Integrity, cameFrom}
 use Rattle.verdict.specs.Rooms.{roomsOf, stateOf, trustedIn, cameIn, gotBy}
 use Rattle.verdict.specs.Steps.{countedBit, countedHash}
-use Rattle.verdict.specs.Verdict.{roomVerdict}
+use Rattle.verdict.specs.Verdict.{roomVerdict, roomReached, kept, judgedOf, scratchBy, judgeSpec}
 use Rattle.tree.proofs.NodeLaws.{whole-below, above-aligned}
 use Rattle.tree.proofs.PackLaws.{high-bound}
 use Rattle.tree.proofs.EachLaws.{every-unless}
@@ -119,42 +120,60 @@ pub verdict-sees : (N : ℕ) (r hashes trusted : List ℕ) (c : ℕ) (d : List �
 unfolding roomVerdict
 verdict-sees N r hashes trusted c d o L bytes map = in-rooms N r hashes trusted c d o 0 [] [] ∙ sym (in-rooms N r hashes trusted c d o L bytes map)
 
--- a chunk that fits hangs below a node of the tree
+-- a chunk that fits hangs below the node reached, a node of the tree
+pub fits-reached : (N : ℕ) (r hashes trusted : List ℕ) (c : ℕ) (d : List ℕ) (o : Integrity) (t : ℕ) → roomVerdict N r hashes trusted c d o ≡ Fits t → t ≡ roomReached N trusted c
+unfolding roomReached reached peaksTrusted
+fits-reached N r hashes trusted c d o t e =
+    fits-means sha256 filler N r (stateOf 0 (roomsOf [] [] hashes trusted)) c d (cameFrom o) t (sym (verdict-sees N r hashes trusted c d o 0 [] []) ∙ e) .reached-is
+
 pub fits-within : (N : ℕ) (r hashes trusted : List ℕ) (c : ℕ) (d : List ℕ) (o : Integrity) (t : ℕ) → c < N → roomVerdict N r hashes trusted c d o ≡ Fits t → t ≤ levels N
-unfolding reached peaksTrusted
+unfolding roomReached reached peaksTrusted
 fits-within N r hashes trusted c d o t l e =
-    let f = fits-means sha256 filler N r (stateOf 0 (roomsOf [] [] hashes trusted)) c d (cameFrom o) t (sym (verdict-sees N r hashes trusted c d o 0 [] []) ∙ e) in
-    reach-in N trusted c l (every (trustedIn trusted) (peaks N)) refl t (f .reached-is) .0
+    reach-in N trusted c l (every (trustedIn trusted) (peaks N)) refl t (fits-reached N r hashes trusted c d o t e) .0
 
 -- ---- test by test, as the code has them
 
-module _ (N : ℕ) (r hashes trusted : List ℕ) (c : ℕ) (d : List ℕ) (o : Integrity) (b : Bool) (t top : ℕ) (te : top ≡ levels N)
+-- the verdict, and the scratch that it leaves
+judge-by : (s : List ℕ) (N : ℕ) (r hashes trusted : List ℕ) (c : ℕ) (d : List ℕ) (o : Integrity) (v : Verdict) {s′ : List ℕ} → v ≡ roomVerdict N r hashes trusted c d o
+    → s′ ≡ scratchBy v s (kept s (gotBy o) (sha256 d) c (roomReached N trusted c)) → judgedOf v s′ ≡ judgeSpec s N r hashes trusted c d o
+unfolding judgeSpec
+judge-by s N r hashes trusted c d o v e f =
+    ap₂ judgedOf e (f ∙ ap (λ (x : Verdict). scratchBy x s (kept s (gotBy o) (sha256 d) c (roomReached N trusted c))) e)
+
+module _ (s : List ℕ) (N : ℕ) (r hashes trusted : List ℕ) (c : ℕ) (d : List ℕ) (o : Integrity) (b : Bool) (t top : ℕ) (te : top ≡ levels N)
     (bo : b ≡ every (trustedIn trusted) (peaks N)) (tr : t ≡ reachFrom (λ h. countedBit b N trusted h (above h c)) (suc top) 0)
     (u : Bool) (uo : u ≡ pick (pick b true (every (cameIn o) (peaks N))) (every (cameIn o) (siblings c t (above t c))) false) where
   at-levels : t ≡ reachFrom (λ h. countedBit b N trusted h (above h c)) (suc (levels N)) 0
   at-levels = tr ∙ ap (λ (x : ℕ). reachFrom (λ h. countedBit b N trusted h (above h c)) (suc x) 0) te
 
-  pub judge-missing : u ≡ false → Missing ≡ roomVerdict N r hashes trusted c d o
+  room-reached : t ≡ roomReached N trusted c
+  unfolding roomReached
+  room-reached = is-reached 0 [] [] N r [] trusted c d o b t bo at-levels
+
+  pub judge-missing : u ≡ false → judgedOf Missing s ≡ judgeSpec s N r hashes trusted c d o
   unfolding roomVerdict
-  judge-missing e = at-missing 0 [] [] N r hashes trusted c d o b t bo at-levels u uo e
+  judge-missing e = judge-by s N r hashes trusted c d o Missing (at-missing 0 [] [] N r hashes trusted c d o b t bo at-levels u uo e) refl
 
   module _ (v : Bool) (vo : v ≡ pick b true (same (given sha256 filler N (gotBy o) top 0) r)) (ut : u ≡ true) where
     roots : v ≡ pick b true (same (given sha256 filler N (gotBy o) (levels N) 0) r)
     roots = vo ∙ ap (λ (x : ℕ). pick b true (same (given sha256 filler N (gotBy o) x 0) r)) te
 
-    pub judge-peaks : v ≡ false → WrongPeaks ≡ roomVerdict N r hashes trusted c d o
+    pub judge-peaks : v ≡ false → judgedOf WrongPeaks s ≡ judgeSpec s N r hashes trusted c d o
     unfolding roomVerdict
-    judge-peaks e = at-peaks 0 [] [] N r hashes trusted c d o b t bo at-levels u uo v roots ut e
+    judge-peaks e = judge-by s N r hashes trusted c d o WrongPeaks (at-peaks 0 [] [] N r hashes trusted c d o b t bo at-levels u uo v roots ut e) refl
 
-    module _ (x : List ℕ) (xe : x ≡ sha256 d) (w : Bool)
-        (wo : w ≡ same (climb sha256 (gotBy o) x c t (above t c)) (countedHash b N hashes o t (above t c))) (vt : v ≡ true) where
+    module _ (x : List ℕ) (xe : x ≡ sha256 d) (w : Bool) {s′ : List ℕ}
+        (wo : (w ≡ same (climb sha256 (gotBy o) x c t (above t c)) (countedHash b N hashes o t (above t c))) × (s′ ≡ kept s (gotBy o) x c t)) (vt : v ≡ true) where
       meets : w ≡ same (climb sha256 (gotBy o) (sha256 d) c t (above t c)) (countedHash b N hashes o t (above t c))
-      meets = wo ∙ ap (λ (y : List ℕ). same (climb sha256 (gotBy o) y c t (above t c)) (countedHash b N hashes o t (above t c))) xe
+      meets = wo .0 ∙ ap (λ (y : List ℕ). same (climb sha256 (gotBy o) y c t (above t c)) (countedHash b N hashes o t (above t c))) xe
 
-      pub judge-climb : w ≡ false → WrongClimb ≡ roomVerdict N r hashes trusted c d o
-      unfolding roomVerdict
-      judge-climb e = at-climb 0 [] [] N r hashes trusted c d o b t bo at-levels u uo v roots ut w meets vt e
+      keeps : s′ ≡ kept s (gotBy o) (sha256 d) c (roomReached N trusted c)
+      keeps = wo .1 ∙ ap₂ (λ (y : List ℕ) (h : ℕ). kept s (gotBy o) y c h) xe room-reached
 
-      pub judge-fits : w ≡ true → Fits t ≡ roomVerdict N r hashes trusted c d o
+      pub judge-climb : w ≡ false → judgedOf WrongClimb s′ ≡ judgeSpec s N r hashes trusted c d o
       unfolding roomVerdict
-      judge-fits e = at-fits 0 [] [] N r hashes trusted c d o b t bo at-levels u uo v roots ut w meets vt e
+      judge-climb e = judge-by s N r hashes trusted c d o WrongClimb (at-climb 0 [] [] N r hashes trusted c d o b t bo at-levels u uo v roots ut w meets vt e) keeps
+
+      pub judge-fits : w ≡ true → judgedOf (Fits t) s′ ≡ judgeSpec s N r hashes trusted c d o
+      unfolding roomVerdict
+      judge-fits e = judge-by s N r hashes trusted c d o (Fits t) (at-fits 0 [] [] N r hashes trusted c d o b t bo at-levels u uo v roots ut w meets vt e) keeps

@@ -1,8 +1,7 @@
 // Whether a chunk that came may be stored: the climb to the first trusted node, and the verdict.
 ghost use mathlib.Core.Path.{_≡_};
-ghost use Prim.Native.Nat.{ℕ, suc, _≤_, _<_, _^_};
+ghost use Prim.Native.Nat.{suc, _≤_, _<_, _^_};
 ghost use mathlib.Core.Bool.{true, false};
-ghost use lib.ListN.{length};
 ghost use Rattle.hash.proofs.Promise.{bytesOf, sha256, same};
 ghost use Rattle.base.specs.Pick.{pick};
 ghost use Rattle.tree.specs.Node.{above, other};
@@ -14,8 +13,8 @@ ghost use Rattle.tree.specs.Verdicts.{every, reachFrom};
 ghost use Rattle.verdict.specs.Room.{filler};
 ghost use Rattle.verdict.specs.Integrity.{integrityOf};
 ghost use Rattle.verdict.specs.Rooms.{cameIn, gotBy};
-ghost use Rattle.verdict.specs.Steps.{countedBit, countedHash, scratchWords, Climbed};
-ghost use Rattle.verdict.specs.Verdict.{roomVerdict};
+ghost use Rattle.verdict.specs.Steps.{countedBit, countedHash};
+ghost use Rattle.verdict.specs.Verdict.{kept, judgedOf, judgeSpec};
 use crate::integrity;
 use crate::peaks;
 use crate::room;
@@ -101,15 +100,15 @@ fn step(entries: &[u64], bytes: &[u8], c: u32, h: u32, acc: HashValue) -> HashVa
 
 // The climb from chunk c, whose leaf has the hash v, to the node of height t above it; the scratch keeps the hashes below.
 fn climb(
-    scratch: &mut [u32],
+    scratch: &mut [u32; SCRATCH],
     entries: &[u64],
     bytes: &[u8],
     c: u32,
     v: HashValue,
     t: u32,
 ) -> HashValue
-    requires { ⌜ (t ≤ 33) × (scratchWords ≤ length (now scratch)) ⌝ }
-    ensures { λ r. ⌜ (bytesOf (r .words) ≡ climb sha256 (gotBy (integrityOf (now (entries .entry)) (now (bytes .entry)))) (bytesOf (v .words)) c t (above t c)) × Climbed (now (scratch .exit)) (gotBy (integrityOf (now (entries .entry)) (now (bytes .entry)))) (bytesOf (v .words)) c t ⌝ }
+    requires { ⌜ t ≤ 33 ⌝ }
+    ensures { λ r. ⌜ (bytesOf (r .words) ≡ climb sha256 (gotBy (integrityOf (now (entries .entry)) (now (bytes .entry)))) (bytesOf (v .words)) c t (above t c)) × (now (scratch .exit) ≡ kept (now (scratch .entry)) (gotBy (integrityOf (now (entries .entry)) (now (bytes .entry)))) (bytesOf (v .words)) c t) ⌝ }
 {
     let mut acc = v;
     let mut h = 0u32;
@@ -180,7 +179,7 @@ fn rooted(
 
 // Whether the climb from the leaf's hash gives the hash that counts for the node of height t; the scratch keeps the climb.
 fn met(
-    scratch: &mut [u32],
+    scratch: &mut [u32; SCRATCH],
     hashes: &[u32],
     entries: &[u64],
     bytes: &[u8],
@@ -190,18 +189,18 @@ fn met(
     t: u32,
     leaf: HashValue,
 ) -> bool
-    requires { ⌜ (t ≤ 33) × (scratchWords ≤ length (now scratch)) ⌝ }
-    ensures { λ r. ⌜ (r ≡ same (climb sha256 (gotBy (integrityOf (now (entries .entry)) (now (bytes .entry)))) (bytesOf (leaf .words)) c t (above t c)) (countedHash opened n (now (hashes .entry)) (integrityOf (now (entries .entry)) (now (bytes .entry))) t (above t c))) × Climbed (now (scratch .exit)) (gotBy (integrityOf (now (entries .entry)) (now (bytes .entry)))) (bytesOf (leaf .words)) c t ⌝ }
+    requires { ⌜ t ≤ 33 ⌝ }
+    ensures { λ r. ⌜ (r ≡ same (climb sha256 (gotBy (integrityOf (now (entries .entry)) (now (bytes .entry)))) (bytesOf (leaf .words)) c t (above t c)) (countedHash opened n (now (hashes .entry)) (integrityOf (now (entries .entry)) (now (bytes .entry))) t (above t c))) × (now (scratch .exit) ≡ kept (now (scratch .entry)) (gotBy (integrityOf (now (entries .entry)) (now (bytes .entry)))) (bytesOf (leaf .words)) c t) ⌝ }
 {
     let x = climb(scratch, entries, bytes, c, leaf, t);
     let y = target(hashes, entries, bytes, opened, n, c, t);
     value::same(x, y)
 }
 
-// What becomes of chunk c of n that came with these hashes. The chunk is hashed once, and only where that decides; where it
-// fits, the scratch keeps the climb.
+// What becomes of chunk c of n that came with these hashes. The chunk is hashed once, and only where that decides; the
+// scratch then keeps the climb.
 pub fn judge(
-    scratch: &mut [u32],
+    scratch: &mut [u32; SCRATCH],
     hashes: &[u32],
     trusted: &[u32],
     root: HashValue,
@@ -211,8 +210,7 @@ pub fn judge(
     entries: &[u64],
     bytes: &[u8],
 ) -> Verdict
-    requires { ⌜ scratchWords ≤ length (now scratch) ⌝ }
-    ensures { λ r. ⌜ (r ≡ roomVerdict n (bytesOf (root .words)) (now (hashes .entry)) (now (trusted .entry)) c (now (chunk .entry)) (integrityOf (now (entries .entry)) (now (bytes .entry)))) × ((t : ℕ) → r ≡ Verdict.Fits t → Climbed (now (scratch .exit)) (gotBy (integrityOf (now (entries .entry)) (now (bytes .entry)))) (sha256 (now (chunk .entry))) c t) ⌝ }
+    ensures { λ r. ⌜ judgedOf r (now (scratch .exit)) ≡ judgeSpec (now (scratch .entry)) n (bytesOf (root .words)) (now (hashes .entry)) (now (trusted .entry)) c (now (chunk .entry)) (integrityOf (now (entries .entry)) (now (bytes .entry))) ⌝ }
 {
     let top = tree::pack::levels(n);
     let opened = peaks::all_trusted(trusted, n, top);

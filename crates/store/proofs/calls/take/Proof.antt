@@ -2,7 +2,7 @@ use native.Mathlib.Omega.{arith}
 use Rattle.hash.proofs.Promise.{bytesOf}
 use Rattle.verdict.specs.Integrity.{integrityOf}
 use Rattle.verdict.specs.Rooms.{roomsOf}
-use Rattle.store.proofs.CallLaws.{take-refused, take-settled, take-facts}
+use Rattle.store.proofs.CallLaws.{take-refused, take-judged, take-facts}
 use borrow.Author.Needs.{needs}
 use Rattle.store.proofs.calls.take.Statement.{statement}
 use Rattle.store.proofs.calls.take.Tie as tie
@@ -17,8 +17,8 @@ returns c = let a = c .before .before .before .before .before .before .before .b
 chunk-count-requires : tie.Need-chunk-count-requires
 chunk-count-requires c κs = search needs
 
-settle-requires : tie.Need-settle-requires
-settle-requires c κs = let a = c .before .before .before .before .before .before .before .before .before .before .before .before .before .before .before .args in
+store-if-fits-requires : tie.Need-store-if-fits-requires
+store-if-fits-requires c κs = let a = c .before .before .before .before .before .before .before .before .before .before .before .before .before .before .before .args in
     take-facts (roomsOf (a .chunks .now) (a .map .now) (a .hashes .now) (a .trusted .now)) (bytesOf (a .order .root .words)) (a .order .length) (a .c) (a .chunk .now) (integrityOf (a .entries .now) (a .bytes .now)) (c .before .before .before .before .before .before .take-answer .result) (c .before .before .before .before .before .before .take-answer .ensures) (omega arith) (c .before .before .before .before .chunk-count .result) (c .before .before .before .before .chunk-count .ensures)
 
 same-length : tie.Need-same-length
@@ -35,7 +35,7 @@ same-length-4 c = search needs
 
 returns-2 : tie.Need-returns-2
 returns-2 c = let a = c .before .before .before .before .before .before .before .before .before .before .before .before .before .before .before .before .before .before .before .before .before .before .before .before .args in
-    take-settled (roomsOf (a .chunks .now) (a .map .now) (a .hashes .now) (a .trusted .now)) (bytesOf (a .order .root .words)) (a .order .length) (a .c) (a .chunk .now) (integrityOf (a .entries .now) (a .bytes .now)) (c .before .before .before .before .before .before .before .before .before .before .before .before .before .before .before .take-answer .result) (c .before .before .before .before .before .before .before .before .before .before .before .before .before .before .before .take-answer .ensures) (omega arith) (c .before .before .before .before .before .before .before .before .before .before .before .before .before .chunk-count .result) (c .before .before .before .before .before .before .before .before .before .before .before .before .before .chunk-count .ensures) (c .before .before .before .before .before .before .before .before .settle .ensures)
+    take-judged (roomsOf (a .chunks .now) (a .map .now) (a .hashes .now) (a .trusted .now)) (bytesOf (a .order .root .words)) (a .order .length) (a .c) (a .chunk .now) (integrityOf (a .entries .now) (a .bytes .now)) (c .before .before .before .before .before .before .before .before .before .before .before .before .before .before .before .take-answer .result) (c .before .before .before .before .before .before .before .before .before .before .before .before .before .before .before .take-answer .ensures) (omega arith) (c .before .before .before .before .before .before .before .before .before .before .before .before .before .chunk-count .result) (c .before .before .before .before .before .before .before .before .before .before .before .before .before .chunk-count .ensures) (c .before .before .before .before .before .before .before .before .store-if-fits .ensures)
 
 pub take-spec : {M : Type 1} → statement M
 take-spec =
@@ -44,7 +44,7 @@ take-spec =
     take-answer-requires
     returns
     chunk-count-requires
-    settle-requires
+    store-if-fits-requires
     same-length
     same-length-2
     same-length-3

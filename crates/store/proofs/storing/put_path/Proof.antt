@@ -19,7 +19,7 @@ abbrev μ-loop : tie.MeasureT-loop
 μ-loop hashes₀ trusted₀ scratch entries bytes c t h₀ hashes trusted h = t - h
 
 loop-holds : tie.Need-loop-holds Inv-loop μ-loop
-loop-holds c = let a = c .before .before .before .before .before .args in
+loop-holds c = let a = c .before .before .before .before .args in
     let o = integrityOf (a .entries .now) (a .bytes .now) in
     (omega arith, path-none putHash (hashIn (a .scratch .now)) (gotBy o) (a .c) (a .hashes .now), path-none mark (hashIn (a .scratch .now)) (gotBy o) (a .c) (a .trusted .now))
 
@@ -41,7 +41,7 @@ loop-less c = omega arith
 loop-again : tie.Need-loop-again Inv-loop μ-loop
 loop-again c = let a = c .before .before .before .before .before .before .before .before .before .before .before .before .before .before .before .args in
     let o = integrityOf (a .entries .now) (a .bytes .now) in
-    let l = c .before .before .before .before .before .before .before .before .before .loop in
+    let l = c .before .before .before .before .before .before .before .before .before .before .loop in
     let e = c .before .before .before .before .put-pair .ensures in
     let g = c .before .before .before .before .before .before .before .read .ensures in (
       omega arith,
@@ -50,18 +50,18 @@ loop-again c = let a = c .before .before .before .before .before .before .before
     )
 
 same-length : tie.Need-same-length Inv-loop μ-loop
-same-length c = let a = c .before .before .before .before .before .before .before .args in
+same-length c = let a = c .before .before .before .before .before .before .args in
     let l = c .before .loop in
     ap length (l .inv .1) ∙ length-path putHash length-putHash (hashIn (a .scratch .now)) (gotBy (integrityOf (a .entries .now) (a .bytes .now))) (a .c) (l .h) (a .hashes .now)
 
 same-length-2 : tie.Need-same-length-2 Inv-loop μ-loop
-same-length-2 c = let a = c .before .before .before .before .before .before .before .args in
+same-length-2 c = let a = c .before .before .before .before .before .before .args in
     let l = c .before .loop in
     ap length (l .inv .2) ∙ length-path mark length-mark (hashIn (a .scratch .now)) (gotBy (integrityOf (a .entries .now) (a .bytes .now))) (a .c) (l .h) (a .trusted .now)
 
 returns : tie.Need-returns Inv-loop μ-loop
 returns c = let l = c .before .loop in
-    let e : l .h ≡ c .before .before .before .before .before .before .before .args .t = omega arith in
+    let e : l .h ≡ c .before .before .before .before .before .before .args .t = omega arith in
     rw (← e) (l .inv .1, l .inv .2)
 
 pub put-path-spec : {M : Type 1} → statement M

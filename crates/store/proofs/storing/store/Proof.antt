@@ -25,7 +25,7 @@ same-length-4 : tie.Need-same-length-4
 same-length-4 c = search needs
 
 returns : tie.Need-returns
-returns c = let a = c .before .before .before .before .before .before .before .before .before .before .before .before .before .before .before .before .before .before .before .before .before .before .before .before .args in
+returns c = let a = c .before .before .before .before .before .before .before .before .before .before .before .before .before .before .before .before .before .before .before .before .before .before .before .args in
     let o = integrityOf (a .entries .now) (a .bytes .now) in
     store-new (roomsOf (a .chunks .now) (a .map .now) (a .hashes .now) (a .trusted .now)) (a .n) (a .c) (a .t) (a .chunk .now) o (c .before .before .before .before .before .before .before .before .before .before .before .before .before .before .test .ensures) (not-true _ (c .before .before .before .before .before .before .before .before .before .before .before .before .before .if1 .taken)) (c .before .before .before .before .before .before .before .before .put .ensures)
 
@@ -33,7 +33,7 @@ same-length-5 : tie.Need-same-length-5
 same-length-5 c = search needs
 
 returns-2 : tie.Need-returns-2
-returns-2 c = let a = c .before .before .before .before .before .before .before .before .before .before .before .args in
+returns-2 c = let a = c .before .before .before .before .before .before .before .before .before .before .args in
     let o = integrityOf (a .entries .now) (a .bytes .now) in
     store-held (roomsOf (a .chunks .now) (a .map .now) (a .hashes .now) (a .trusted .now)) (a .n) (a .c) (a .t) (a .chunk .now) o (c .before .test .ensures) (not-false _ (c .if1 .left))
 

@@ -1,11 +1,7 @@
 use borrow.Author.Tests.{not-true, not-false}
-use native.Mathlib.Omega.{arith}
 use Rattle.hash.proofs.Promise.{bytesOf}
-use Rattle.tree.specs.declared.verdict.Verdict.the-variants.{Missing, WrongPeaks, WrongClimb}
 use Rattle.verdict.specs.Integrity.{integrityOf}
-use Rattle.verdict.specs.Rooms.{gotBy}
 use Rattle.verdict.proofs.VerdictLaws.{judge-missing, judge-peaks, judge-climb, judge-fits}
-use Rattle.verdict.proofs.ClimbLaws.{climbed-fits, climbed-not}
 use Rattle.tree.proofs.PackLaws.{levels-holds}
 use borrow.Author.Needs.{needs}
 use Rattle.verdict.proofs.verdicts.judge.Statement.{statement}
@@ -24,17 +20,20 @@ complete-requires : tie.Need-complete-requires
 complete-requires c κs = search needs
 
 returns : tie.Need-returns
-returns c = let a = c .before .before .before .before .before .before .before .before .before .before .before .args in
+returns c = let a = c .before .before .before .before .before .before .before .before .before .before .args in
     let o = integrityOf (a .entries .now) (a .bytes .now) in
-    (judge-missing (a .n) (bytesOf (a .root .words)) (a .hashes .now) (a .trusted .now) (a .c) (a .chunk .now) o _ _ _ (c .before .before .before .before .levels .ensures .0) (c .before .before .before .all-trusted .ensures) (c .before .before .reach .ensures .0) _ (c .before .complete .ensures) (not-true _ (c .if1 .taken)), climbed-not _ Missing (λ e. omega arith))
+    judge-missing (a .scratch .now) (a .n) (bytesOf (a .root .words)) (a .hashes .now) (a .trusted .now) (a .c) (a .chunk .now) o _ _ _ (c .before .before .before .before .levels .ensures .0) (c .before .before .before .all-trusted .ensures) (c .before .before .reach .ensures .0) _ (c .before .complete .ensures)
+    (not-true _ (c .if1 .taken))
 
 rooted-requires : tie.Need-rooted-requires
-rooted-requires c κs = let n = c .before .before .before .before .before .before .before .before .before .before .before .args .n in (c .before .before .before .before .levels .ensures .1, rw (c .before .before .before .before .levels .ensures .0) (levels-holds n))
+rooted-requires c κs = let k = c .before .before .before .before .levels .ensures in (k .1, rw (k .0) (levels-holds (c .before .before .before .before .before .before .before .before .before .before .args .n)))
 
 returns-2 : tie.Need-returns-2
-returns-2 c = let a = c .before .before .before .before .before .before .before .before .before .before .before .before .before .args in
+returns-2 c = let a = c .before .before .before .before .before .before .before .before .before .before .before .before .args in
     let o = integrityOf (a .entries .now) (a .bytes .now) in
-    (judge-peaks (a .n) (bytesOf (a .root .words)) (a .hashes .now) (a .trusted .now) (a .c) (a .chunk .now) o _ _ _ (c .before .before .before .before .before .before .levels .ensures .0) (c .before .before .before .before .before .all-trusted .ensures) (c .before .before .before .before .reach .ensures .0) _ (c .before .before .before .complete .ensures) _ (c .before .rooted .ensures) (not-false _ (c .before .before .if1 .left)) (not-true _ (c .if2 .taken)), climbed-not _ WrongPeaks (λ e. omega arith))
+    judge-peaks (a .scratch .now) (a .n) (bytesOf (a .root .words)) (a .hashes .now) (a .trusted .now) (a .c) (a .chunk .now) o _ _ _ (c .before .before .before .before .before .before .levels .ensures .0) (c .before .before .before .before .before .all-trusted .ensures) (c .before .before .before .before .reach .ensures .0) _ (c .before .before .before .complete .ensures)
+    _ (c .before .rooted .ensures) (not-false _ (c .before .before .if1 .left))
+    (not-true _ (c .if2 .taken))
 
 sha256-requires : tie.Need-sha256-requires
 sha256-requires c κs = search needs
@@ -42,21 +41,21 @@ sha256-requires c κs = search needs
 met-requires : tie.Need-met-requires
 met-requires c κs = search needs
 
-same-length : tie.Need-same-length
-same-length c = search needs
-
 returns-3 : tie.Need-returns-3
-returns-3 c = let a = c .before .before .before .before .before .before .before .before .before .before .before .before .before .before .before .before .before .before .before .args in
+returns-3 c = let a = c .before .before .before .before .before .before .before .before .before .before .before .before .before .before .before .before .args in
     let o = integrityOf (a .entries .now) (a .bytes .now) in
-    (judge-climb (a .n) (bytesOf (a .root .words)) (a .hashes .now) (a .trusted .now) (a .c) (a .chunk .now) o _ _ _ (c .before .before .before .before .before .before .before .before .before .before .before .before .levels .ensures .0) (c .before .before .before .before .before .before .before .before .before .before .before .all-trusted .ensures) (c .before .before .before .before .before .before .before .before .before .before .reach .ensures .0) _ (c .before .before .before .before .before .before .before .before .before .complete .ensures) _ (c .before .before .before .before .before .before .before .rooted .ensures) (not-false _ (c .before .before .before .before .before .before .before .before .if1 .left)) _ (c .before .before .before .before .before .sha256 .ensures) _ (c .before .before .before .met .ensures .0) (not-false _ (c .before .before .before .before .before .before .if2 .left)) (not-true _ (c .if3 .taken)), climbed-not _ WrongClimb (λ e. omega arith))
-
-same-length-2 : tie.Need-same-length-2
-same-length-2 c = search needs
+    judge-climb (a .scratch .now) (a .n) (bytesOf (a .root .words)) (a .hashes .now) (a .trusted .now) (a .c) (a .chunk .now) o _ _ _ (c .before .before .before .before .before .before .before .before .before .before .levels .ensures .0) (c .before .before .before .before .before .before .before .before .before .all-trusted .ensures) (c .before .before .before .before .before .before .before .before .reach .ensures .0) _ (c .before .before .before .before .before .before .before .complete .ensures)
+    _ (c .before .before .before .before .before .rooted .ensures) (not-false _ (c .before .before .before .before .before .before .if1 .left))
+    _ (c .before .before .before .sha256 .ensures) _ (c .before .met .ensures) (not-false _ (c .before .before .before .before .if2 .left))
+    (not-true _ (c .if3 .taken))
 
 returns-4 : tie.Need-returns-4
-returns-4 c = let a = c .before .before .before .before .before .before .before .before .before .before .before .before .before .before .before .before .before .before .before .args in
+returns-4 c = let a = c .before .before .before .before .before .before .before .before .before .before .before .before .before .before .before .before .args in
     let o = integrityOf (a .entries .now) (a .bytes .now) in
-    (judge-fits (a .n) (bytesOf (a .root .words)) (a .hashes .now) (a .trusted .now) (a .c) (a .chunk .now) o _ _ _ (c .before .before .before .before .before .before .before .before .before .before .before .before .levels .ensures .0) (c .before .before .before .before .before .before .before .before .before .before .before .all-trusted .ensures) (c .before .before .before .before .before .before .before .before .before .before .reach .ensures .0) _ (c .before .before .before .before .before .before .before .before .before .complete .ensures) _ (c .before .before .before .before .before .before .before .rooted .ensures) (not-false _ (c .before .before .before .before .before .before .before .before .if1 .left)) _ (c .before .before .before .before .before .sha256 .ensures) _ (c .before .before .before .met .ensures .0) (not-false _ (c .before .before .before .before .before .before .if2 .left)) (not-false _ (c .if3 .left)), climbed-fits _ (gotBy o) (a .c) _ (c .before .before .before .before .before .sha256 .ensures) (c .before .before .before .met .ensures .1))
+    judge-fits (a .scratch .now) (a .n) (bytesOf (a .root .words)) (a .hashes .now) (a .trusted .now) (a .c) (a .chunk .now) o _ _ _ (c .before .before .before .before .before .before .before .before .before .before .levels .ensures .0) (c .before .before .before .before .before .before .before .before .before .all-trusted .ensures) (c .before .before .before .before .before .before .before .before .reach .ensures .0) _ (c .before .before .before .before .before .before .before .complete .ensures)
+    _ (c .before .before .before .before .before .rooted .ensures) (not-false _ (c .before .before .before .before .before .before .if1 .left))
+    _ (c .before .before .before .sha256 .ensures) _ (c .before .met .ensures) (not-false _ (c .before .before .before .before .if2 .left))
+    (not-false _ (c .if3 .left))
 
 pub judge-spec : {M : Type 1} → statement M
 judge-spec =
@@ -71,7 +70,5 @@ judge-spec =
     returns-2
     sha256-requires
     met-requires
-    same-length
     returns-3
-    same-length-2
     returns-4)

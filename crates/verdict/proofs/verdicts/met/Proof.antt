@@ -13,14 +13,9 @@ target-requires c κs = search needs
 same-requires : tie.Need-same-requires
 same-requires c κs = search needs
 
-same-length : tie.Need-same-length
-same-length c = search needs
-
 returns : tie.Need-returns
-returns c = let k = c .before .before .before .before .climb .ensures in
+returns c = let k = c .before .before .climb .ensures in
     (c .same .ensures ∙ ap₂ same (k .0) (c .before .target .ensures), k .1)
 
 pub met-spec : {M : Type 1} → statement M
-met-spec =
-    tie.close
-    (tie.spec climb-requires target-requires same-requires same-length returns)
+met-spec = tie.close (tie.spec climb-requires target-requires same-requires returns)
