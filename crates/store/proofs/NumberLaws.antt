@@ -16,7 +16,7 @@ use Rattle.verdict.specs.Integrity.{Integrity}
 use Rattle.verdict.specs.Rooms.{Rooms, countOf}
 use Rattle.verdict.specs.Verdict.{roomVerdict}
 use Rattle.store.specs.Answers.{refuse, earlier, lengthAnswer, roomAnswer, orderAnswer, chunkAnswer}
-use Rattle.store.specs.Calls.{Out, unless, roomsAnswer, buildAnswer, settleSpec, takeSpec}
+use Rattle.store.specs.Calls.{Out, unless, roomsAnswer, buildAnswer, storeIfFits, takeSpec}
 
 refuse-one : (ms : List ℕ) (b : Bool) (x y : ℕ) → OneOf ms x → OneOf ms y → OneOf ms (refuse b x y)
 refuse-one ms true x y p q = p
@@ -71,6 +71,6 @@ unless-one (suc n) old out p q = p
 
 -- Where the rooms suffice.
 pub take-one : (w : Rooms) (r : List ℕ) (L c : ℕ) (d : List ℕ) (o : Integrity) → roomsAnswer L w ≡ 0 → OneOf (0 ∷ 7 ∷ 8 ∷ 9 ∷ 10 ∷ []) (takeSpec w r L c d o .answer)
-unfolding takeSpec settleSpec
+unfolding takeSpec storeIfFits
 take-one w r L c d o e =
-    rw e (unless-one (chunkAnswer L c (length d)) w (settleSpec w r (countOf L) c d o) (chunk-one L c (length d)) (verdict-one (roomVerdict (countOf L) r (w .hashes) (w .trusted) c d o)))
+    rw e (unless-one (chunkAnswer L c (length d)) w (storeIfFits w r (countOf L) c d o) (chunk-one L c (length d)) (verdict-one (roomVerdict (countOf L) r (w .hashes) (w .trusted) c d o)))
