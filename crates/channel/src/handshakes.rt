@@ -55,7 +55,11 @@ pub(crate) fn handshake(
 ) -> Outcome
     requires { ⌜ maxSize ≤ length (now reply) ⌝ }
     requires { ⌜ minSize ≤ length (now datagram) ⌝ }
-    ensures { λ r. ⌜ outOf (r .answer) (r .len) (channelsOf (r .state) (now (has .exit)) (now (wants .exit)) (now (reply .exit))) ≡ handshakeTaken (channelsOf state (now (has .entry)) (now (wants .entry)) (now (reply .entry))) id (now (datagram .entry)) source options ⌝ }
+    ensures { λ r. ⌜ outOf (r .answer) (r .len)
+        (channelsOf (r .state) (now (has .exit)) (now (wants .exit)) (now (reply .exit)))
+        ≡ handshakeTaken
+        (channelsOf state (now (has .entry)) (now (wants .entry)) (now (reply .entry)))
+        id (now (datagram .entry)) source options ⌝ }
 {
     let order = state.order;
     let table = state.table;

@@ -1,5 +1,5 @@
-// The channels of a store: its order and channel table by value, and 01's entry points over the lent rooms. Any state, any
-// rooms, any numbers and any bytes get an answer; a refusal changes nothing.
+// The channels of a store: its order and channel table by value, and 01's entry points over the lent rooms. Any state,
+// any rooms, any numbers and any bytes get an answer; a refusal changes nothing.
 pub mod asking; // ask: the held count, whole or not
 pub mod datagrams; // begin a datagram, add a message to it
 pub mod opening; // open a channel

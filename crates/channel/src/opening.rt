@@ -34,7 +34,9 @@ pub(crate) fn occupy(
     row: Row,
 ) -> Outcome
     requires { ⌜ maxSize ≤ length (now reply) ⌝ }
-    ensures { λ r. ⌜ outOf (r .answer) (r .len) (channelsOf (r .state) (now (has .exit)) (now (wants .exit)) (now (reply .exit))) ≡ occupied (channelsOf state (now (has .entry)) (now (wants .entry)) (now (reply .entry))) row ⌝ }
+    ensures { λ r. ⌜ outOf (r .answer) (r .len)
+        (channelsOf (r .state) (now (has .exit)) (now (wants .exit)) (now (reply .exit)))
+        ≡ occupied (channelsOf state (now (has .entry)) (now (wants .entry)) (now (reply .entry))) row ⌝ }
 {
     let order = state.order;
     let table = state.table;
@@ -66,7 +68,13 @@ pub fn open(
     reply: &mut [u8],
     id: u32,
 ) -> Outcome
-    ensures { λ r. ⌜ outOf (r .answer) (r .len) (worldOf (r .state) (now (chunks .entry)) (now (map .entry)) (now (hashes .entry)) (now (trusted .entry)) (now (has .exit)) (now (wants .exit)) (now (reply .exit))) ≡ openSpec (worldOf state (now (chunks .entry)) (now (map .entry)) (now (hashes .entry)) (now (trusted .entry)) (now (has .entry)) (now (wants .entry)) (now (reply .entry))) id ⌝ }
+    ensures { λ r. ⌜ outOf (r .answer) (r .len)
+        (worldOf (r .state) (now (chunks .entry)) (now (map .entry)) (now (hashes .entry)) (now (trusted .entry))
+        (now (has .exit)) (now (wants .exit)) (now (reply .exit)))
+        ≡ openSpec
+        (worldOf state (now (chunks .entry)) (now (map .entry)) (now (hashes .entry)) (now (trusted .entry))
+        (now (has .entry)) (now (wants .entry)) (now (reply .entry)))
+        id ⌝ }
 {
     let order = state.order;
     let table = state.table;

@@ -45,7 +45,8 @@ pub fn all_rooms_answer(
     wants: usize,
     reply: usize,
 ) -> u32
-    ensures { λ r. ⌜ r ≡ earlier (orderAnswer length chunks map hashes trusted) (channelRoomsAnswer length has wants reply) ⌝ }
+    ensures { λ r. ⌜ r ≡ earlier
+        (orderAnswer length chunks map hashes trusted) (channelRoomsAnswer length has wants reply) ⌝ }
 {
     earlier(
         answers::order_answer(length, chunks, map, hashes, trusted),
@@ -65,7 +66,8 @@ pub fn build_number(
     wants: usize,
     reply: usize,
 ) -> u32
-    ensures { λ r. ⌜ r ≡ earlier (buildAnswer length content chunks map hashes trusted) (channelRoomsAnswer length has wants reply) ⌝ }
+    ensures { λ r. ⌜ r ≡ earlier
+        (buildAnswer length content chunks map hashes trusted) (channelRoomsAnswer length has wants reply) ⌝ }
 {
     earlier(
         answers::build_answer(length, content, chunks, map, hashes, trusted),

@@ -44,7 +44,13 @@ pub fn start(
     reply: &[u8],
     order: Order,
 ) -> Outcome
-    ensures { λ r. ⌜ outOf (r .answer) (r .len) (worldOf (r .state) (now (chunks .entry)) (now (map .exit)) (now (hashes .exit)) (now (trusted .exit)) (now (has .exit)) (now (wants .exit)) (now (reply .entry))) ≡ startSpec (worldOf state (now (chunks .entry)) (now (map .entry)) (now (hashes .entry)) (now (trusted .entry)) (now (has .entry)) (now (wants .entry)) (now (reply .entry))) order ⌝ }
+    ensures { λ r. ⌜ outOf (r .answer) (r .len)
+        (worldOf (r .state) (now (chunks .entry)) (now (map .exit)) (now (hashes .exit)) (now (trusted .exit))
+        (now (has .exit)) (now (wants .exit)) (now (reply .entry)))
+        ≡ startSpec
+        (worldOf state (now (chunks .entry)) (now (map .entry)) (now (hashes .entry)) (now (trusted .entry))
+        (now (has .entry)) (now (wants .entry)) (now (reply .entry)))
+        order ⌝ }
 {
     let length = order.length;
     let answer = rooms::all_rooms_answer(
@@ -87,7 +93,13 @@ pub fn build(
     length: u32,
     content: &[u8],
 ) -> Outcome
-    ensures { λ r. ⌜ outOf (r .answer) (r .len) (worldOf (r .state) (now (chunks .exit)) (now (map .exit)) (now (hashes .exit)) (now (trusted .exit)) (now (has .exit)) (now (wants .exit)) (now (reply .entry))) ≡ buildSpec (worldOf state (now (chunks .entry)) (now (map .entry)) (now (hashes .entry)) (now (trusted .entry)) (now (has .entry)) (now (wants .entry)) (now (reply .entry))) length (now (content .entry)) ⌝ }
+    ensures { λ r. ⌜ outOf (r .answer) (r .len)
+        (worldOf (r .state) (now (chunks .exit)) (now (map .exit)) (now (hashes .exit)) (now (trusted .exit))
+        (now (has .exit)) (now (wants .exit)) (now (reply .entry)))
+        ≡ buildSpec
+        (worldOf state (now (chunks .entry)) (now (map .entry)) (now (hashes .entry)) (now (trusted .entry))
+        (now (has .entry)) (now (wants .entry)) (now (reply .entry)))
+        length (now (content .entry)) ⌝ }
 {
     let answer = rooms::build_number(
         length,

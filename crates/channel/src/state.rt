@@ -22,7 +22,9 @@ pub struct Outcome {
 
 // The state before the first start: no order, so that each call on it but those that begin a store is refused with 12.
 pub fn unstarted() -> State
-    ensures { λ r. ⌜ (bytesOf (r .order .root .words) ≡ replicate 32 0) × (r .order .length ≡ 0) × (r .table ≡ freeTable) ⌝ }
+    ensures { λ r. ⌜ (bytesOf (r .order .root .words) ≡ replicate 32 0)
+        × (r .order .length ≡ 0)
+        × (r .table ≡ freeTable) ⌝ }
 {
     let root = value::zero();
     State {

@@ -9,7 +9,8 @@ ghost use Rattle.writer.proofs.Promise.{readAll};
 ghost use Rattle.effects.proofs.Promise.{allQuiet};
 ghost use Rattle.store.proofs.Promise.{lengthAnswer};
 ghost use Rattle.channel.specs.World.{channelsOf, worldOf, outOf};
-ghost use Rattle.channel.specs.Take.{messagesNumber, affected, messagesTaken, acknowledgement, dataTaken, takeSpec};
+ghost use Rattle.channel.specs.Take.{messagesNumber, affected, messagesTaken};
+ghost use Rattle.channel.specs.Take.{acknowledgement, dataTaken, takeSpec};
 use crate::handshakes;
 use crate::rooms;
 use crate::state::Outcome;
@@ -35,7 +36,8 @@ struct Judged {
 
 fn judge(state: State, datagram: &[u8]) -> Judged
     requires { ⌜ minSize ≤ length (now datagram) ⌝ }
-    ensures { λ r. ⌜ (r .number ≡ messagesNumber state (now (datagram .entry))) × (r .quiet ≡ true → allQuiet (readAll (now (datagram .entry))) ≡ true) ⌝ }
+    ensures { λ r. ⌜ (r .number ≡ messagesNumber state (now (datagram .entry)))
+        × (r .quiet ≡ true → allQuiet (readAll (now (datagram .entry))) ≡ true) ⌝ }
 {
     let order = state.order;
     let table = state.table;
@@ -64,7 +66,8 @@ fn judge(state: State, datagram: &[u8]) -> Judged
 fn apply_messages(state: State, has: &mut [u32], wants: &mut [u32], datagram: &[u8]) -> State
     requires { ⌜ lengthAnswer (state .order .length) ≡ 0 ⌝ }
     requires { ⌜ minSize ≤ length (now datagram) ⌝ }
-    ensures { λ r. ⌜ channelsOf r (now (has .exit)) (now (wants .exit)) [] ≡ affected (channelsOf state (now (has .entry)) (now (wants .entry)) []) (now (datagram .entry)) ⌝ }
+    ensures { λ r. ⌜ channelsOf r (now (has .exit)) (now (wants .exit)) []
+        ≡ affected (channelsOf state (now (has .entry)) (now (wants .entry)) []) (now (datagram .entry)) ⌝ }
 {
     let order = state.order;
     let table = state.table;
@@ -95,7 +98,11 @@ fn messages(
 ) -> Outcome
     requires { ⌜ lengthAnswer (state .order .length) ≡ 0 ⌝ }
     requires { ⌜ minSize ≤ length (now datagram) ⌝ }
-    ensures { λ r. ⌜ outOf (r .answer) (r .len) (channelsOf (r .state) (now (has .exit)) (now (wants .exit)) (now (reply .entry))) ≡ messagesTaken (channelsOf state (now (has .entry)) (now (wants .entry)) (now (reply .entry))) (now (datagram .entry)) ⌝ }
+    ensures { λ r. ⌜ outOf (r .answer) (r .len)
+        (channelsOf (r .state) (now (has .exit)) (now (wants .exit)) (now (reply .entry)))
+        ≡ messagesTaken
+        (channelsOf state (now (has .entry)) (now (wants .entry)) (now (reply .entry)))
+        (now (datagram .entry)) ⌝ }
 {
     let judged = judge(state, datagram);
     let answer = judged.number;
@@ -124,7 +131,9 @@ fn acknowledge(
 ) -> usize
     requires { ⌜ maxSize ≤ length (now reply) ⌝ }
     requires { ⌜ minSize ≤ length (now datagram) ⌝ }
-    ensures { λ r. ⌜ (r ≡ length (acknowledgement state (now (datagram .entry)) clock c timestamp)) × (now (reply .exit) ≡ placed (now (reply .entry)) 0 (acknowledgement state (now (datagram .entry)) clock c timestamp)) ⌝ }
+    ensures { λ r. ⌜ (r ≡ length (acknowledgement state (now (datagram .entry)) clock c timestamp))
+        × (now (reply .exit)
+        ≡ placed (now (reply .entry)) 0 (acknowledgement state (now (datagram .entry)) clock c timestamp)) ⌝ }
 {
     let table = state.table;
     let row = rows::row_at(table, rows::row_of(table, bytes::load32(datagram, 0)));
@@ -154,7 +163,13 @@ fn take_chunk(
     requires { ⌜ maxSize ≤ length (now reply) ⌝ }
     requires { ⌜ minSize ≤ length (now datagram) ⌝ }
     requires { ⌜ start + len ≤ length (now datagram) ⌝ }
-    ensures { λ r. ⌜ outOf (r .answer) (r .len) (worldOf (r .state) (now (chunks .exit)) (now (map .exit)) (now (hashes .exit)) (now (trusted .exit)) (now (has .exit)) (now (wants .exit)) (now (reply .exit))) ≡ dataTaken (worldOf state (now (chunks .entry)) (now (map .entry)) (now (hashes .entry)) (now (trusted .entry)) (now (has .entry)) (now (wants .entry)) (now (reply .entry))) clock (now (datagram .entry)) (now (entries .entry)) c timestamp start len ⌝ }
+    ensures { λ r. ⌜ outOf (r .answer) (r .len)
+        (worldOf (r .state) (now (chunks .exit)) (now (map .exit)) (now (hashes .exit)) (now (trusted .exit))
+        (now (has .exit)) (now (wants .exit)) (now (reply .exit)))
+        ≡ dataTaken
+        (worldOf state (now (chunks .entry)) (now (map .entry)) (now (hashes .entry)) (now (trusted .entry))
+        (now (has .entry)) (now (wants .entry)) (now (reply .entry)))
+        clock (now (datagram .entry)) (now (entries .entry)) c timestamp start len ⌝ }
 {
     let end = start + len;
     let judged = judge(state, datagram);
@@ -214,7 +229,13 @@ pub fn take(
     id: u32,
     datagram: &[u8],
 ) -> Outcome
-    ensures { λ r. ⌜ outOf (r .answer) (r .len) (worldOf (r .state) (now (chunks .exit)) (now (map .exit)) (now (hashes .exit)) (now (trusted .exit)) (now (has .exit)) (now (wants .exit)) (now (reply .exit))) ≡ takeSpec (worldOf state (now (chunks .entry)) (now (map .entry)) (now (hashes .entry)) (now (trusted .entry)) (now (has .entry)) (now (wants .entry)) (now (reply .entry))) clock id (now (datagram .entry)) ⌝ }
+    ensures { λ r. ⌜ outOf (r .answer) (r .len)
+        (worldOf (r .state) (now (chunks .exit)) (now (map .exit)) (now (hashes .exit)) (now (trusted .exit))
+        (now (has .exit)) (now (wants .exit)) (now (reply .exit)))
+        ≡ takeSpec
+        (worldOf state (now (chunks .entry)) (now (map .entry)) (now (hashes .entry)) (now (trusted .entry))
+        (now (has .entry)) (now (wants .entry)) (now (reply .entry)))
+        clock id (now (datagram .entry)) ⌝ }
 {
     let order = state.order;
     let refused = rooms::all_rooms_answer(

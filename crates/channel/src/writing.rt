@@ -23,7 +23,8 @@ fn held_answer(n: u32, c: u32, map: &[u32]) -> u32
     0
 }
 
-// The datagram for chunk c on the channel of an ID, with the clock as its timestamp: the hashes that go out with it, DATA.
+// The datagram for chunk c on the channel of an ID, with the clock as its timestamp: the hashes that go out with it,
+// then DATA.
 pub fn write(
     state: State,
     chunks: &[u8],
@@ -37,7 +38,13 @@ pub fn write(
     c: u32,
     clock: u64,
 ) -> Outcome
-    ensures { λ r. ⌜ outOf (r .answer) (r .len) (worldOf (r .state) (now (chunks .entry)) (now (map .entry)) (now (hashes .entry)) (now (trusted .entry)) (now (has .entry)) (now (wants .entry)) (now (reply .exit))) ≡ writeSpec (worldOf state (now (chunks .entry)) (now (map .entry)) (now (hashes .entry)) (now (trusted .entry)) (now (has .entry)) (now (wants .entry)) (now (reply .entry))) id c clock ⌝ }
+    ensures { λ r. ⌜ outOf (r .answer) (r .len)
+        (worldOf (r .state) (now (chunks .entry)) (now (map .entry)) (now (hashes .entry)) (now (trusted .entry))
+        (now (has .entry)) (now (wants .entry)) (now (reply .exit)))
+        ≡ writeSpec
+        (worldOf state (now (chunks .entry)) (now (map .entry)) (now (hashes .entry)) (now (trusted .entry))
+        (now (has .entry)) (now (wants .entry)) (now (reply .entry)))
+        id c clock ⌝ }
 {
     let order = state.order;
     let table = state.table;

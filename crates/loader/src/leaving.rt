@@ -10,7 +10,8 @@ use channel::state::Outcome;
 // Encodes the state, unless the call is refused; gives the number.
 pub(crate) fn leave(words: &mut [u32], outcome: Outcome) -> u32
     requires { ⌜ stateWords ≤ length (now words) ⌝ }
-    ensures { λ r. ⌜ (r ≡ outcome .answer) × (now (words .exit) ≡ wordsAfter (outcome .answer) (now (words .entry)) (outcome .state)) ⌝ }
+    ensures { λ r. ⌜ (r ≡ outcome .answer)
+        × (now (words .exit) ≡ wordsAfter (outcome .answer) (now (words .entry)) (outcome .state)) ⌝ }
 {
     let answer = outcome.answer;
     let after = outcome.state;

@@ -24,7 +24,13 @@ pub extern "C" fn ppspp_open(
     id: u32,
     written: &mut usize,
 ) -> u32
-    ensures { λ r. ⌜ outOf r (now (written .exit)) (lentOf (now (state .exit)) (now (chunks .entry)) (now (map .entry)) (now (hashes .entry)) (now (trusted .entry)) (now (has .exit)) (now (wants .exit)) (now (reply .exit))) ≡ callOn 11 (lentOf (now (state .entry)) (now (chunks .entry)) (now (map .entry)) (now (hashes .entry)) (now (trusted .entry)) (now (has .entry)) (now (wants .entry)) (now (reply .entry))) (λ w. openSpec w id) ⌝ }
+    ensures { λ r. ⌜ outOf r (now (written .exit))
+        (lentOf (now (state .exit)) (now (chunks .entry)) (now (map .entry)) (now (hashes .entry))
+        (now (trusted .entry)) (now (has .exit)) (now (wants .exit)) (now (reply .exit)))
+        ≡ callOn 11
+        (lentOf (now (state .entry)) (now (chunks .entry)) (now (map .entry)) (now (hashes .entry))
+        (now (trusted .entry)) (now (has .entry)) (now (wants .entry)) (now (reply .entry)))
+        (λ w. openSpec w id) ⌝ }
 {
     *written = 0;
     if state.len() < STATE_WORDS {
@@ -52,7 +58,13 @@ pub extern "C" fn ppspp_take(
     datagram: &[u8],
     written: &mut usize,
 ) -> u32
-    ensures { λ r. ⌜ outOf r (now (written .exit)) (lentOf (now (state .exit)) (now (chunks .exit)) (now (map .exit)) (now (hashes .exit)) (now (trusted .exit)) (now (has .exit)) (now (wants .exit)) (now (reply .exit))) ≡ callOn 11 (lentOf (now (state .entry)) (now (chunks .entry)) (now (map .entry)) (now (hashes .entry)) (now (trusted .entry)) (now (has .entry)) (now (wants .entry)) (now (reply .entry))) (λ w. takeSpec w clock id (now (datagram .entry))) ⌝ }
+    ensures { λ r. ⌜ outOf r (now (written .exit))
+        (lentOf (now (state .exit)) (now (chunks .exit)) (now (map .exit)) (now (hashes .exit))
+        (now (trusted .exit)) (now (has .exit)) (now (wants .exit)) (now (reply .exit)))
+        ≡ callOn 11
+        (lentOf (now (state .entry)) (now (chunks .entry)) (now (map .entry)) (now (hashes .entry))
+        (now (trusted .entry)) (now (has .entry)) (now (wants .entry)) (now (reply .entry)))
+        (λ w. takeSpec w clock id (now (datagram .entry))) ⌝ }
 {
     *written = 0;
     if state.len() < STATE_WORDS {
@@ -92,7 +104,13 @@ pub extern "C" fn ppspp_write(
     clock: u64,
     written: &mut usize,
 ) -> u32
-    ensures { λ r. ⌜ outOf r (now (written .exit)) (lentOf (now (state .entry)) (now (chunks .entry)) (now (map .entry)) (now (hashes .entry)) (now (trusted .entry)) (now (has .entry)) (now (wants .entry)) (now (reply .exit))) ≡ callBeside (lentOf (now (state .entry)) (now (chunks .entry)) (now (map .entry)) (now (hashes .entry)) (now (trusted .entry)) (now (has .entry)) (now (wants .entry)) (now (reply .entry))) (λ w. writeSpec w id chunk clock) ⌝ }
+    ensures { λ r. ⌜ outOf r (now (written .exit))
+        (lentOf (now (state .entry)) (now (chunks .entry)) (now (map .entry)) (now (hashes .entry))
+        (now (trusted .entry)) (now (has .entry)) (now (wants .entry)) (now (reply .exit)))
+        ≡ callBeside
+        (lentOf (now (state .entry)) (now (chunks .entry)) (now (map .entry)) (now (hashes .entry))
+        (now (trusted .entry)) (now (has .entry)) (now (wants .entry)) (now (reply .entry)))
+        (λ w. writeSpec w id chunk clock) ⌝ }
 {
     *written = 0;
     if state.len() < STATE_WORDS {
@@ -119,7 +137,8 @@ pub extern "C" fn ppspp_write(
 // Asks how many chunks are held, and whether that is all of them.
 #[no_mangle]
 pub extern "C" fn ppspp_ask(state: &[u32], map: &[u32], held: &mut u32, whole: &mut u32) -> u32
-    ensures { λ r. ⌜ countedOf r (now (held .exit)) (now (whole .exit)) ≡ askOn (now (state .entry)) (now (map .entry)) ⌝ }
+    ensures { λ r. ⌜ countedOf r (now (held .exit)) (now (whole .exit))
+        ≡ askOn (now (state .entry)) (now (map .entry)) ⌝ }
 {
     *held = 0;
     *whole = 0;

@@ -48,7 +48,13 @@ pub extern "C" fn ppspp_start(
     root: &[u8; 32],
     length: u32,
 ) -> u32
-    ensures { λ r. ⌜ answeredOf r (lentOf (now (state .exit)) (now (chunks .entry)) (now (map .exit)) (now (hashes .exit)) (now (trusted .exit)) (now (has .exit)) (now (wants .exit)) (now (reply .entry))) ≡ startOn (lentOf (now (state .entry)) (now (chunks .entry)) (now (map .entry)) (now (hashes .entry)) (now (trusted .entry)) (now (has .entry)) (now (wants .entry)) (now (reply .entry))) (now (root .entry)) length ⌝ }
+    ensures { λ r. ⌜ answeredOf r
+        (lentOf (now (state .exit)) (now (chunks .entry)) (now (map .exit)) (now (hashes .exit))
+        (now (trusted .exit)) (now (has .exit)) (now (wants .exit)) (now (reply .entry)))
+        ≡ startOn
+        (lentOf (now (state .entry)) (now (chunks .entry)) (now (map .entry)) (now (hashes .entry))
+        (now (trusted .entry)) (now (has .entry)) (now (wants .entry)) (now (reply .entry)))
+        (now (root .entry)) length ⌝ }
 {
     if state.len() < STATE_WORDS {
         return short_start(length);
@@ -76,7 +82,13 @@ pub extern "C" fn ppspp_build(
     length: u32,
     content: &[u8],
 ) -> u32
-    ensures { λ r. ⌜ answeredOf r (lentOf (now (state .exit)) (now (chunks .exit)) (now (map .exit)) (now (hashes .exit)) (now (trusted .exit)) (now (has .exit)) (now (wants .exit)) (now (reply .entry))) ≡ buildOn (lentOf (now (state .entry)) (now (chunks .entry)) (now (map .entry)) (now (hashes .entry)) (now (trusted .entry)) (now (has .entry)) (now (wants .entry)) (now (reply .entry))) length (now (content .entry)) ⌝ }
+    ensures { λ r. ⌜ answeredOf r
+        (lentOf (now (state .exit)) (now (chunks .exit)) (now (map .exit)) (now (hashes .exit))
+        (now (trusted .exit)) (now (has .exit)) (now (wants .exit)) (now (reply .entry)))
+        ≡ buildOn
+        (lentOf (now (state .entry)) (now (chunks .entry)) (now (map .entry)) (now (hashes .entry))
+        (now (trusted .entry)) (now (has .entry)) (now (wants .entry)) (now (reply .entry)))
+        length (now (content .entry)) ⌝ }
 {
     if state.len() < STATE_WORDS {
         return short_build(length, content.len());

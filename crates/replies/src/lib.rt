@@ -32,7 +32,8 @@ const INTEGRITY_SIZE: usize = 41;
 fn put_message(reply: &mut [u8], at: usize, message: Message, bytes: &[u8]) -> usize
     requires { ⌜ at + sizeOf message ≤ length (now reply) ⌝ }
     requires { ⌜ writable (length (now bytes)) message ≡ true ⌝ }
-    ensures { λ r. ⌜ (r ≡ at + sizeOf message) × (now (reply .exit) ≡ placed (now (reply .entry)) at (messageBytes (now (bytes .entry)) message)) ⌝ }
+    ensures { λ r. ⌜ (r ≡ at + sizeOf message)
+        × (now (reply .exit) ≡ placed (now (reply .entry)) at (messageBytes (now (bytes .entry)) message)) ⌝ }
 {
     put::put(reply, at, message, bytes);
     at + size::size_of(message, bytes)
@@ -41,7 +42,9 @@ fn put_message(reply: &mut [u8], at: usize, message: Message, bytes: &[u8]) -> u
 // Our HANDSHAKE from a source channel, with the fixed options around the root; its length.
 pub fn handshake(reply: &mut [u8], destination: u32, source: u32, root: HashValue) -> usize
     requires { ⌜ maxSize ≤ length (now reply) ⌝ }
-    ensures { λ r. ⌜ (r ≡ length (handshakeReply destination source (bytesOf (root .words)))) × (now (reply .exit) ≡ placed (now (reply .entry)) 0 (handshakeReply destination source (bytesOf (root .words)))) ⌝ }
+    ensures { λ r. ⌜ (r ≡ length (handshakeReply destination source (bytesOf (root .words))))
+        × (now (reply .exit)
+        ≡ placed (now (reply .entry)) 0 (handshakeReply destination source (bytesOf (root .words)))) ⌝ }
 {
     let bytes = value::bytes(root);
     let begun = add::begin(reply, destination);
@@ -55,7 +58,8 @@ pub fn handshake(reply: &mut [u8], destination: u32, source: u32, root: HashValu
 // An ACK of the chunks from first to last; its length.
 pub fn ack(reply: &mut [u8], destination: u32, first: u32, last: u32, delay: u64) -> usize
     requires { ⌜ maxSize ≤ length (now reply) ⌝ }
-    ensures { λ r. ⌜ (r ≡ length (ackReply destination first last delay)) × (now (reply .exit) ≡ placed (now (reply .entry)) 0 (ackReply destination first last delay)) ⌝ }
+    ensures { λ r. ⌜ (r ≡ length (ackReply destination first last delay))
+        × (now (reply .exit) ≡ placed (now (reply .entry)) 0 (ackReply destination first last delay)) ⌝ }
 {
     let begun = add::begin(reply, destination);
     put_message(reply, begun.len, Message::Ack { first, last, delay }, b"")
@@ -64,7 +68,10 @@ pub fn ack(reply: &mut [u8], destination: u32, first: u32, last: u32, delay: u64
 // One node's INTEGRITY at a place of the room; the place behind it.
 fn put_hash(reply: &mut [u8], at: usize, hashes: &[u32], node: u32) -> usize
     requires { ⌜ at + integritySize ≤ length (now reply) ⌝ }
-    ensures { λ r. ⌜ (r ≡ at + integritySize) × (now (reply .exit) ≡ placed (now (reply .entry)) at (messageBytes (hashItem (now (hashes .entry)) node .source) (hashItem (now (hashes .entry)) node .message))) ⌝ }
+    ensures { λ r. ⌜ (r ≡ at + integritySize)
+        × (now (reply .exit)
+        ≡ placed (now (reply .entry)) at (messageBytes (hashItem (now (hashes .entry)) node .source) (hashItem
+        (now (hashes .entry)) node .message))) ⌝ }
 {
     let hash = value::bytes(room::read(hashes, node as u64));
     put::put_integrity(reply, at, bin::first(node), bin::last(node), 0, &hash);
@@ -75,7 +82,9 @@ fn put_hash(reply: &mut [u8], at: usize, hashes: &[u32], node: u32) -> usize
 fn put_hashes(reply: &mut [u8], hashes: &[u32], nodes: &[u64]) -> usize
     requires { ⌜ minSize + integritySize * length (now nodes) ≤ length (now reply) ⌝ }
     requires { ⌜ ((i : ℕ) → getD (now nodes) i 0 < 2 ^ 32) ⌝ }
-    ensures { λ r. ⌜ (r ≡ minSize + integritySize * length (now (nodes .entry))) × (now (reply .exit) ≡ placed (now (reply .entry)) minSize (encode (map (hashItem (now (hashes .entry))) (now (nodes .entry))))) ⌝ }
+    ensures { λ r. ⌜ (r ≡ minSize + integritySize * length (now (nodes .entry)))
+        × (now (reply .exit)
+        ≡ placed (now (reply .entry)) minSize (encode (map (hashItem (now (hashes .entry))) (now (nodes .entry))))) ⌝ }
 {
     let mut at: usize = wire::limits::MIN_SIZE;
     let mut j: usize = 0;
@@ -99,7 +108,10 @@ pub fn chunk(
     requires { ⌜ maxSize ≤ length (now reply) ⌝ }
     requires { ⌜ n ≤ chunks chunkSize maxLength ⌝ }
     requires { ⌜ length (now bytes) ≤ chunkSize ⌝ }
-    ensures { λ r. ⌜ (r ≡ length (chunkReply (now (hashes .entry)) destination n c timestamp (now (bytes .entry)))) × (now (reply .exit) ≡ placed (now (reply .entry)) 0 (chunkReply (now (hashes .entry)) destination n c timestamp (now (bytes .entry)))) ⌝ }
+    ensures { λ r. ⌜ (r ≡ length (chunkReply (now (hashes .entry)) destination n c timestamp (now (bytes .entry))))
+        × (now (reply .exit)
+        ≡ placed (now (reply .entry)) 0 (chunkReply (now (hashes .entry)) destination n c timestamp (now
+        (bytes .entry)))) ⌝ }
 {
     let mut nodes = [0u64; NODES];
     let count = peaks::sent(&mut nodes, n, c);

@@ -1,7 +1,8 @@
 // The rows of the channel table, by value.
 ghost use mathlib.Core.Path.{_≡_};
 ghost use Prim.Native.Nat.{_≤_};
-ghost use Rattle.table.specs.Rows.{rowCount, isFree, isOpen, freeRow, freeTable, firstRow, passes, lowestFree, rowOf, openRowOf, rowAt, withRow, rowAfter};
+ghost use Rattle.table.specs.Rows.{rowCount, isFree, isOpen, freeRow, freeTable, firstRow, passes};
+ghost use Rattle.table.specs.Rows.{lowestFree, rowOf, openRowOf, rowAt, withRow, rowAfter};
 
 // How many channels there are.
 pub const ROWS: usize = 16;
