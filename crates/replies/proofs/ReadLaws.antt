@@ -13,7 +13,7 @@ use Rattle.tree.specs.Bin.{first, last}
 use Rattle.tree.specs.Node.{num}
 use Rattle.tree.specs.Pack.{chunkSize, chunks, maxLength}
 use Rattle.tree.specs.Peaks.{sent}
-use Rattle.tree.specs.Range.{covers}
+use Rattle.tree.specs.Range.{covers, nodeOfRange}
 use Rattle.tree.proofs.BinLaws.{first-plus-last}
 use Rattle.wire.proofs.Promise.{minSize, maxSize, seen, handshakeFault}
 use Rattle.wire.specs.declared.message.Options.the-variants.{Fixed}
@@ -83,7 +83,7 @@ own-range b = rw (first-plus-last b) (rw (eq-eqb (first b) (first b) refl) (eq-e
 module _ (hashes : List ℕ) (to : ℕ) where
   -- The INTEGRITY messages of distinct nodes join a datagram that has none of them.
   hashes-join : (bs : List ℕ) (at : ℕ) (es : List ℕ) → Paired es → Unseen es bs → Distinct bs → Joining to at es (map (hashItem hashes) bs)
-  unfolding hashItem faultBehind
+  unfolding hashItem faultBehind nodeOfRange
   hashes-join [] at es p u d = tt
   hashes-join (b ∷ bs) at es p u d = (
     item-writable hashes b,
