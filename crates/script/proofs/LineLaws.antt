@@ -164,17 +164,14 @@ take-least (suc n) (x ∷ l) = rw (suc-min n (length l)) (ap (λ (r : List ℕ).
 pub counted : (n len : ℕ) (l : List ℕ) → n ≡ min len (length l) → n ≡ length (take n l)
 counted n len l e = sym (length-take-le n l (omega arith))
 
+-- A line that fits has its place, and where it has, it fits.
 pub fits-bound : (room at n : ℕ) → fits room at n ≡ true → at + lineSize n ≤ room
 unfolding fits
 fits-bound room at n e = leb-true (at + lineSize n) room e
 
--- Where it does not fit, it fits at the front of a room that is large enough.
-pub fits-or-front : (size at n : ℕ) {r : ℕ} → r ≡ pick (fits size at n) at 0 → lineSize n ≤ size → r + lineSize n ≤ size
-fits-or-front size at n f h = rw f (go (fits size at n) refl)
-  where
-    go : (b : Bool) → fits size at n ≡ b → pick b at 0 + lineSize n ≤ size
-    go true e = fits-bound size at n e
-    go false e = omega arith
+pub bound-fits : (room at n : ℕ) → at + lineSize n ≤ room → fits room at n ≡ true
+unfolding fits
+bound-fits room at n h = le-leb (at + lineSize n) room h
 
 module _ (room : List ℕ) (at number n len : ℕ) (reply : List ℕ) (e : n ≡ min len (length reply)) where
   -- A line that fits, and one that does not.

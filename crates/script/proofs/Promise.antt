@@ -14,7 +14,7 @@ pub use Rattle.script.specs.Hex.{digitOf, digitFor, allDigits, decoded, 
 pub use Rattle.script.specs.Lines.{Filled, filled, front, beforeFeed, kept}
 pub use Rattle.script.specs.Frames.{hasLength, isFrame, Framed, framed, frameSpec}
 pub use Rattle.script.specs.Answers.{answerLine, closingLine, lineSize, fits, appended}
-pub use Rattle.script.proofs.RoomLaws.{added, Keeps, keeps-nothing, keeps-part}
+pub use Rattle.script.proofs.RoomLaws.{added, added-size, added-bound, Keeps, keeps-nothing, keeps-part}
 
 -- In a room for the longest line, bytes are those of a frame, at the front of the room; else the room is as it was.
 module _ (least most : ℕ) (line room : List ℕ) (wide : most / 2 ≤ length room) {left : List ℕ} where
@@ -36,9 +36,12 @@ length-line = lines.length-line
 pub length-closing : (whole : Bool) (held : ℕ) → length (closingLine whole held) ≤ 7
 length-closing = lines.length-closing
 
--- Where one does not fit, it fits at the front of a room that is large enough.
-pub fits-or-front : (size at n : ℕ) {r : ℕ} → r ≡ pick (fits size at n) at 0 → lineSize n ≤ size → r + lineSize n ≤ size
-fits-or-front = lines.fits-or-front
+-- One that fits has its place, and where it has, it fits.
+pub fits-bound : (size at n : ℕ) → fits size at n ≡ true → at + lineSize n ≤ size
+fits-bound = lines.fits-bound
+
+pub bound-fits : (size at n : ℕ) → at + lineSize n ≤ size → fits size at n ≡ true
+bound-fits = lines.bound-fits
 
 -- The first elements of a list, counted.
 pub take-least : (len : ℕ) (l : List ℕ) → take (min len (length l)) l ≡ take len l

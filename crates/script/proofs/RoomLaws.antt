@@ -8,6 +8,7 @@ use lib.Dec.{leb}
 use lib.ListN.{length, take, drop, length-append, length-take}
 use lib.Seq.{sets, sets-eq, length-sets, length-take-le, take-nil, take-all, take-at, take-append-le, take-append-add}
 use borrow.Author.Tests.{le-leb, leb-true, leb-false}
+use Rattle.base.specs.Pick.{pick}
 use Rattle.script.specs.Lines.{Filled, filled, front, fitting, kept}
 use Rattle.script.specs.Answers.{appended}
 
@@ -21,6 +22,24 @@ stored room at s h =
 pub added : (out : Filled) (s : List ℕ) → out .used + length s ≤ length (out .room) → front (appended (out .room) (out .used) s) ≡ front out ++ s
 unfolding appended
 added out s h = rw (le-leb (out .used + length s) (length (out .room)) h) (stored (out .room) (out .used) s h)
+
+-- How much of the room is in use then, and that it is as long as before.
+pub added-size : (out : Filled) (s : List ℕ) → out .used + length s ≤ length (out .room)
+    → (appended (out .room) (out .used) s .used ≡ out .used + length s) × (length (appended (out .room) (out .used) s .room) ≡ length (out .room))
+unfolding appended
+added-size out s h = rw (le-leb (out .used + length s) (length (out .room)) h) (refl, length-sets (out .room) (out .used) s)
+
+-- No more than the room has is ever in use.
+pub added-bound : (out : Filled) (s : List ℕ) → out .used ≤ length (out .room)
+    → appended (out .room) (out .used) s .used ≤ length (appended (out .room) (out .used) s .room)
+unfolding appended
+added-bound out s h = go (leb (out .used + length s) (length (out .room))) refl
+  where
+    go : (b : Bool) → leb (out .used + length s) (length (out .room)) ≡ b
+        → pick b (filled (sets (out .room) (out .used) s) (out .used + length s)) out .used
+        ≤ length (pick b (filled (sets (out .room) (out .used) s) (out .used + length s)) out .room)
+    go true e = rw (length-sets (out .room) (out .used) s) (leb-true (out .used + length s) (length (out .room)) e)
+    go false e = h
 
 -- A room keeps of a line as many of its first characters as it has bytes.
 pub record Keeps (p : Filled) (line : List ℕ) : Type 0 where

@@ -82,6 +82,9 @@ count-mono = shorter.count-mono
 pub length-accepted : (L : ℕ) → lengthAnswer L ≡ 0 → (0 < L) × (L ≤ maxLength)
 length-accepted = accept.length-accepted
 
+pub length-within : (L : ℕ) → L ≢ 0 → L ≤ maxLength → 0 ≡ lengthAnswer L
+length-within = answers.length-right
+
 -- Not 11: the rooms are large enough.
 pub rooms-accepted : (L b m h t : ℕ) → roomAnswer L b m h t ≡ 0
     → (L ≤ b) × (rowWords (countOf L) ≤ m) × (16 * leafPlaces (countOf L) ≤ h) × (rowWords (2 * leafPlaces (countOf L)) ≤ t)

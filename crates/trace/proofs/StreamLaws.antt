@@ -11,12 +11,12 @@ use borrow.Author.Tests.{eq-eqb, ne-eqb, eqb-true, eqb-false}
 use Rattle.base.specs.Pick.{pick}
 use Rattle.channel.specs.declared.state.State.{State}
 use Rattle.channel.proofs.Promise.{askedOf, askSpec}
-use Rattle.script.proofs.Promise.{Filled, filled, beforeFeed, kept, appended, answerLine, closingLine, feed-bound, length-kept, append-nothing}
+use Rattle.script.proofs.Promise.{Filled, filled, beforeFeed, kept, appended, answerLine, closingLine, feed-bound, length-kept, append-nothing, front, added-bound}
 use Rattle.trace.specs.declared.session.Stage.{Stage}
 use Rattle.trace.specs.declared.session.Stage.the-variants.{First, Later, Over}
-use Rattle.trace.specs.Session.{Replay, answerOf, lineAnswer, spoken, endAt}
+use Rattle.trace.specs.Session.{Replay, answerOf, lineAnswer, lineOut, spoken, endAt, endOut}
 use Rattle.trace.proofs.SessionLaws.{counted}
-use Rattle.trace.specs.Stream.{Stream, streamOf, lineDone, advanced}
+use Rattle.trace.specs.Stream.{Stream, streamOf, lineDone, advanced, inputDone, closed, finished}
 
 -- ---- what is written
 
@@ -58,7 +58,7 @@ module _ (rest : List ℕ) {n : ℕ} (e : n ≡ beforeFeed rest) where
   pub before-length : n ≡ length (take n rest)
   before-length = sym (length-take-le n rest (omega (arith, feed-bound rest)))
 
-  pub before-less : (n ≡ length rest → ⊥) → n < length rest
+  pub before-less : (n ≡ length rest → ⊥) → n + 1 ≤ length rest
   before-less h = omega (arith, feed-bound rest)
 
   pub kept-length : (room : List ℕ) (len : ℕ) {k : Filled} → k ≡ kept room len (take n rest) → length (k .room) ≡ length room
@@ -73,19 +73,57 @@ module _ (rest : List ℕ) {n : ℕ} (e : n ≡ beforeFeed rest) where
     unfolding advanced
     advance-line h g = rw (g, ← e, ne-eqb n (length rest) h, ← f)
 
--- ---- how far a block is read
+-- ---- how far a turn goes
 
 module _ (r : Replay) (line : Filled) (rest : List ℕ) (out : Filled) where
-  how-far : (advanced r line rest out .read ≤ length rest) × (0 < length rest → 0 < advanced r line rest out .read)
+  abbrev line-begun : Filled
+  line-begun = kept (line .room) (line .used) (take (beforeFeed rest) rest)
+
+  abbrev by : Bool → Stream
+  by b = pick b (streamOf r line-begun (beforeFeed rest) out) (lineDone r line-begun (beforeFeed rest + 1) out)
+
+  -- At least a byte is read of what is left of a block, and not more than all.
+  pub how-far : (advanced r line rest out .read ≤ length rest) × (0 < length rest → 0 < advanced r line rest out .read)
   unfolding advanced lineDone
   how-far = go (eqb (beforeFeed rest) (length rest)) refl
     where
-      go : (b : Bool) → eqb (beforeFeed rest) (length rest) ≡ b → (pick b (streamOf r (kept (line .room) (line .used) (take (beforeFeed rest) rest)) (beforeFeed rest) out) (lineDone r (kept (line .room) (line .used) (take (beforeFeed rest) rest)) (beforeFeed rest + 1) out) .read ≤ length rest) × (0 < length rest → 0 < pick b (streamOf r (kept (line .room) (line .used) (take (beforeFeed rest) rest)) (beforeFeed rest) out) (lineDone r (kept (line .room) (line .used) (take (beforeFeed rest) rest)) (beforeFeed rest + 1) out) .read)
+      go : (b : Bool) → eqb (beforeFeed rest) (length rest) ≡ b → (by b .read ≤ length rest) × (0 < length rest → 0 < by b .read)
       go true e = let h = eqb-true (beforeFeed rest) (length rest) e in (omega arith, λ k. omega arith)
       go false e = let h = eqb-false (beforeFeed rest) (length rest) e in (omega (arith, feed-bound rest), λ k. omega arith)
 
-  pub read-bound : {s : Stream} → s ≡ advanced r line rest out → s .read ≤ length rest
-  read-bound e = rw e (how-far .0)
+  -- The output room is large enough for what is in use of it.
+  pub out-within : out .used ≤ length (out .room) → advanced r line rest out .out .used ≤ length (advanced r line rest out .out .room)
+  unfolding advanced lineDone
+  out-within h = go (eqb (beforeFeed rest) (length rest))
+    where
+      go : (b : Bool) → by b .out .used ≤ length (by b .out .room)
+      go true = h
+      go false = added-bound out (lineOut (lineAnswer r (front line-begun))) h
 
-  pub read-some : {s : Stream} → s ≡ advanced r line rest out → 0 < length rest → 0 < s .read
-  read-some e = rw e (how-far .1)
+-- ---- the end of input
+
+module _ (r : Replay) (room : List ℕ) (len : ℕ) (out : List ℕ) where
+  pub input-none : len ≡ 0 → streamOf r (filled room 0) 0 (filled out 0) ≡ inputDone r (filled room len) out
+  unfolding inputDone
+  input-none e = rw (e)
+
+  pub input-line : (len ≡ 0 → ⊥) → lineDone r (filled room len) 0 (filled out 0) ≡ inputDone r (filled room len) out
+  unfolding inputDone
+  input-line h = rw (ne-eqb len 0 h)
+
+  pub finish-with : {s : Stream} {o : Filled} → s ≡ inputDone r (filled room len) out
+      → o ≡ appended (s .out .room) (s .out .used) (endAt (s .replay .stage) (s .replay .world .channels .state) (s .replay .world .rooms .map))
+      → streamOf (s .replay) (s .line) (s .read) o ≡ finished r (filled room len) out
+  unfolding finished
+  finish-with e f = rw (f, e)
+
+pub finish-within : (r : Replay) (line : Filled) (out : List ℕ) → finished r line out .out .used ≤ length (finished r line out .out .room)
+unfolding finished inputDone lineDone
+finish-within r line out = go (eqb (line .used) 0)
+  where
+    done : Bool → Stream
+    done b = pick b (streamOf r line 0 (filled out 0)) (lineDone r line 0 (filled out 0))
+
+    go : (b : Bool) → closed (done b) .out .used ≤ length (closed (done b) .out .room)
+    go true = added-bound (filled out 0) (endOut r) (omega arith)
+    go false = added-bound (done false .out) (endOut (done false .replay)) (added-bound (filled out 0) (lineOut (lineAnswer r (front line))) (omega arith))

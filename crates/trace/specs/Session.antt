@@ -9,9 +9,10 @@ use Rattle.hash.proofs.Promise.{words}
 use Rattle.store.specs.declared.calls.Order.{Order}
 use Rattle.wire.proofs.Promise.{be32, be64}
 use Rattle.channel.specs.declared.state.State.{State}
-use Rattle.channel.proofs.Promise.{World, Out, startSpec, takeSpec, askSpec}
+use Rattle.channel.proofs.Promise.{World, worldOf, Out, startSpec, takeSpec, askSpec}
 use Rattle.script.proofs.Promise.{isFrame, decoded, answerLine, closingLine}
 use Rattle.trace.specs.Limits.{lengthMax, orderDigits, orderSize, digitsMin, digitsMax}
+use Rattle.trace.specs.declared.session.Session.{Session}
 use Rattle.trace.specs.declared.session.Stage.{Stage}
 use Rattle.trace.specs.declared.session.Stage.the-variants.{First, Later, Over}
 
@@ -23,6 +24,11 @@ pub record Replay : Type 0 where
 
 abbrev pub replayOf : World → ℕ → Stage → Replay
 replayOf w id stage = record { world = w; id = id; stage = stage }
+
+-- A session of the code, with its rooms.
+abbrev pub replayIn : Session → (chunks map hashes trusted has wants reply : List ℕ) → Replay
+replayIn s chunks map hashes trusted has wants reply =
+    replayOf (worldOf (s .state) chunks map hashes trusted has wants reply) (s .id) (s .stage)
 
 -- What a line gives: the replay after it, whether nothing is written, and else the number and the length of the reply.
 pub record Answer : Type 0 where

@@ -1,16 +1,12 @@
 // The lines of the blocks that input comes in, and what is written for them.
 ghost use mathlib.Core.Path.{_≡_};
-ghost use Prim.Native.Nat.{_+_, _<_};
+ghost use Prim.Native.Nat.{_+_, _≤_};
 ghost use lib.ListN.{length, take};
-ghost use Rattle.channel.proofs.Promise.{worldOf};
 ghost use Rattle.script.proofs.Promise.{filled, appended};
-ghost use Rattle.trace.specs.Session.{replayOf, spoken, endAt};
-ghost use Rattle.trace.specs.Stream.{streamOf, lineDone, advanced};
+ghost use Rattle.trace.specs.Session.{replayIn, spoken};
+ghost use Rattle.trace.specs.Stream.{streamOf, lineDone, advanced, goesOn, answerLines};
 use crate::session;
 use crate::session::Session;
-use crate::session::Stage;
-use channel::asking;
-use channel::state::State;
 use script::answers;
 use script::lines;
 
@@ -23,6 +19,8 @@ pub struct Progress {
     pub used: usize,
 }
 
+// ---- one line
+
 // Adds the line of an answer to the output room.
 fn put_answer(
     out: &mut [u8],
@@ -32,7 +30,9 @@ fn put_answer(
     reply: &[u8],
     len: usize,
 ) -> usize
-    ensures { λ r. ⌜ filled (now (out .exit)) r ≡ appended (now (out .entry)) used (spoken silent number (take len (now (reply .entry)))) ⌝ }
+    ensures { λ r. ⌜
+        filled (now (out .exit)) r
+        ≡ appended (now (out .entry)) used (spoken silent number (take len (now (reply .entry)))) ⌝ }
 {
     if silent {
         return used;
@@ -41,7 +41,7 @@ fn put_answer(
 }
 
 // Answers the line in a room.
-fn end_line(
+pub(crate) fn end_line(
     session: Session,
     chunks: &mut [u8],
     map: &mut [u32],
@@ -56,7 +56,15 @@ fn end_line(
     used: usize,
     read: usize,
 ) -> Progress
-    ensures { λ r. ⌜ streamOf (replayOf (worldOf (r .session .state) (now (chunks .exit)) (now (map .exit)) (now (hashes .exit)) (now (trusted .exit)) (now (has .exit)) (now (wants .exit)) (now (reply .exit))) (r .session .id) (r .session .stage)) (filled (now (line .entry)) (r .len)) (r .read) (filled (now (out .exit)) (r .used)) ≡ lineDone (replayOf (worldOf (session .state) (now (chunks .entry)) (now (map .entry)) (now (hashes .entry)) (now (trusted .entry)) (now (has .entry)) (now (wants .entry)) (now (reply .entry))) (session .id) (session .stage)) (filled (now (line .entry)) len) read (filled (now (out .entry)) used) ⌝ }
+    ensures { λ r. ⌜
+        streamOf
+        (replayIn (r .session) (now (chunks .exit)) (now (map .exit)) (now (hashes .exit)) (now (trusted .exit))
+        (now (has .exit)) (now (wants .exit)) (now (reply .exit)))
+        (filled (now (line .entry)) (r .len)) (r .read) (filled (now (out .exit)) (r .used))
+        ≡ lineDone
+        (replayIn session (now (chunks .entry)) (now (map .entry)) (now (hashes .entry)) (now (trusted .entry))
+        (now (has .entry)) (now (wants .entry)) (now (reply .entry)))
+        (filled (now (line .entry)) len) read (filled (now (out .entry)) used) ⌝ }
 {
     let n = lines::least(len, line.len());
     let answered = session::answer(
@@ -86,16 +94,16 @@ fn end_line(
     }
 }
 
-// The place behind a place of a block.
-fn behind(at: usize, block: &[u8]) -> usize
-    requires { ⌜ at < length (now block) ⌝ }
-    ensures { λ r. ⌜ r ≡ at + 1 ⌝ }
+// The place n bytes behind a place of a block.
+fn behind(at: usize, n: usize, block: &[u8]) -> usize
+    requires { ⌜ at + n ≤ length (now block) ⌝ }
+    ensures { λ r. ⌜ r ≡ at + n ⌝ }
 {
-    at + 1
+    at + n
 }
 
 // Reads what is left of a block, up to and with its first line feed, and answers the line that ends there.
-pub fn advance(
+fn advance(
     session: Session,
     chunks: &mut [u8],
     map: &mut [u32],
@@ -110,7 +118,15 @@ pub fn advance(
     out: &mut [u8],
     used: usize,
 ) -> Progress
-    ensures { λ r. ⌜ streamOf (replayOf (worldOf (r .session .state) (now (chunks .exit)) (now (map .exit)) (now (hashes .exit)) (now (trusted .exit)) (now (has .exit)) (now (wants .exit)) (now (reply .exit))) (r .session .id) (r .session .stage)) (filled (now (line .exit)) (r .len)) (r .read) (filled (now (out .exit)) (r .used)) ≡ advanced (replayOf (worldOf (session .state) (now (chunks .entry)) (now (map .entry)) (now (hashes .entry)) (now (trusted .entry)) (now (has .entry)) (now (wants .entry)) (now (reply .entry))) (session .id) (session .stage)) (filled (now (line .entry)) len) (now (rest .entry)) (filled (now (out .entry)) used) ⌝ }
+    ensures { λ r. ⌜
+        streamOf
+        (replayIn (r .session) (now (chunks .exit)) (now (map .exit)) (now (hashes .exit)) (now (trusted .exit))
+        (now (has .exit)) (now (wants .exit)) (now (reply .exit)))
+        (filled (now (line .exit)) (r .len)) (r .read) (filled (now (out .exit)) (r .used))
+        ≡ advanced
+        (replayIn session (now (chunks .entry)) (now (map .entry)) (now (hashes .entry)) (now (trusted .entry))
+        (now (has .entry)) (now (wants .entry)) (now (reply .entry)))
+        (filled (now (line .entry)) len) (now (rest .entry)) (filled (now (out .entry)) used) ⌝ }
 {
     let n = lines::before_feed(rest);
     let kept = lines::keep(line, len, &rest[..n]);
@@ -122,7 +138,7 @@ pub fn advance(
             used,
         };
     }
-    let next = behind(n, rest);
+    let next = behind(n, 1, rest);
     end_line(
         session,
         chunks,
@@ -140,19 +156,73 @@ pub fn advance(
     )
 }
 
-// Adds what stands at the end of the output.
-pub fn finish(out: &mut [u8], used: usize, stage: Stage, state: State, map: &[u32]) -> usize
-    ensures { λ r. ⌜ filled (now (out .exit)) r ≡ appended (now (out .entry)) used (endAt stage state (now (map .entry))) ⌝ }
+// ---- the lines of a block
+
+// Whether another turn is made: something is left of a block of this length, and the line of an answer with any reply fits
+// behind what is to be written.
+fn goes_on(block: usize, read: usize, room: usize, used: usize, reply: usize) -> bool
+    ensures { λ r. ⌜ r ≡ goesOn block read room used reply ⌝ }
 {
-    match stage {
-        Stage::First => {
-            let none = [0u8; 1];
-            answers::answer_line(out, used, 12, &none, 0)
-        }
-        Stage::Later => {
-            let asked = asking::ask(state, map);
-            answers::closing_line(out, used, asked.whole, asked.held)
-        }
-        Stage::Over => used,
+    if read < block {
+        return answers::fits(room, used, reply);
+    }
+    false
+}
+
+// Answers the lines of a block from the front of an output room on, as many as fit there.
+pub fn answer_lines(
+    session: Session,
+    chunks: &mut [u8],
+    map: &mut [u32],
+    hashes: &mut [u32],
+    trusted: &mut [u32],
+    has: &mut [u32],
+    wants: &mut [u32],
+    reply: &mut [u8],
+    line: &mut [u8],
+    len: usize,
+    block: &[u8],
+    out: &mut [u8],
+) -> Progress
+    ensures { λ r. ⌜
+        streamOf
+        (replayIn (r .session) (now (chunks .exit)) (now (map .exit)) (now (hashes .exit)) (now (trusted .exit))
+        (now (has .exit)) (now (wants .exit)) (now (reply .exit)))
+        (filled (now (line .exit)) (r .len)) (r .read) (filled (now (out .exit)) (r .used))
+        ≡ answerLines
+        (replayIn session (now (chunks .entry)) (now (map .entry)) (now (hashes .entry)) (now (trusted .entry))
+        (now (has .entry)) (now (wants .entry)) (now (reply .entry)))
+        (filled (now (line .entry)) len) (now (block .entry)) (now (out .entry)) ⌝ }
+{
+    let mut current = session;
+    let mut kept = len;
+    let mut read: usize = 0;
+    let mut used: usize = 0;
+    while goes_on(block.len(), read, out.len(), used, reply.len()) {
+        let p = advance(
+            current,
+            chunks,
+            map,
+            hashes,
+            trusted,
+            has,
+            wants,
+            reply,
+            line,
+            kept,
+            &block[read..],
+            out,
+            used,
+        );
+        current = p.session;
+        kept = p.len;
+        read = behind(read, p.read, block);
+        used = p.used;
+    }
+    Progress {
+        session: current,
+        len: kept,
+        read,
+        used,
     }
 }
