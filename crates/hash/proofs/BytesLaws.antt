@@ -17,10 +17,20 @@ length-words zero s = refl
 length-words (suc n) s = ap suc (length-words n (drop 4 s))
 
 pub length-bytes : (w : List ℕ) → length (bytesOf w) ≡ 4 * length w
+unfolding bytesOf
 length-bytes [] = refl
 length-bytes (x ∷ w) = omega (arith, length-bytes w)
 
+-- zero words, zero bytes
+pub bytes-zeros : (n : ℕ) → bytesOf (replicate n 0) ≡ replicate (4 * n) 0
+unfolding bytesOf
+bytes-zeros zero = refl
+bytes-zeros (suc n) =
+    let e : 4 * suc n ≡ suc (suc (suc (suc (4 * n)))) = omega arith in
+    rw (e, bytes-zeros n)
+
 pub bytes-append : (u v : List ℕ) → bytesOf (u ++ v) ≡ bytesOf u ++ bytesOf v
+unfolding bytesOf
 bytes-append [] v = refl
 bytes-append (x ∷ u) v = ap (λ (l : List ℕ). be 4 x ++ l) (bytes-append u v)
 
@@ -101,6 +111,7 @@ abbrev pub written : ℕ → ℕ → List ℕ → List ℕ
 written n i w = bytesOf (take i w) ++ replicate (4 * n - 4 * i) 0
 
 written-more : (w : List ℕ) (i : ℕ) → i < length w → bytesOf (take (suc i) w) ≡ bytesOf (take i w) ++ be 4 (getD w i 0)
+unfolding bytesOf
 written-more w i h = rw (take-suc w i 0 h, bytes-append (take i w) (getD w i 0 ∷ []))
 
 pub written-long : (n i : ℕ) (w r : List ℕ) → i ≤ n → length w ≡ n → r ≡ written n i w → length r ≡ 4 * n
@@ -158,7 +169,7 @@ word-bytes x s h = value-is x h
 
 -- The words of the bytes of words.
 pub words-bytes : (w : List ℕ) → Words w → words (length w) (bytesOf w) ≡ w
-unfolding words
+unfolding words bytesOf
 words-bytes [] h = refl
 words-bytes (x ∷ w) h = rw (word-bytes x (bytesOf w) (h 0), words-bytes w (λ i. h (suc i)))
 
@@ -194,7 +205,7 @@ value-bytes a b c d j k l m =
 
 -- The bytes of the words of bytes.
 pub bytes-words : (n : ℕ) (s : List ℕ) → Bytes s → 4 * n ≤ length s → bytesOf (words n s) ≡ take (4 * n) s
-unfolding words word32
+unfolding words word32 bytesOf
 bytes-words zero s h l = refl
 bytes-words (suc n) [] h l = absurd (omega arith)
 bytes-words (suc n) (a ∷ []) h l = absurd (omega arith)
@@ -206,6 +217,7 @@ bytes-words (suc n) (a ∷ b ∷ c ∷ d ∷ s) h l =
 
 -- Bytes are below 256.
 pub bytes-below : (w : List ℕ) → Bytes (bytesOf w)
+unfolding bytesOf
 bytes-below [] i = omega arith
 bytes-below (x ∷ w) zero = omega arith
 bytes-below (x ∷ w) (suc zero) = omega arith

@@ -1,9 +1,9 @@
--- What the crates above know of this one: these laws, and of its definitions the names passed on here, unopened.
--- Assumes nothing.
+-- What the crates above know of this one: these laws, and of its definitions the names passed on here. `Words`, `Bytes` and
+-- `H0` are short for what they stand for; the others stay shut, and only the laws below say what they are. Assumes nothing.
 use mathlib.Core.Path.{_≡_, refl, sym, ap, _∙_}
 use mathlib.Core.List.{List, _++_}
 use Prim.Native.Nat.{ℕ, zero, suc, _*_, _/_, _≤_}
-use lib.ListN.{length, take}
+use lib.ListN.{length, take, replicate}
 use Rattle.hash.specs.Block.{sums, mixed, compressed}
 use Rattle.hash.specs.Message.{padded, hashed}
 use Rattle.hash.specs.Sha256.{sha256-is}
@@ -40,6 +40,10 @@ sha256-bytes m i = rw (sha256-is m) (bytes.bytes-below (hashed m) i)
 -- A hash value has four bytes a word.
 pub bytes-length : (w : List ℕ) → length (bytesOf w) ≡ 4 * length w
 bytes-length = bytes.length-bytes
+
+-- Of zero words they are zeros.
+pub bytes-zeros : (n : ℕ) → bytesOf (replicate n 0) ≡ replicate (4 * n) 0
+bytes-zeros = bytes.bytes-zeros
 
 -- They are bytes.
 pub bytes-below : (w : List ℕ) → Bytes (bytesOf w)

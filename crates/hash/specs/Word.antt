@@ -28,7 +28,7 @@ be zero x = []
 be (suc n) x = x / 2 ^ (8 * n) % 2 ^ 8 ∷ be n x
 
 -- 3.1: the bytes of a list of words.
-abbrev pub bytesOf : List ℕ → List ℕ
+unfoldable pub bytesOf : List ℕ → List ℕ
 bytesOf [] = []
 bytesOf (x ∷ w) = be 4 x ++ bytesOf w
 

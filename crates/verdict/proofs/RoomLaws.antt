@@ -10,7 +10,7 @@ use borrow.Author.Tests.{lt-ltb, le-ltb}
 use lib.Dec.{ltb}
 use lib.ListN.{length, take, getD, set, length-set, replicate, length-append}
 use lib.Seq.{sets, length-sets, getD-set-same, getD-set-other, take-length, append-snoc, getD-append-seam}
-use Rattle.hash.proofs.Promise.{sha256, bytesOf, words, Words, sha256-length, sha256-bytes, bytes-length, bytes-below, words-length, words-bytes, bytes-words}
+use Rattle.hash.proofs.Promise.{sha256, bytesOf, words, Words, sha256-length, sha256-bytes, bytes-length, bytes-zeros, bytes-below, words-length, words-bytes, bytes-words}
 use Rattle.base.specs.Pick.{pick}
 use Rattle.verdict.specs.Room.{filler, Digest, wordsAt, holds, hashIn, putHash}
 use Rattle.tree.proofs.NodeLaws.{split}
@@ -67,7 +67,7 @@ digest-words w e = (bytes-below w, bytes-length w ∙ ap (λ (n : ℕ). 4 * n) e
 
 pub digest-filler : Digest filler
 unfolding Digest filler
-digest-filler = digest-words (replicate 8 0) refl
+digest-filler = rw (bytes-zeros 8) at (digest-words (replicate 8 0) refl)
 
 pub digest-hash : (m : List ℕ) → Digest (sha256 m)
 unfolding Digest

@@ -2,6 +2,7 @@ use Prim.Native.Nat.{_≤_, _-_}
 use mathlib.Core.Path.{_≡_, refl, sym}
 use native.Mathlib.Omega.{arith}
 use lib.ListN.{length}
+use Rattle.hash.specs.Word.{bytesOf}
 use Rattle.hash.proofs.BytesLaws.{written, written-long, write-law, write-end}
 use borrow.Author.Needs.{needs}
 use Rattle.hash.proofs.value.bytes.Statement.{statement}
@@ -17,6 +18,7 @@ long : (c : tie.Start Inv-loop μ-loop) → length (c .args .t1 .words) ≡ 8
 long c = search needs
 
 loop-holds : tie.Need-loop-holds Inv-loop μ-loop
+unfolding bytesOf
 loop-holds c = (omega arith, refl)
 
 mul-x : tie.Need-mul-x Inv-loop μ-loop
