@@ -51,6 +51,13 @@ pub data-size : (c x b n : ℕ) → sizeOf (Data c c x b n) ≡ 17 + n
 unfolding sizeOf
 data-size c x b n = refl
 
+-- Each fits behind the destination in a room for a datagram.
+pub handshake-puts : (k n s a : ℕ) → k ≡ minSize → maxSize ≤ n → s ≡ 32 → (k + sizeOf (Handshake a (Fixed 0)) ≤ n) × (writable s (Handshake a (Fixed 0)) ≡ true)
+handshake-puts k n s a e h l = (omega (arith, handshake-size a 0), handshake-writable s a l)
+
+pub ack-puts : (k n s f l d : ℕ) → k ≡ minSize → maxSize ≤ n → (k + sizeOf (Ack f l d) ≤ n) × (writable s (Ack f l d) ≡ true)
+ack-puts k n s f l d e h = (omega (arith, ack-size f l d), ack-writable s f l d)
+
 -- ---- the replies
 
 module _ (room : List ℕ) (to : ℕ) (large : maxSize ≤ length room) {a k : ℕ} {m : List ℕ} (begins : writtenOf a k m ≡ beginSpec room to) where

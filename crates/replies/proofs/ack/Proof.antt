@@ -1,7 +1,7 @@
 use native.Mathlib.Omega.{arith}
 use borrow.Author.Needs.{needs}
 use Rattle.replies.proofs.DatagramLaws.{begun}
-use Rattle.replies.proofs.ReplyLaws.{ack-writable, ack-size, ack-done}
+use Rattle.replies.proofs.ReplyLaws.{ack-puts, ack-done}
 use Rattle.replies.proofs.ack.Statement.{statement}
 use Rattle.replies.proofs.ack.Tie as tie
 
@@ -15,7 +15,7 @@ put-message-requires : tie.Need-put-message-requires
 put-message-requires c κs =
     let b = c .before .before .before .before in
     let a = b .before .before .before in
-    (omega (arith, begun _ _ (a .pre) (b .begin .ensures) .0, b .begin .kept, ack-size (a .args .first) (a .args .last) (a .args .delay)), ack-writable 0 _ _ _)
+    ack-puts _ _ _ _ _ _ (begun _ _ (a .pre) (b .begin .ensures) .0) (omega (arith, a .pre, b .begin .kept))
 
 same-length : tie.Need-same-length
 same-length c = search needs

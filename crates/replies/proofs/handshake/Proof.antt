@@ -1,7 +1,7 @@
 use native.Mathlib.Omega.{arith}
 use borrow.Author.Needs.{needs}
 use Rattle.replies.proofs.DatagramLaws.{begun}
-use Rattle.replies.proofs.ReplyLaws.{handshake-writable, handshake-size, handshake-done}
+use Rattle.replies.proofs.ReplyLaws.{handshake-puts, handshake-done}
 use Rattle.replies.proofs.handshake.Statement.{statement}
 use Rattle.replies.proofs.handshake.Tie as tie
 
@@ -18,7 +18,7 @@ put-message-requires : tie.Need-put-message-requires
 put-message-requires c κs =
     let b = c .before .before .before .before in
     let a = b .before .before .before .before in
-    (omega (arith, begun _ _ (a .pre) (b .begin .ensures) .0, b .begin .kept, handshake-size (a .args .source) 0), handshake-writable _ _ (search needs))
+    handshake-puts _ _ _ _ (begun _ _ (a .pre) (b .begin .ensures) .0) (omega (arith, a .pre, b .begin .kept)) (search needs)
 
 same-length : tie.Need-same-length
 same-length c = search needs
