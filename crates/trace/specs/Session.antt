@@ -79,9 +79,9 @@ opened answer s = pick (eqb answer 0) (pick (leb 4 (length s)) (eqb (be32 s 0) 0
 unfoldable pub nextId : (id answer : ℕ) → List ℕ → ℕ
 nextId id answer s = pick (opened answer s) ((id + 1) % 2 ^ 32) id
 
--- By what taking in the datagram s gives. Every number is under 256.
+-- By what taking in the datagram s gives.
 abbrev pub takenBy : Replay → List ℕ → Out World → Answer
-takenBy r s out = answerOf (replayOf (out .after) (nextId (r .id) (out .answer) s) Later) false (out .answer % 256) (out .len)
+takenBy r s out = answerOf (replayOf (out .after) (nextId (r .id) (out .answer) s) Later) false (out .answer) (out .len)
 
 -- "Each later line is a 64-bit clock then a datagram".
 unfoldable pub frameTaken : Replay → List ℕ → Answer

@@ -189,6 +189,7 @@ fn take(
         id,
         datagram,
     );
+    let number = out.answer as u8;
     let after = out.state;
     Answered {
         session: Session {
@@ -197,7 +198,7 @@ fn take(
             stage: Stage::Later,
         },
         silent: false,
-        number: (out.answer % 256) as u8,
+        number,
         len: out.len,
     }
 }

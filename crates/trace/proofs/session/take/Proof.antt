@@ -1,4 +1,4 @@
-use Rattle.trace.proofs.SessionLaws.{part, took}
+use Rattle.trace.proofs.SessionLaws.{part, taken-byte, took}
 use borrow.Author.Needs.{needs}
 use Rattle.trace.proofs.session.take.Statement.{statement}
 use Rattle.trace.proofs.session.take.Tie as tie
@@ -18,11 +18,11 @@ part-datagram-end c = search needs
 take-requires : tie.Need-take-requires
 take-requires c κs = search needs
 
+cast-number : tie.Need-cast-number
+cast-number c = record { fits = taken-byte _ _ _ _ (c .before .before .before .before .before .before .before .before .before .before .before .before .before .before .before .take .ensures) }
+
 next-id-requires : tie.Need-next-id-requires
 next-id-requires c κs = search needs
-
-cast-t37 : tie.Need-cast-t37
-cast-t37 c = search needs
 
 same-length : tie.Need-same-length
 same-length c = search needs
@@ -46,7 +46,7 @@ same-length-7 : tie.Need-same-length-7
 same-length-7 c = search needs
 
 returns : tie.Need-returns
-returns c = took _ _ _ (c .before .before .before .before .before .before .before .before .before .before .before .before .before .before .before .before .before .before .before .before .before .before .before .before .before .before .before .load64 .ensures) (part 8 (c .before .before .before .before .before .before .before .before .before .before .before .before .before .before .before .before .before .before .before .before .before .before .before .before .before .before .before .before .before .before .before .before .before .before .before .before .args .frame .now)) (c .before .before .before .before .before .before .before .before .before .before .before .before .before .before .before .before .before .take .ensures) (c .before .next-id .ensures)
+returns c = took _ _ _ (c .before .before .before .before .before .before .before .before .before .before .before .before .before .before .before .before .before .before .before .before .before .before .before .before .before .before .before .load64 .ensures) (part 8 (c .before .before .before .before .before .before .before .before .before .before .before .before .before .before .before .before .before .before .before .before .before .before .before .before .before .before .before .before .before .before .before .before .before .before .before .before .args .frame .now)) (c .before .before .before .before .before .before .before .before .before .before .before .before .before .before .before .before .before .take .ensures) (c .next-id .ensures)
 
 pub take-spec : {M : Type 1} → statement M
 take-spec =
@@ -57,8 +57,8 @@ take-spec =
     part-datagram-start
     part-datagram-end
     take-requires
+    cast-number
     next-id-requires
-    cast-t37
     same-length
     same-length-2
     same-length-3
