@@ -19,6 +19,11 @@ hasLength least most len = pick (ltb len least) false (pick (ltb most len) false
 unfoldable pub isFrame : (least most : ℕ) → List ℕ → Bool
 isFrame least most line = pick (hasLength least most (length line)) (allDigits line) false
 
+-- The number of each case: "A line with another character, odd length, under 16 or over 4,112 digits: `0f`".
+abbrev pub frameNumber : Frame → ℕ
+frameNumber (Bytes len) = 0
+frameNumber Bad = 15
+
 -- What reading gives, and the room afterwards.
 pub record Framed : Type 0 where
   pub frame : Frame

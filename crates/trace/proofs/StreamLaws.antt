@@ -14,7 +14,7 @@ use Rattle.channel.proofs.Promise.{askedOf, askSpec}
 use Rattle.script.proofs.Promise.{Filled, filled, beforeFeed, kept, appended, answerLine, closingLine, feed-bound, length-kept, append-nothing, front, added-bound}
 use Rattle.trace.specs.declared.session.Stage.{Stage}
 use Rattle.trace.specs.declared.session.Stage.the-variants.{First, Later, Over}
-use Rattle.trace.specs.Session.{Replay, answerOf, lineAnswer, lineOut, spoken, endAt, endOut}
+use Rattle.trace.specs.Session.{Replay, answerOf, stageNumber, lineAnswer, lineOut, spoken, endAt, endOut}
 use Rattle.trace.proofs.SessionLaws.{counted}
 use Rattle.trace.specs.Stream.{Stream, streamOf, lineDone, advanced, inputDone, closed, finished}
 
@@ -30,7 +30,7 @@ module _ (room : List ℕ) (used number : ℕ) (reply : List ℕ) {silent : Bool
   say e = rw e
 
 module _ (room : List ℕ) (used : ℕ) (st : State) (map : List ℕ) {stage : Stage} where
-  pub end-first : stage ≡ First → appended room used (answerLine 12 []) ≡ appended room used (endAt stage st map)
+  pub end-first : stage ≡ First → appended room used (answerLine (stageNumber First) []) ≡ appended room used (endAt stage st map)
   unfolding endAt
   end-first e = rw e
 

@@ -10,7 +10,8 @@ use Rattle.store.specs.declared.calls.Order.{Order}
 use Rattle.wire.proofs.Promise.{be32, be64}
 use Rattle.channel.specs.declared.state.State.{State}
 use Rattle.channel.proofs.Promise.{World, worldOf, Out, startSpec, takeSpec, askSpec}
-use Rattle.script.proofs.Promise.{isFrame, decoded, answerLine, closingLine}
+use Rattle.script.specs.declared.frames.Frame.the-variants.{Bad}
+use Rattle.script.proofs.Promise.{isFrame, frameNumber, decoded, answerLine, closingLine}
 use Rattle.trace.specs.Limits.{lengthMax, orderDigits, orderSize, digitsMin, digitsMax}
 use Rattle.trace.specs.declared.session.Session.{Session}
 use Rattle.trace.specs.declared.session.Stage.{Stage}
@@ -40,6 +41,12 @@ pub record Answer : Type 0 where
 abbrev pub answerOf : Replay → Bool → ℕ → ℕ → Answer
 answerOf r silent number len = record { after = r; silent = silent; number = number; len = len }
 
+-- The number of each stage, where the input ends or once line one is there: "A missing or bad first line ..: `0c`".
+abbrev pub stageNumber : Stage → ℕ
+stageNumber First = 12
+stageNumber Later = 0
+stageNumber Over = 12
+
 -- ---- line one
 
 -- "Line one is root then L (32 bits)": an order by its bytes.
@@ -62,8 +69,8 @@ orderOf line = pick (isFrame orderDigits orderDigits line) (limited (orderIn (de
 abbrev pub startedBy : Replay → Out World → Answer
 startedBy r out =
     pick (eqb (out .answer) 0)
-    (answerOf (replayOf (out .after) (r .id) Later) true 0 0)
-    (answerOf (replayOf (out .after) (r .id) Over) false 12 0)
+    (answerOf (replayOf (out .after) (r .id) Later) true (stageNumber Later) 0)
+    (answerOf (replayOf (out .after) (r .id) Over) false (stageNumber Over) 0)
 
 -- "A missing or bad first line (not 72 hexadecimal digits, L 0 or over 32,768): `0c` and nothing more".
 unfoldable pub firstLine : Replay → List ℕ → Answer
@@ -89,7 +96,7 @@ frameTaken r f = takenBy r (drop 8 f) (takeSpec (r .world) (be64 f 0) (r .id) (d
 
 -- "A line with another character, odd length, under 16 or over 4,112 digits: `0f`".
 unfoldable pub laterLine : Replay → List ℕ → Answer
-laterLine r line = pick (isFrame digitsMin digitsMax line) (frameTaken r (decoded line)) (answerOf r false 15 0)
+laterLine r line = pick (isFrame digitsMin digitsMax line) (frameTaken r (decoded line)) (answerOf r false (frameNumber Bad) 0)
 
 -- ---- any line
 
@@ -117,7 +124,7 @@ closingOf st map = closingLine (askSpec st map .whole) (askSpec st map .held)
 
 -- "at the end `ff` if whole or `f0`, then the held count"; `0c` where line one is missing.
 unfoldable pub endAt : Stage → State → (map : List ℕ) → List ℕ
-endAt First st map = answerLine 12 []
+endAt First st map = answerLine (stageNumber First) []
 endAt Later st map = closingOf st map
 endAt Over st map = []
 

@@ -3,6 +3,7 @@ ghost use mathlib.Core.Path.{_≡_};
 ghost use Rattle.script.proofs.Promise.{filled, appended};
 ghost use Rattle.trace.specs.Session.{replayIn, endAt};
 ghost use Rattle.trace.specs.Stream.{streamOf, inputDone, finished};
+use crate::limits::BAD_FIRST;
 use crate::session::Session;
 use crate::session::Stage;
 use crate::stream;
@@ -68,7 +69,7 @@ fn put_end(out: &mut [u8], used: usize, stage: Stage, state: State, map: &[u32])
     match stage {
         Stage::First => {
             let none = [0u8; 1];
-            answers::answer_line(out, used, 12, &none, 0)
+            answers::answer_line(out, used, BAD_FIRST, &none, 0)
         }
         Stage::Later => {
             let asked = asking::ask(state, map);

@@ -7,6 +7,8 @@ ghost use Rattle.table.proofs.Promise.{freeTable};
 ghost use Rattle.channel.proofs.Promise.{worldOf};
 ghost use Rattle.trace.specs.declared.session.Stage.the-variants.{First};
 ghost use Rattle.trace.specs.Session.{replayOf, answerOf, orderIn, limited, orderOf, firstLine, nextId, frameTaken, laterLine, lineAnswer};
+use crate::limits::BAD_FIRST;
+use crate::limits::BAD_LINE;
 use crate::limits::DIGITS_MAX;
 use crate::limits::DIGITS_MIN;
 use crate::limits::FRAME_MAX;
@@ -134,7 +136,7 @@ fn first_line(
             stage: Stage::Over,
         },
         silent: false,
-        number: 12,
+        number: BAD_FIRST,
         len: 0,
     }
 }
@@ -233,7 +235,7 @@ fn later_line(
         Frame::Bad => Answered {
             session,
             silent: false,
-            number: 15,
+            number: BAD_LINE,
             len: 0,
         },
     }
