@@ -80,8 +80,8 @@ start-enough = shorter.start-enough
 pub build-enough : (w : World) (L : ℕ) (s : List ℕ) → lengthAnswer L ≡ 0 → length s ≡ L → EnoughFor L w → buildSpec w L s .answer ≡ 0
 build-enough = shorter.build-enough
 
--- After a start or a building that answered 0, no call of a list, lent a reply room of the least size, is refused with 11 or
--- 12: the rooms are those that the last call left, and stay as long as they are.
+-- After a start or a building that answered 0, no call of a list, lent a reply room of at least the least size, is refused with
+-- 11 or 12: its other rooms are the store's own, as the last call left them.
 pub never-short : (w : World) (ks : List Call) (k : Call) → FreshOrBuilt w → ReplyFits k → (answerTo (run w ks) k ≢ 11) × (answerTo (run w ks) k ≢ 12)
 never-short = suffice.never-short
 
@@ -117,7 +117,7 @@ write-state = shape.write-state
 
 -- ---- demand 2: "a datagram taken writes back to the same bytes"
 
--- Begin with its destination and add of the messages read from it, in a room of the least size, give exactly its bytes.
+-- Begin with its destination and add of the messages read from it, in a room of at least the least size, give exactly its bytes.
 pub taken-writes-back : (w : World) (clock id : ℕ) (s room : List ℕ) → AreBytes s → takeSpec w clock id s .answer ≡ 0 → maxSize ≤ length room
     → (writeAll room (be32 s 0) (readAll s) ≡ writtenOf 0 (length s) (placed room 0 s)) × (datagramOf (writeAll room (be32 s 0) (readAll s)) ≡ s)
 taken-writes-back = reading.taken-writes-back

@@ -86,7 +86,7 @@ reads-front room r to is h x = rw (front room r h) x
 
 module _ (w : World) (typed : Typed (w .channels .state)) where
   root-long : length (orderRoot (w .channels .state)) ≡ 32
-  root-long = bytes-length (w .channels .state .order .root .words) ∙ ap (λ (n : ℕ). 4 * n) (typed .root-words)
+  root-long = bytes-length (w .channels .state .order .root .words) ∙ ap (λ (n : ℕ). 4 * n) (typed .shaped .root-words)
 
   -- A length within the limit, and a reply room for a datagram.
   rooms-say : ownRoomsAnswer w ≡ 0 → (lengthAnswer (orderLength (w .channels .state)) ≡ 0) × (maxSize ≤ length (w .channels .reply))

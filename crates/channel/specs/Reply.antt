@@ -1,12 +1,12 @@
--- The replies that 01 names, as messages to a peer's channel (01, "Entry points"; "Datagrams", the effects; "Writing a
--- chunk"), and that a reply reads back as them (00, demand 2: "What is written reads back as the same messages"). Assumes
--- nothing.
+-- The replies that 01 names, as messages and the channel that they go to, 0 or the peer's (01, "Entry points"; "Datagrams",
+-- the effects; "Writing a chunk"), and that a reply reads back as them (00, demand 2: "What is written reads back as the same
+-- messages"). Assumes nothing.
 use Prim.Native.Nat.{ℕ, _<_, _^_}
 use mathlib.Core.Path.{_≡_}
 use mathlib.Core.List.{List}
 use mathlib.Core.Option.{Option, none, some}
 use lib.Dec.{eqb}
-use lib.ListN.{length, take}
+use lib.ListN.{take}
 use Rattle.base.specs.Pick.{pick}
 use Rattle.wire.proofs.Promise.{be32}
 use Rattle.wire.specs.declared.layout.Layout.{Layout}
@@ -16,10 +16,10 @@ use Rattle.replies.proofs.Promise.{handshakeItems, ackItems, chunkItems}
 use Rattle.table.proofs.Promise.{openRowOf, rowAt}
 use Rattle.store.proofs.Promise.{chunkIn}
 use Rattle.channel.specs.declared.state.State.{State}
-use Rattle.channel.specs.World.{World, Out, orderRoot, orderLength, chunkCount, tableRows}
+use Rattle.channel.specs.World.{World, Out, orderRoot, orderLength, chunkCount, tableRows, Shaped}
 use Rattle.channel.specs.Take.{rowFor, delay}
 
--- A reply: the channel of the peer that it goes to, and its messages.
+-- A reply: the channel that it goes to, and its messages.
 pub record Reply : Type 0 where
   pub to : ℕ
   pub items : List Item
@@ -55,7 +55,7 @@ abbrev pub Replies : Out World → Option Reply → Type 0
 Replies o none = o .len ≡ 0
 Replies o (some r) = Reads (leftIn o) (r .to) (r .items)
 
--- What its types say of a state's numbers: a root has eight words, and a peer's channel 32 bits.
+-- A state of which its shape says what its types do, and whose peers' channels have 32 bits.
 pub record Typed (st : State) : Type 0 where
-  pub root-words : length (st .order .root .words) ≡ 8
+  pub shaped : Shaped st
   pub peers-fit : (i : ℕ) → rowAt (tableRows st) i .peer < 2 ^ 32

@@ -6,7 +6,7 @@ use mathlib.Core.List.{List, [], _∷_}
 use lib.Dec.{ltb}
 use lib.ListN.{length}
 use Rattle.base.specs.Among.{among, OneOf}
-use Rattle.base.proofs.AmongLaws.{earlier-one}
+use Rattle.base.proofs.AmongLaws.{allAmong, earlier-one, one-of-more}
 use Rattle.bits.proofs.Promise.{countBits, rowWords}
 use Rattle.store.proofs.Promise.{refuse, lengthAnswer, countOf, length-numbered}
 use Rattle.held.specs.Held.{askNumber, countedUnless, heldSpec}
@@ -24,8 +24,8 @@ counted-one zero held N h = h
 counted-one (suc n) held N h = h
 
 pub ask-one : (L : ℕ) (map : List ℕ) → OneOf (0 ∷ 11 ∷ 12 ∷ []) (heldSpec L map .answer)
-unfolding heldSpec askNumber
+unfolding heldSpec askNumber among allAmong
 ask-one L map =
     let N = countOf L in
     let short = ltb (length map) (rowWords N) in
-    counted-one (askNumber L N (length map)) (countBits map N) N (earlier-one askNumbers (lengthAnswer L) (refuse short 11 0) (length-numbered L) (room-one short))
+    counted-one (askNumber L N (length map)) (countBits map N) N (earlier-one askNumbers (lengthAnswer L) (refuse short 11 0) (one-of-more (0 ∷ 12 ∷ []) askNumbers (lengthAnswer L) refl (length-numbered L)) (room-one short))

@@ -8,7 +8,7 @@ use lib.Dec.{ltb, eqb}
 use lib.ListN.{length}
 use Rattle.base.specs.Pick.{pick}
 use Rattle.base.specs.Among.{among, OneOf}
-use Rattle.base.proofs.AmongLaws.{earlier-one}
+use Rattle.base.proofs.AmongLaws.{allAmong, earlier-one, one-of-more}
 use Rattle.store.proofs.Promise.{refuse, lengthAnswer, length-numbered}
 use Rattle.channel.proofs.Promise.{World, Out, outOf, startSpec, buildSpec, openSpec, takeSpec, writeSpec, askSpec, start-numbered, build-numbered, open-numbered, take-numbered, write-numbered, ask-numbered}
 use Rattle.loader.specs.State.{stateWords, stateIn}
@@ -31,11 +31,15 @@ module _ (ms : List ℕ) (l : Lent) (call : World → Out World) (h : OneOf ms (
       go true = e
       go false = h
 
+length-one : (L : ℕ) → OneOf (0 ∷ 11 ∷ 12 ∷ []) (lengthAnswer L)
+unfolding among allAmong
+length-one L = one-of-more (0 ∷ 12 ∷ []) (0 ∷ 11 ∷ 12 ∷ []) (lengthAnswer L) refl (length-numbered L)
+
 pub start-one : (l : Lent) (root : List ℕ) (L : ℕ) → OneOf (0 ∷ 11 ∷ 12 ∷ []) (startOn l root L .answer)
 unfolding startShort among
 start-one l root L =
     let ms : List ℕ = 0 ∷ 11 ∷ 12 ∷ [] in
-    call-one ms l (λ w. startSpec w (orderOf root L)) (start-numbered (worldIn l) (orderOf root L)) (startShort L) (earlier-one ms (lengthAnswer L) 11 (length-numbered L) refl)
+    call-one ms l (λ w. startSpec w (orderOf root L)) (start-numbered (worldIn l) (orderOf root L)) (startShort L) (earlier-one ms (lengthAnswer L) 11 (length-one L) refl)
 
 pub build-one : (l : Lent) (L : ℕ) (content : List ℕ) → OneOf (0 ∷ 11 ∷ 12 ∷ []) (buildOn l L content .answer)
 unfolding buildShort among
@@ -43,7 +47,7 @@ build-one l L content =
     let ms : List ℕ = 0 ∷ 11 ∷ 12 ∷ [] in
     let other = not (eqb (length content) L) in
     call-one ms l (λ w. buildSpec w L content) (build-numbered (worldIn l) L content) (buildShort L (length content))
-    (earlier-one ms (lengthAnswer L) (refuse other 12 11) (length-numbered L) (short other))
+    (earlier-one ms (lengthAnswer L) (refuse other 12 11) (length-one L) (short other))
   where
     short : (b : Bool) → OneOf (0 ∷ 11 ∷ 12 ∷ []) (refuse b 12 11)
     short true = refl

@@ -94,7 +94,7 @@ start-suffices = sizes.start-suffices
 pub build-suffices : (l : Lent) (L : ℕ) (content : List ℕ) → lengthAnswer L ≡ 0 → length content ≡ L → Suffice L l → buildOn l L content .answer ≡ 0
 build-suffices = sizes.build-suffices
 
--- After them no call of a list, lent a reply room of the least size, is refused with 11 or 12.
+-- After them no call of a list, lent a reply room of at least the least size, is refused with 11 or 12.
 pub never-short-in-rooms : (l : Lent) (ks : List Call) → FreshOrBuiltIn l → (k : Call) → ReplyFits k
     → (answerOn (runOn l ks) k ≢ 11) × (answerOn (runOn l ks) k ≢ 12)
 never-short-in-rooms = demand.never-short-in

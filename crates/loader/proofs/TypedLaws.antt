@@ -24,9 +24,9 @@ free-peers (suc k) zero = omega arith
 free-peers (suc k) (suc i) = free-peers k i
 
 pub decoded-typed : (w : List ℕ) → Words w → Typed (stateIn w)
-unfolding stateIn orderIn
+unfolding stateIn orderIn rowsIn
 decoded-typed w h = go (eqb (getD w 0 0) layoutVersion)
   where
     go : (b : Bool) → Typed (pick b (record { order = orderIn w; table = record { rows = rowsIn rowCount w rowsPlace } }) unstarted)
-    go true = record { root-words = refl; peers-fit = λ i. rw (row-at (rowsIn rowCount w rowsPlace) i) (row-peers rowCount w rowsPlace i h) }
-    go false = record { root-words = refl; peers-fit = λ i. rw (row-at (replicate rowCount freeRow) i) (free-peers rowCount i) }
+    go true = record { shaped = record { root-words = refl; row-count = refl }; peers-fit = λ i. rw (row-at (rowsIn rowCount w rowsPlace) i) (row-peers rowCount w rowsPlace i h) }
+    go false = record { shaped = record { root-words = refl; row-count = refl }; peers-fit = λ i. rw (row-at (replicate rowCount freeRow) i) (free-peers rowCount i) }

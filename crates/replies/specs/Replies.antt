@@ -14,14 +14,14 @@ use Rattle.writer.proofs.Promise.{bytes32, Item, itemOf, encode}
 abbrev pub datagram : ℕ → List Item → List ℕ
 datagram to is = bytes32 to ++ encode is
 
--- Our HANDSHAKE to a channel: our channel as its source, and the fixed options around the root.
+-- Our HANDSHAKE: our channel as its source, and the fixed options around the root; and the datagram of it to a channel.
 abbrev pub handshakeItems : ℕ → List ℕ → List Item
 handshakeItems source root = itemOf root (Handshake source (Fixed 0)) ∷ []
 
 unfoldable pub handshakeReply : ℕ → ℕ → List ℕ → List ℕ
 handshakeReply to source root = datagram to (handshakeItems source root)
 
--- An ACK of the chunks f..l with a delay.
+-- An ACK of the chunks f..l with a delay, and its datagram.
 abbrev pub ackItems : ℕ → ℕ → ℕ → List Item
 ackItems f l delay = itemOf [] (Ack f l delay) ∷ []
 
@@ -32,7 +32,8 @@ ackReply to f l delay = datagram to (ackItems f l delay)
 unfoldable pub hashItem : List ℕ → ℕ → Item
 hashItem hashes b = itemOf (hashIn hashes b) (Integrity (first b) (last b) 0)
 
--- The datagram of chunk c of N: all peaks and all siblings below its peak in their order, then DATA with the given clock.
+-- What goes out for chunk c of N: all peaks and all siblings below its peak in their order, then DATA with the given clock;
+-- and its datagram.
 abbrev pub chunkItems : List ℕ → ℕ → ℕ → ℕ → List ℕ → List Item
 chunkItems hashes N c time bytes = map (hashItem hashes) (map num (sent N c)) ++ (itemOf bytes (Data c c time 0 (length bytes)) ∷ [])
 

@@ -25,9 +25,13 @@ refuse-one ms false x y p q = q
 abbrev roomNumbers : List ℕ
 roomNumbers = 0 ∷ 11 ∷ 12 ∷ []
 
-pub length-one : (L : ℕ) → OneOf roomNumbers (lengthAnswer L)
+pub length-one : (L : ℕ) → OneOf (0 ∷ 12 ∷ []) (lengthAnswer L)
 unfolding lengthAnswer among
-length-one L = refuse-one roomNumbers (eqb L 0) 12 _ refl (refuse-one roomNumbers (ltb maxLength L) 12 0 refl refl)
+length-one L = let ms : List ℕ = 0 ∷ 12 ∷ [] in refuse-one ms (eqb L 0) 12 _ refl (refuse-one ms (ltb maxLength L) 12 0 refl refl)
+
+length-room-one : (L : ℕ) → OneOf roomNumbers (lengthAnswer L)
+unfolding among allAmong
+length-room-one L = one-of-more (0 ∷ 12 ∷ []) roomNumbers (lengthAnswer L) refl (length-one L)
 
 room-one : (L b m h t : ℕ) → OneOf roomNumbers (roomAnswer L b m h t)
 unfolding roomAnswer among
@@ -39,14 +43,14 @@ room-one L b m h t =
 
 pub order-one : (L b m h t : ℕ) → OneOf (0 ∷ 11 ∷ 12 ∷ []) (orderAnswer L b m h t)
 unfolding orderAnswer
-order-one L b m h t = earlier-one roomNumbers (lengthAnswer L) (roomAnswer L b m h t) (length-one L) (room-one L b m h t)
+order-one L b m h t = earlier-one roomNumbers (lengthAnswer L) (roomAnswer L b m h t) (length-room-one L) (room-one L b m h t)
 
 pub build-one : (L n b m h t : ℕ) → OneOf (0 ∷ 11 ∷ 12 ∷ []) (buildAnswer L n b m h t)
 unfolding buildAnswer among
 build-one L n b m h t =
     let other = refuse (not (eqb n L)) 12 0 in
     earlier-one roomNumbers (earlier (lengthAnswer L) other) (roomAnswer L b m h t)
-    (earlier-one roomNumbers (lengthAnswer L) other (length-one L) (refuse-one roomNumbers (not (eqb n L)) 12 0 refl refl))
+    (earlier-one roomNumbers (lengthAnswer L) other (length-room-one L) (refuse-one roomNumbers (not (eqb n L)) 12 0 refl refl))
     (room-one L b m h t)
 
 -- ---- taking a chunk

@@ -94,9 +94,9 @@ rooms-accepted = answers.room-facts
 pub build-accepted : (L n b m h t : ℕ) → buildAnswer L n b m h t ≡ 0 → (lengthAnswer L ≡ 0) × (n ≡ L) × (roomAnswer L b m h t ≡ 0)
 build-accepted = accept.build-accepted
 
--- ---- the numbers that the calls can give
+-- ---- the numbers that the calls and their checks can give
 
-pub length-numbered : (L : ℕ) → OneOf (0 ∷ 11 ∷ 12 ∷ []) (lengthAnswer L)
+pub length-numbered : (L : ℕ) → OneOf (0 ∷ 12 ∷ []) (lengthAnswer L)
 length-numbered = numbers.length-one
 
 pub order-numbered : (L b m h t : ℕ) → OneOf (0 ∷ 11 ∷ 12 ∷ []) (orderAnswer L b m h t)

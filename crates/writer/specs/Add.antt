@@ -22,8 +22,8 @@ hasData (Messages k) = false
 hasData (MessagesAndData c x b n k) = true
 
 -- The number for adding a message to the first len bytes of a room: 11 for a room under the limit; 1 for a length over it;
--- the reader's number for the datagram so far; 2 for a message that cannot be written; the reader's number for the lengthened datagram; 2 behind
--- DATA.
+-- the reader's number for the datagram so far; 2 for a message that cannot be written; the reader's number for the lengthened
+-- datagram; 2 behind DATA.
 unfoldable pub addAnswer : List ℕ → ℕ → Message → List ℕ → ℕ
 addAnswer room len m bytes =
     pick (ltb (length room) maxSize) 11
