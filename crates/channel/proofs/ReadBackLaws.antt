@@ -16,8 +16,7 @@ use Rattle.hash.proofs.Promise.{bytes-length}
 use Rattle.base.specs.Pick.{pick}
 use Rattle.table.proofs.Promise.{rowAt, openRowOf, openAnswer, handshakeAnswer, writeAnswer, open-some, handshake-opened, handshake-taken}
 use Rattle.table.specs.declared.rows.Row.{Row}
-use Rattle.tree.specs.Pack.{chunkSize, maxLength, chunks}
-use Rattle.tree.proofs.ChunkLaws.{chunk-some}
+use Rattle.tree.proofs.Promise.{chunkSize, maxLength, chunks, chunk-some}
 use Rattle.wire.proofs.Promise.{be32, placed, minSize, maxSize, numberOf, layoutOf, Numbered, handshakeFault, Alone, layout-numbered, layout-passed, layout-alone, placed-front}
 use Rattle.wire.specs.declared.message.Options.{Options}
 use Rattle.wire.specs.declared.message.Options.the-variants.{Fixed, EndOnly, Other}

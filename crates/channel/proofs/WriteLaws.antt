@@ -9,8 +9,7 @@ use borrow.Author.Tests.{le-leb, lt-leb, leb-false}
 use lib.Dec.{leb}
 use lib.ListN.{length, take, drop, length-take}
 use Rattle.bits.proofs.Promise.{bitAt}
-use Rattle.tree.specs.Pack.{chunkSize, chunks, maxLength, size}
-use Rattle.tree.proofs.ChunkLaws.{chunk-inside, chunk-some}
+use Rattle.tree.proofs.Promise.{chunkSize, chunks, maxLength, size, chunk-inside, chunk-some}
 use Rattle.wire.proofs.Promise.{placed, maxSize}
 use Rattle.table.specs.declared.rows.Row.{Row}
 use Rattle.table.proofs.Promise.{openRowOf, rowAt, writeAnswer}

@@ -3,7 +3,7 @@
 use Prim.Native.Nat.{ℕ, _*_, _≤_}
 use lib.ListN.{length}
 use Rattle.bits.proofs.Promise.{rowWords}
-use Rattle.tree.specs.Pack.{leafPlaces}
+use Rattle.tree.proofs.Promise.{leafPlaces}
 use Rattle.table.proofs.Promise.{rowCount}
 use Rattle.wire.proofs.Promise.{maxSize}
 use Rattle.store.proofs.Promise.{countOf}

@@ -7,7 +7,7 @@ use mathlib.Core.List.{List, [], _∷_, _++_, map, map-append}
 use mathlib.Core.Bool.{true}
 use lib.ListN.{length, getD, take, length-append}
 use lib.Seq.{take-suc, take-all, length-take-le}
-use Rattle.tree.specs.Bin.{first, last}
+use Rattle.tree.proofs.Promise.{first, last}
 use Rattle.store.proofs.Promise.{hashIn, hash-length}
 use Rattle.wire.proofs.Promise.{placed, placed-length}
 use Rattle.wire.specs.declared.message.Message.the-variants.{Integrity}

@@ -2,7 +2,6 @@
 pub mod DatagramLaws
 pub mod HashLaws
 pub mod SendingLaws
-pub mod OnceLaws
 pub mod ReplyLaws
 pub mod ReadLaws
 pub mod Promise

@@ -6,7 +6,7 @@ use mathlib.Core.Logic.{_≢_}
 use mathlib.Core.List.{List}
 use Prim.Native.Nat.{ℕ, _≤_, _<_, _^_}
 use lib.ListN.{length}
-use Rattle.tree.specs.Pack.{chunkSize, chunks, maxLength}
+use Rattle.tree.proofs.Promise.{chunkSize, chunks, maxLength}
 use Rattle.wire.proofs.Promise.{maxSize}
 use Rattle.writer.proofs.Promise.{Reads}
 use Rattle.replies.proofs.ReplyLaws.{handshake-length, ack-length, chunk-length}

@@ -9,12 +9,7 @@ use borrow.Author.Tests.{eq-eqb, ne-eqb, le-ltb}
 use lib.Dec.{eqb, ltb}
 use lib.ListN.{length, getD, length-map}
 use Rattle.base.specs.Pick.{pick}
-use Rattle.tree.specs.Bin.{first, last}
-use Rattle.tree.specs.Node.{num}
-use Rattle.tree.specs.Pack.{chunkSize, chunks, maxLength}
-use Rattle.tree.specs.Peaks.{sent}
-use Rattle.tree.specs.Range.{covers, nodeOfRange}
-use Rattle.tree.proofs.BinLaws.{first-plus-last}
+use Rattle.tree.proofs.Promise.{first-plus-last, node-range, num, chunkSize, chunks, maxLength, sent, Differs, Distinct, sent-once}
 use Rattle.wire.proofs.Promise.{minSize, maxSize, seen, handshakeFault}
 use Rattle.wire.specs.declared.message.Options.the-variants.{Fixed}
 use Rattle.wire.specs.declared.message.Message.the-variants.{Handshake, Data, Ack, Integrity}
@@ -23,7 +18,6 @@ use Rattle.replies.specs.Replies.{handshakeReply, ackReply, hashItem, ha
 use Rattle.replies.specs.Steps.{integritySize}
 use Rattle.replies.proofs.HashLaws.{item-writable, item-size, items-long}
 use Rattle.replies.proofs.SendingLaws.{sent-few, sent-under}
-use Rattle.replies.proofs.OnceLaws.{Differs, Distinct, sent-once}
 use Rattle.replies.proofs.ReplyLaws.{handshake-writable, handshake-size, ack-writable, ack-size, data-writable, data-size}
 
 -- ---- one message
@@ -76,18 +70,14 @@ unseen-more : (es : List ℕ) (b p : ℕ) (bs : List ℕ) → Paired es → Unse
 unseen-more es b p [] h u d = tt
 unseen-more es b p (x ∷ bs) h u d = (unseen-one es x b p h (u .0) (d .0), unseen-more es b p bs h (u .1) (d .1))
 
--- A node's range is that node's.
-own-range : (b : ℕ) → covers (first b + last b) (first b) (last b) ≡ true
-own-range b = rw (first-plus-last b) (rw (eq-eqb (first b) (first b) refl) (eq-eqb (last b) (last b) refl))
-
 module _ (hashes : List ℕ) (to : ℕ) where
   -- The INTEGRITY messages of distinct nodes join a datagram that has none of them.
   hashes-join : (bs : List ℕ) (at : ℕ) (es : List ℕ) → Paired es → Unseen es bs → Distinct bs → Joining to at es (map (hashItem hashes) bs)
-  unfolding hashItem faultBehind nodeOfRange
+  unfolding hashItem faultBehind
   hashes-join [] at es p u d = tt
   hashes-join (b ∷ bs) at es p u d = (
     item-writable hashes b,
-    rw (own-range b, first-plus-last b) (rw (u .0)),
+    rw (node-range b, first-plus-last b) (rw (u .0)),
     tt,
     rw (first-plus-last b) (hashes-join bs _ (es ++ (b ∷ (at + 9) ∷ [])) (paired-more es b (at + 9) p) (unseen-more es b (at + 9) bs p (u .1) (d .0)) (d .1)),
   )

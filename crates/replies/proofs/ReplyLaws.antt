@@ -6,9 +6,7 @@ use mathlib.Core.List.{List, [], _∷_, _++_, map}
 use mathlib.Core.Bool.{true}
 use borrow.Author.Tests.{le-leb}
 use lib.ListN.{length, length-map}
-use Rattle.tree.specs.Node.{num}
-use Rattle.tree.specs.Pack.{chunkSize, chunks, maxLength}
-use Rattle.tree.specs.Peaks.{sent}
+use Rattle.tree.proofs.Promise.{chunkSize, chunks, maxLength, num, sent}
 use Rattle.wire.proofs.Promise.{placed, minSize, maxSize}
 use Rattle.wire.specs.declared.message.Options.the-variants.{Fixed}
 use Rattle.wire.specs.declared.message.Message.the-variants.{Handshake, Data, Ack}

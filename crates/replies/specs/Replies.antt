@@ -2,9 +2,7 @@
 use Prim.Native.Nat.{ℕ}
 use mathlib.Core.List.{List, [], _∷_, _++_, map}
 use lib.ListN.{length}
-use Rattle.tree.specs.Bin.{first, last}
-use Rattle.tree.specs.Node.{num}
-use Rattle.tree.specs.Peaks.{sent}
+use Rattle.tree.proofs.Promise.{first, last, num, sent}
 use Rattle.store.proofs.Promise.{hashIn}
 use Rattle.wire.specs.declared.message.Options.the-variants.{Fixed}
 use Rattle.wire.specs.declared.message.Message.the-variants.{Handshake, Data, Ack, Integrity}

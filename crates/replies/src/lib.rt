@@ -6,7 +6,7 @@ ghost use mathlib.Core.List.{map};
 ghost use Prim.Native.Nat.{ℕ, _+_, _*_, _≤_, _<_, _^_};
 ghost use lib.ListN.{length, getD};
 ghost use Rattle.hash.proofs.Promise.{bytesOf};
-ghost use Rattle.tree.specs.Pack.{chunkSize, chunks, maxLength};
+ghost use Rattle.tree.proofs.Promise.{chunkSize, chunks, maxLength};
 ghost use Rattle.wire.proofs.Promise.{placed, minSize, maxSize};
 ghost use Rattle.writer.proofs.Promise.{encode, writable, sizeOf, bytesOf as messageBytes};
 ghost use Rattle.replies.specs.Replies.{handshakeReply, ackReply, hashItem, chunkReply};

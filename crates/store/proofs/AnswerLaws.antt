@@ -1,19 +1,16 @@
 -- The numbers that refuse a call, test by test as the code has them, and what an answer of 0 says. Assumes nothing.
 use mathlib.Core.Path.{_≡_, refl, sym, _∙_}
-use mathlib.Core.Logic.{_⊎_, inl, inr, _≢_}
+use mathlib.Core.Logic.{_≢_}
 use mathlib.Core.Bool.{Bool, true, false, true≢false, not}
-use Prim.Native.Nat.{ℕ, zero, suc, _*_, _^_, _≤_, _<_}
+use Prim.Native.Nat.{ℕ, zero, suc, _*_, _≤_, _<_}
 use native.Mathlib.Omega.{arith}
 use borrow.Author.Tests.{lt-ltb, le-ltb, le-leb, lt-leb, eq-eqb, ne-eqb, eqb-true, ltb-false, leb-false}
 use lib.Dec.{leb, ltb, eqb}
-use lib.Pow.{pow-mono}
 use Rattle.bits.proofs.Promise.{rowWords}
-use Rattle.tree.specs.Pack.{chunkSize, maxLength, size, levels, leafPlaces}
+use Rattle.tree.specs.Pack.{chunkSize, maxLength, size, leafPlaces}
 use Rattle.verdict.specs.Rooms.{countOf}
 use Rattle.store.specs.Answers.{refuse, earlier, lengthAnswer, roomAnswer, orderAnswer, chunkAnswer}
 use Rattle.store.specs.Calls.{buildAnswer}
-use Rattle.tree.proofs.NodeLaws.{split}
-use Rattle.tree.proofs.PackLaws.{levels-least}
 
 -- ---- a chain of tests
 
@@ -144,15 +141,3 @@ chunk-facts L c n e =
     un-not : (x : Bool) → not x ≡ false → x ≡ true
     un-not true f = refl
     un-not false f = absurd (true≢false f)
-
--- ---- a tree over 32-bit numbers
-
-pub levels-small : (k N : ℕ) → N ≤ 2 ^ k → levels N ≤ k
-levels-small k N h = go (split (levels N) k)
-  where
-    go : (levels N ≤ k) ⊎ (k < levels N) → levels N ≤ k
-    go (inl l) = l
-    go (inr l) = absurd (omega (arith, levels-least N k l))
-
-pub places-small : (k N w : ℕ) → w ≡ leafPlaces N → N ≤ 2 ^ k → w ≤ 2 ^ k
-places-small k N w e h = rw e (pow-mono (levels-small k N h))

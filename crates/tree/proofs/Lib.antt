@@ -16,6 +16,8 @@ pub mod BeginLaws
 pub mod WalkLaws
 pub mod SentLaws
 pub mod StepLaws
+pub mod SentNumberLaws
 pub mod TrueLaws
 pub mod NeededLaws
 pub mod Tried
+pub mod Promise

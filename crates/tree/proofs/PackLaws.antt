@@ -7,7 +7,7 @@ use borrow.Author.Tests.{le-leb, lt-leb}
 use lib.Dec.{leb}
 use lib.Pow.{pow-pos, pow-mono}
 use Rattle.base.specs.Pick.{pick}
-use Rattle.tree.specs.Pack.{least, levels}
+use Rattle.tree.specs.Pack.{least, levels, leafPlaces}
 use Rattle.tree.proofs.NodeLaws.{split}
 use Rattle.tree.proofs.BinLaws.{below-pow}
 
@@ -68,3 +68,14 @@ high-bound N p w = go (split p (levels N))
     go : (p ≤ levels N) ⊎ (levels N < p) → p ≤ levels N
     go (inl h) = h
     go (inr h) = absurd (omega (arith, levels-holds N, pow-mono h, pow-pos (levels N)))
+
+-- at most 2 ^ k chunks have no tree higher than k, and no more leaf places
+pub levels-small : (k N : ℕ) → N ≤ 2 ^ k → levels N ≤ k
+levels-small k N h = go (split (levels N) k)
+  where
+    go : (levels N ≤ k) ⊎ (k < levels N) → levels N ≤ k
+    go (inl l) = l
+    go (inr l) = absurd (omega (arith, levels-least N k l))
+
+pub places-small : (k N w : ℕ) → w ≡ leafPlaces N → N ≤ 2 ^ k → w ≤ 2 ^ k
+places-small k N w e h = rw e (pow-mono (levels-small k N h))

@@ -5,7 +5,7 @@ use mathlib.Core.Bool.{Bool, not}
 use lib.ListN.{length, getD, drop}
 use lib.Dec.{ltb, eqb}
 use Rattle.base.specs.Pick.{pick}
-use Rattle.tree.specs.Range.{covers}
+use Rattle.tree.proofs.Promise.{covers}
 use Rattle.wire.specs.Bytes.{be32, be64}
 use Rattle.wire.specs.Range.{firstOf, lastOf}
 use Rattle.wire.specs.Options.{optionsSize, isFixed}

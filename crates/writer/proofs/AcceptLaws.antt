@@ -8,7 +8,7 @@ use lib.ListN.{length, take, length-append}
 use lib.Dec.{ltb, eqb}
 use borrow.Author.Tests.{ltb-false, not-false}
 use Rattle.base.specs.Pick.{pick, earlier}
-use Rattle.tree.specs.Range.{covers, nodeOfRange}
+use Rattle.tree.proofs.Promise.{covers, nodeOfRange}
 use Rattle.tree.specs.declared.bin.RangeNode.the-variants.{Node, NoNode}
 use Rattle.wire.specs.Range.{nodeNumber}
 use Rattle.wire.specs.Bytes.{be32}

@@ -9,7 +9,7 @@ use lib.Seq.{drop-append-seam}
 use lib.Dec.{ltb, eqb}
 use borrow.Author.Tests.{eq-eqb}
 use Rattle.base.specs.Pick.{pick, earlier}
-use Rattle.tree.specs.Range.{covers, nodeOfRange}
+use Rattle.tree.proofs.Promise.{covers, nodeOfRange}
 use Rattle.tree.specs.declared.bin.RangeNode.the-variants.{Node, NoNode}
 use Rattle.wire.specs.Bytes.{be32}
 use Rattle.wire.specs.Limits.{minSize, maxSize}

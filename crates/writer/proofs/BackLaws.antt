@@ -8,7 +8,7 @@ use mathlib.Core.Bool.{Bool, true, false, not, true≢false}
 use lib.Dec.{ltb, eqb}
 use lib.ListN.{length, getD, length-append}
 use lib.Seq.{drop-at}
-use Rattle.tree.specs.Range.{covers}
+use Rattle.tree.proofs.Promise.{covers}
 use Rattle.wire.specs.Bytes.{begins}
 use Rattle.wire.specs.Range.{firstOf, lastOf}
 use Rattle.wire.specs.Options.{headSize, bodySize, optionsFrom, optionsSize, fixedHead, fixedTail, isFixed}

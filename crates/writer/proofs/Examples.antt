@@ -1,10 +1,11 @@
 -- Worked datagrams, one of each message of 01's table (RFC 7574, 8.4 to 8.12), and the opening HANDSHAKE: antt computes both
 -- ways. Assumes nothing.
 use Prim.Native.Nat.{ℕ, _+_}
+use native.Mathlib.Omega.{arith}
 use mathlib.Core.Path.{_≡_, refl}
 use mathlib.Core.List.{List, [], _∷_, _++_}
 use lib.ListN.{length, replicate}
-use Rattle.tree.specs.Bin.{lowOnes, height, first, last}
+use Rattle.tree.proofs.Promise.{first, last, first-chunk, first-plus-last}
 use Rattle.wire.specs.Bytes.{begins}
 use Rattle.wire.specs.Options.{headSize, bodySize, optionSize, optionsFrom, optionsSize, isFixed}
 use Rattle.wire.specs.Read.{cursor, kindOf, handshakeAt, dataAt, ackAt, integrityAt, rangedAt, typed, stepOf}
@@ -50,8 +51,11 @@ two-chunks = (refl, refl)
 
 -- INTEGRITY of the node over 4..7, whose hash is 32 bytes of 170.
 pub integrity : Worked (replicate 32 170) (Integrity 4 7 0) (4 ∷ 0 ∷ 0 ∷ 0 ∷ 4 ∷ 0 ∷ 0 ∷ 0 ∷ 7 ∷ replicate 32 170)
-unfolding bytesOf rangeBytes bytes32 sizeOf stepOf typed integrityAt height lowOnes first last
-integrity = (refl, refl)
+unfolding bytesOf rangeBytes bytes32 sizeOf stepOf typed integrityAt
+integrity =
+    let f : first 11 ≡ 4 = first-chunk 2 1 in
+    let l : last 11 ≡ 7 = omega (arith, f, first-plus-last 11) in
+    (refl, rw (f, l))
 
 -- A closing HANDSHAKE.
 pub closing : Worked [] (Handshake 0 EndOnly) (0 ∷ 0 ∷ 0 ∷ 0 ∷ 0 ∷ 255 ∷ [])

@@ -9,7 +9,7 @@ use borrow.Author.Tests.{le-ltb, le-leb, eq-eqb, eqb-true}
 use lib.ListN.{length, getD, take, drop, take-append-drop, length-append, length-drop}
 use lib.Seq.{drop-cons, drop-drop, length-take-le}
 use Rattle.base.specs.Pick.{pick}
-use Rattle.tree.specs.Range.{covers}
+use Rattle.tree.proofs.Promise.{covers}
 use Rattle.base.proofs.PickLaws.{both-true}
 use Rattle.wire.specs.Bytes.{be32, be64, begins}
 use Rattle.wire.specs.Range.{firstOf, lastOf}

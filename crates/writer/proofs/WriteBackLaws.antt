@@ -9,7 +9,7 @@ use borrow.Author.Tests.{le-ltb, eqb-true}
 use lib.ListN.{length, take, drop, take-append-drop, length-append, length-drop}
 use lib.Seq.{take-at, length-take-le, drop-length, getD-drop}
 use Rattle.base.specs.Pick.{pick}
-use Rattle.tree.specs.Range.{nodeOfRange}
+use Rattle.tree.proofs.Promise.{nodeOfRange}
 use Rattle.wire.specs.Bytes.{be32, placed}
 use Rattle.wire.specs.Limits.{minSize, maxSize}
 use Rattle.wire.specs.Read.{cursor, stepAt}

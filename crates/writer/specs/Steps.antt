@@ -6,7 +6,7 @@ use mathlib.Core.Bool.{true}
 use lib.ListN.{take}
 use lib.Dec.{ltb, eqb}
 use Rattle.base.specs.Pick.{pick, earlier}
-use Rattle.tree.specs.Range.{nodeOfRange}
+use Rattle.tree.proofs.Promise.{nodeOfRange}
 use Rattle.wire.specs.Limits.{minSize, maxSize}
 use Rattle.wire.specs.Range.{nodeNumber}
 use Rattle.wire.specs.Layout.{seen, handshakeFault}

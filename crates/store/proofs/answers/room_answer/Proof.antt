@@ -1,7 +1,8 @@
 use native.Mathlib.Omega.{arith}
 use mir.Val.{Fits}
 use mir.Syntax.{w32}
-use Rattle.store.proofs.AnswerLaws.{bytes-short, map-short, hashes-short, trusted-short, rooms-right, places-small}
+use Rattle.tree.proofs.PackLaws.{places-small}
+use Rattle.store.proofs.AnswerLaws.{bytes-short, map-short, hashes-short, trusted-short, rooms-right}
 use borrow.Author.Needs.{needs}
 use Rattle.store.proofs.answers.room_answer.Statement.{statement}
 use Rattle.store.proofs.answers.room_answer.Tie as tie

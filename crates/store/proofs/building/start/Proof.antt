@@ -3,7 +3,7 @@ use lib.Pow.{pow-pos}
 use Rattle.hash.proofs.Promise.{bytesOf}
 use Rattle.tree.specs.Pack.{levels}
 use Rattle.store.proofs.StartedLaws.{started-is}
-use Rattle.store.proofs.AnswerLaws.{places-small}
+use Rattle.tree.proofs.PackLaws.{places-small}
 use borrow.Author.Needs.{needs}
 use Rattle.store.proofs.building.start.Statement.{statement}
 use Rattle.store.proofs.building.start.Tie as tie

@@ -8,7 +8,7 @@ use Rattle.verdict.specs.Rooms.{roomsOf}
 use Rattle.verdict.proofs.VerdictLaws.{fits-within}
 use Rattle.verdict.proofs.ClimbLaws.{judged-verdict, judged-climb}
 use Rattle.store.specs.Steps.{Climbed}
-use Rattle.store.proofs.AnswerLaws.{levels-small}
+use Rattle.tree.proofs.PackLaws.{levels-small}
 use Rattle.store.proofs.CallLaws.{if-fits, if-refused}
 use borrow.Author.Needs.{needs}
 use Rattle.store.proofs.calls.store_if_fits.Statement.{statement}

@@ -1,0 +1,63 @@
+-- What the crates above the tree part know of this one: of its definitions the names passed on here, and these laws. Assumes
+-- nothing.
+use Prim.Native.Nat.{ℕ, suc, _+_, _*_, _^_, _≤_, _<_}
+use mathlib.Core.Path.{_≡_, refl}
+use mathlib.Core.List.{map}
+use lib.ListN.{length, getD}
+use Rattle.tree.specs.declared.bin.RangeNode.the-variants.{Node}
+use Rattle.tree.proofs.BinLaws as nodes
+use Rattle.tree.proofs.RangeLaws.{range-is}
+use Rattle.tree.proofs.PackLaws as pack
+use Rattle.tree.proofs.ChunkLaws as chunk
+use Rattle.tree.proofs.SentNumberLaws as numbers
+-- Nodes and ranges: a node's number, its first and its last chunk; whether it covers a range, and the node of a range.
+pub use Rattle.tree.specs.Bin.{bin, first, last}
+pub use Rattle.tree.specs.Node.{num}
+unfoldable pub use Rattle.tree.specs.Range.{covers, nodeOfRange}
+-- Packs and chunks: the sizes of the yard profile, the number of chunks, a chunk's size, the leaf places of the least tree.
+pub use Rattle.tree.specs.Pack.{chunkSize, maxLength, chunks, size, leafPlaces}
+-- The peaks and siblings that go out with a chunk, in the sending order.
+pub use Rattle.tree.specs.Peaks.{sent}
+pub use Rattle.tree.proofs.SentNumberLaws.{Differs, Distinct}
+
+-- ---- nodes and ranges
+
+-- The k-th node of height h, from 0 on, begins with chunk k * 2 ^ h.
+pub first-chunk : (h k : ℕ) → first (bin h (k * 2 ^ h)) ≡ k * 2 ^ h
+first-chunk = nodes.first-bin
+
+-- A node's number is the sum of its first and its last chunk.
+pub first-plus-last : (b : ℕ) → first b + last b ≡ b
+first-plus-last = nodes.first-plus-last
+
+-- The node of the chunks that a node covers is that node.
+pub node-range : (b : ℕ) → nodeOfRange (first b) (last b) ≡ Node b
+node-range b = range-is (first b) (last b) b refl refl
+
+-- ---- packs and chunks
+
+-- A chunk of a pack lies within it,
+pub chunk-inside : (S L : ℕ) → 0 < S → (c : ℕ) → c < chunks S L → S * c + size S L c ≤ L
+chunk-inside = chunk.chunk-inside
+
+-- and has 1 to S bytes.
+pub chunk-some : (S L : ℕ) → 0 < S → (c : ℕ) → c < chunks S L → (0 < size S L c) × (size S L c ≤ S)
+chunk-some = chunk.chunk-some
+
+-- The least tree over at most 2 ^ k chunks has at most 2 ^ k leaf places.
+pub places-small : (k N w : ℕ) → w ≡ leafPlaces N → N ≤ 2 ^ k → w ≤ 2 ^ k
+places-small = pack.places-small
+
+-- ---- peaks and the sending order: what goes out with a chunk
+
+-- Of at most 2 ^ k chunks: at most two nodes at each of k + 1 heights.
+pub sent-few : (k N c : ℕ) → N ≤ 2 ^ k → length (sent N c) ≤ 2 * suc k
+sent-few = numbers.sent-few
+
+-- Of N chunks: no node's number is over 2 * N.
+pub sent-under : (N c i : ℕ) → getD (map num (sent N c)) i 0 ≤ 2 * N
+sent-under = numbers.sent-under
+
+-- No node's number comes twice.
+pub sent-once : (N c : ℕ) → Distinct (map num (sent N c))
+sent-once = numbers.sent-once
