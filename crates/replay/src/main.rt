@@ -1,6 +1,6 @@
-// The replay program (01, "The replay program"): reads lines of hexadecimal from standard input, and writes the answer to
-// each to standard output. Its memory is the same for any input. A read that fails counts as the end of input. A write that
-// fails loses its bytes, and that is not told: a program has no exit status here.
+// The replay program (01, "The replay program"): reads lines of hexadecimal from standard input, and writes the answer
+// to each to standard output. Its memory is the same for any input. A read that fails counts as the end of input. A
+// write that fails loses its bytes, and that is not told: a program has no exit status here.
 ghost use Prim.Native.Nat.{_≤_, _<_};
 ghost use mathlib.Core.List.{[]};
 ghost use lib.ListN.{length};
@@ -41,8 +41,7 @@ fn feed(
     out: &mut [u8],
 ) -> Progress
     requires { ⌜ lineSize (length (now reply)) ≤ length (now out) ⌝ }
-    ensures { λ r. ⌜
-        Fed
+    ensures { λ r. ⌜ Fed
         (replayIn session (now (chunks .entry)) (now (map .entry)) (now (hashes .entry)) (now (trusted .entry))
         (now (has .entry)) (now (wants .entry)) (now (reply .entry)))
         (filled (now (line .entry)) len)
@@ -93,8 +92,8 @@ fn read_block(block: &mut [u8], turns: u64) -> usize
     io::count(libc::read(STDIN_FILENO, block), block)
 }
 
-// Reads block after block, and ends. A proved loop has to end, and nothing says that the input does: it counts its turns
-// down, from a number that no run uses up.
+// Reads block after block, and ends. A proved loop has to end, and nothing says that the input does: it counts its
+// turns down, from a number that no run uses up.
 fn run(
     session: Session,
     chunks: &mut [u8],
@@ -108,8 +107,7 @@ fn run(
     block: &mut [u8],
     out: &mut [u8],
 )
-    requires { ⌜
-        Suffices
+    requires { ⌜ Suffices
         (worldOf (session .state) (now chunks) (now map) (now hashes) (now trusted) (now has) (now wants) (now reply))
         (now line) (now out) ⌝ }
 {

@@ -35,7 +35,8 @@ fn put_line(room: &mut [u8], at: usize, number: u8, reply: &[u8])
 // Adds an answer's line behind the first `at` bytes of a room: the number, and the first `len` bytes of the reply room.
 // Where the lines end then.
 pub fn answer_line(room: &mut [u8], at: usize, number: u8, reply: &[u8], len: usize) -> usize
-    ensures { λ r. ⌜ filled (now (room .exit)) r ≡ appended (now (room .entry)) at (answerLine number (take len (now (reply .entry)))) ⌝ }
+    ensures { λ r. ⌜ filled (now (room .exit)) r
+        ≡ appended (now (room .entry)) at (answerLine number (take len (now (reply .entry)))) ⌝ }
 {
     let n = lines::least(len, reply.len());
     if fits(room.len(), at, n) {

@@ -26,8 +26,7 @@ fn end_input(
     len: usize,
     out: &mut [u8],
 ) -> Progress
-    ensures { λ r. ⌜
-        streamOf
+    ensures { λ r. ⌜ streamOf
         (replayIn (r .session) (now (chunks .exit)) (now (map .exit)) (now (hashes .exit)) (now (trusted .exit))
         (now (has .exit)) (now (wants .exit)) (now (reply .exit)))
         (filled (now (line .entry)) (r .len)) (r .read) (filled (now (out .exit)) (r .used))
@@ -63,8 +62,8 @@ fn end_input(
 
 // Adds what stands at the end of the output.
 fn put_end(out: &mut [u8], used: usize, stage: Stage, state: State, map: &[u32]) -> usize
-    ensures { λ r. ⌜
-        filled (now (out .exit)) r ≡ appended (now (out .entry)) used (endAt stage state (now (map .entry))) ⌝ }
+    ensures { λ r. ⌜ filled (now (out .exit)) r
+        ≡ appended (now (out .entry)) used (endAt stage state (now (map .entry))) ⌝ }
 {
     match stage {
         Stage::First => {
@@ -79,8 +78,8 @@ fn put_end(out: &mut [u8], used: usize, stage: Stage, state: State, map: &[u32])
     }
 }
 
-// Where the input ends: answers the line that has begun, and adds what stands at the end, from the front of an output room
-// on.
+// Where the input ends: answers the line that has begun, and adds what stands at the end, from the front of an output
+// room on.
 pub fn finish(
     session: Session,
     chunks: &mut [u8],
@@ -94,8 +93,7 @@ pub fn finish(
     len: usize,
     out: &mut [u8],
 ) -> Progress
-    ensures { λ r. ⌜
-        streamOf
+    ensures { λ r. ⌜ streamOf
         (replayIn (r .session) (now (chunks .exit)) (now (map .exit)) (now (hashes .exit)) (now (trusted .exit))
         (now (has .exit)) (now (wants .exit)) (now (reply .exit)))
         (filled (now (line .entry)) (r .len)) (r .read) (filled (now (out .exit)) (r .used))

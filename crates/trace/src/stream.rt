@@ -10,8 +10,8 @@ use crate::session::Session;
 use script::answers;
 use script::lines;
 
-// The session, how much is kept of the line that has begun, how much of a block was read, and how much of the output room
-// is in use.
+// The session, how much is kept of the line that has begun, how much of a block was read, and how much of the output
+// room is in use.
 pub struct Progress {
     pub session: Session,
     pub len: usize,
@@ -30,8 +30,7 @@ fn put_answer(
     reply: &[u8],
     len: usize,
 ) -> usize
-    ensures { λ r. ⌜
-        filled (now (out .exit)) r
+    ensures { λ r. ⌜ filled (now (out .exit)) r
         ≡ appended (now (out .entry)) used (spoken silent number (take len (now (reply .entry)))) ⌝ }
 {
     if silent {
@@ -56,8 +55,7 @@ pub(crate) fn end_line(
     used: usize,
     read: usize,
 ) -> Progress
-    ensures { λ r. ⌜
-        streamOf
+    ensures { λ r. ⌜ streamOf
         (replayIn (r .session) (now (chunks .exit)) (now (map .exit)) (now (hashes .exit)) (now (trusted .exit))
         (now (has .exit)) (now (wants .exit)) (now (reply .exit)))
         (filled (now (line .entry)) (r .len)) (r .read) (filled (now (out .exit)) (r .used))
@@ -118,8 +116,7 @@ fn advance(
     out: &mut [u8],
     used: usize,
 ) -> Progress
-    ensures { λ r. ⌜
-        streamOf
+    ensures { λ r. ⌜ streamOf
         (replayIn (r .session) (now (chunks .exit)) (now (map .exit)) (now (hashes .exit)) (now (trusted .exit))
         (now (has .exit)) (now (wants .exit)) (now (reply .exit)))
         (filled (now (line .exit)) (r .len)) (r .read) (filled (now (out .exit)) (r .used))
@@ -158,8 +155,8 @@ fn advance(
 
 // ---- the lines of a block
 
-// Whether another turn is made: something is left of a block of this length, and the line of an answer with any reply fits
-// behind what is to be written.
+// Whether another turn is made: something is left of a block of this length, and the line of an answer with any reply
+// fits behind what is to be written.
 fn goes_on(block: usize, read: usize, room: usize, used: usize, reply: usize) -> bool
     ensures { λ r. ⌜ r ≡ goesOn block read room used reply ⌝ }
 {
@@ -184,8 +181,7 @@ pub fn answer_lines(
     block: &[u8],
     out: &mut [u8],
 ) -> Progress
-    ensures { λ r. ⌜
-        streamOf
+    ensures { λ r. ⌜ streamOf
         (replayIn (r .session) (now (chunks .exit)) (now (map .exit)) (now (hashes .exit)) (now (trusted .exit))
         (now (has .exit)) (now (wants .exit)) (now (reply .exit)))
         (filled (now (line .exit)) (r .len)) (r .read) (filled (now (out .exit)) (r .used))

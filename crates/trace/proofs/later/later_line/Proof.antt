@@ -1,8 +1,8 @@
 use mathlib.Core.Path.{_∙_}
 use Rattle.trace.proofs.SessionLaws.{frame-fits, frame-length, frame-clock, frame-taken, no-frame}
 use borrow.Author.Needs.{needs}
-use Rattle.trace.proofs.session.later_line.Statement.{statement}
-use Rattle.trace.proofs.session.later_line.Tie as tie
+use Rattle.trace.proofs.later.later_line.Statement.{statement}
+use Rattle.trace.proofs.later.later_line.Tie as tie
 
 slice-aggregate-read : tie.Need-slice-aggregate-read
 slice-aggregate-read c = search needs

@@ -1,7 +1,7 @@
 use Rattle.trace.proofs.SessionLaws.{part, taken-byte, took}
 use borrow.Author.Needs.{needs}
-use Rattle.trace.proofs.session.take.Statement.{statement}
-use Rattle.trace.proofs.session.take.Tie as tie
+use Rattle.trace.proofs.later.take.Statement.{statement}
+use Rattle.trace.proofs.later.take.Tie as tie
 
 load64-requires : tie.Need-load64-requires
 load64-requires c κs = search needs

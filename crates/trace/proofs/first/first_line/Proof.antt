@@ -1,7 +1,7 @@
 use Rattle.trace.proofs.SessionLaws.{started, refused}
 use borrow.Author.Needs.{needs}
-use Rattle.trace.proofs.session.first_line.Statement.{statement}
-use Rattle.trace.proofs.session.first_line.Tie as tie
+use Rattle.trace.proofs.first.first_line.Statement.{statement}
+use Rattle.trace.proofs.first.first_line.Tie as tie
 
 order-of-requires : tie.Need-order-of-requires
 order-of-requires c κs = search needs

@@ -1,0 +1,128 @@
+// Later lines: each is a clock and a datagram, which is taken in.
+ghost use mathlib.Core.Path.{_≡_};
+ghost use Prim.Native.Nat.{_≤_};
+ghost use lib.ListN.{length};
+ghost use Rattle.trace.specs.Session.{replayIn, answerOf, nextId, frameTaken, laterLine};
+use crate::limits::BAD_LINE;
+use crate::limits::DIGITS_MAX;
+use crate::limits::DIGITS_MIN;
+use crate::limits::FRAME_MAX;
+use crate::session::Answered;
+use crate::session::Session;
+use crate::session::Stage;
+use channel::taking;
+use script::frames;
+use script::frames::Frame;
+use wire::bytes;
+
+// The ID for the next channel: one more after each that was opened. A datagram to channel 0 that is taken opens one.
+fn next_id(id: u32, answer: u32, datagram: &[u8]) -> u32
+    ensures { λ r. ⌜ r ≡ nextId id answer (now (datagram .entry)) ⌝ }
+{
+    if answer != 0 {
+        return id;
+    }
+    if datagram.len() < 4 {
+        return id;
+    }
+    if bytes::load32(datagram, 0) != 0 {
+        return id;
+    }
+    std::num::wrapping_add_u32(id, 1)
+}
+
+// Takes in the frame of a line: a clock, then a datagram.
+fn take(
+    session: Session,
+    chunks: &mut [u8],
+    map: &mut [u32],
+    hashes: &mut [u32],
+    trusted: &mut [u32],
+    has: &mut [u32],
+    wants: &mut [u32],
+    reply: &mut [u8],
+    frame: &[u8],
+) -> Answered
+    requires { ⌜ 8 ≤ length (now frame) ⌝ }
+    ensures { λ r. ⌜ answerOf
+        (replayIn (r .session) (now (chunks .exit)) (now (map .exit)) (now (hashes .exit)) (now (trusted .exit))
+        (now (has .exit)) (now (wants .exit)) (now (reply .exit)))
+        (r .silent) (r .number) (r .len)
+        ≡ frameTaken
+        (replayIn session (now (chunks .entry)) (now (map .entry)) (now (hashes .entry)) (now (trusted .entry))
+        (now (has .entry)) (now (wants .entry)) (now (reply .entry)))
+        (now (frame .entry)) ⌝ }
+{
+    let clock = bytes::load64(frame, 0);
+    let id = session.id;
+    let state = session.state;
+    let datagram = &frame[8..];
+    let out = taking::take(
+        state,
+        chunks,
+        map,
+        hashes,
+        trusted,
+        has,
+        wants,
+        reply,
+        clock,
+        id,
+        datagram,
+    );
+    let number = out.answer as u8;
+    let after = out.state;
+    Answered {
+        session: Session {
+            state: after,
+            id: next_id(id, out.answer, datagram),
+            stage: Stage::Later,
+        },
+        silent: false,
+        number,
+        len: out.len,
+    }
+}
+
+// Takes in the datagram of a line.
+pub(crate) fn later_line(
+    session: Session,
+    chunks: &mut [u8],
+    map: &mut [u32],
+    hashes: &mut [u32],
+    trusted: &mut [u32],
+    has: &mut [u32],
+    wants: &mut [u32],
+    reply: &mut [u8],
+    line: &[u8],
+) -> Answered
+    ensures { λ r. ⌜ answerOf
+        (replayIn (r .session) (now (chunks .exit)) (now (map .exit)) (now (hashes .exit)) (now (trusted .exit))
+        (now (has .exit)) (now (wants .exit)) (now (reply .exit)))
+        (r .silent) (r .number) (r .len)
+        ≡ laterLine
+        (replayIn session (now (chunks .entry)) (now (map .entry)) (now (hashes .entry)) (now (trusted .entry))
+        (now (has .entry)) (now (wants .entry)) (now (reply .entry)))
+        (now (line .entry)) ⌝ }
+{
+    let mut frame = [0u8; FRAME_MAX];
+    match frames::read(line, DIGITS_MIN, DIGITS_MAX, &mut frame) {
+        Frame::Bytes { len } => take(
+            session,
+            chunks,
+            map,
+            hashes,
+            trusted,
+            has,
+            wants,
+            reply,
+            &frame[..len],
+        ),
+        Frame::Bad => Answered {
+            session,
+            silent: false,
+            number: BAD_LINE,
+            len: 0,
+        },
+    }
+}
