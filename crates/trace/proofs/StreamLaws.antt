@@ -73,7 +73,7 @@ module _ (rest : List ℕ) {n : ℕ} (e : n ≡ beforeFeed rest) where
     unfolding advanced
     advance-line h g = rw (g, ← e, ne-eqb n (length rest) h, ← f)
 
--- ---- how far a turn goes
+-- ---- how far a step goes
 
 module _ (r : Replay) (line : Filled) (rest : List ℕ) (out : Filled) where
   abbrev line-begun : Filled

@@ -155,8 +155,8 @@ fn advance(
 
 // ---- the lines of a block
 
-// Whether another turn is made: something is left of a block of this length, and the line of an answer with any reply
-// fits behind what is to be written.
+// Whether it goes on in a block of this length: something is left of it, and the line of an answer with any reply fits
+// behind what is to be written.
 fn goes_on(block: usize, read: usize, room: usize, used: usize, reply: usize) -> bool
     ensures { λ r. ⌜ r ≡ goesOn block read room used reply ⌝ }
 {

@@ -1,4 +1,3 @@
-use mathlib.Core.Path.{_∙_}
 use borrow.Author.Needs.{needs}
 use Rattle.trace.proofs.StreamLaws.{finish-with}
 use Rattle.trace.proofs.ending.finish.Statement.{statement}
