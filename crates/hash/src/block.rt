@@ -71,8 +71,8 @@ fn rounds(v: HashValue, s: [u32; 16]) -> HashValue
     round(v15, s[15], 0)
 }
 
-// One round with its constant and, in step with it, the next word of the schedule. The words move up by one place: where
-// the compiler has sixteen such steps in line, that costs nothing.
+// One round with its constant and, in step with it, the next word of the schedule. The words move up by one place:
+// where the compiler has sixteen such steps in line, that costs nothing.
 fn step(s: Working, k: u32) -> Working
     ensures { λ r. ⌜ Stepped k (s .variables .words) (s .schedule) (r .variables .words) (r .schedule) ⌝ }
 {
@@ -170,7 +170,7 @@ fn sums(v: HashValue, u: HashValue) -> HashValue
 }
 
 // The hash value after a block whose sums of constants and words are known, sixteen a row.
-pub fn mix(v: HashValue, s: &[[u32; 16]; 4]) -> HashValue
+pub(crate) fn mix(v: HashValue, s: &[[u32; 16]; 4]) -> HashValue
     ensures { λ r. ⌜ r .words ≡ mixedSums (v .words) (now (s .entry)) ⌝ }
 {
     let mut u = v;

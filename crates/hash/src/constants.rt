@@ -88,7 +88,7 @@ pub const K: [[u32; 16]; 4] = [
     ],
 ];
 
-// Of the block that ends a message of 64 bytes, two hashes, the sum of each round's constant and its word, sixteen a row.
+// Of the block that ends a message of 64 bytes, two hashes: each round's constant plus its word, sixteen a row.
 pub const END_OF_64: [[u32; 16]; 4] = [
     [
         0xc28a_2f98,

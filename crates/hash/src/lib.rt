@@ -1,7 +1,7 @@
 // SHA-256 (FIPS 180-4). Each function's contract is an equation with a definition of specs/.
 pub mod block;
-pub mod constants;
+mod constants;
 pub mod message;
 pub mod node;
 pub mod value;
-pub mod word;
+mod word;

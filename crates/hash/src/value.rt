@@ -82,7 +82,7 @@ pub fn bytes(v: HashValue) -> [u8; 32]
 }
 
 // The sixteen words of two hash values.
-pub fn pair(left: HashValue, right: HashValue) -> [u32; 16]
+pub(crate) fn pair(left: HashValue, right: HashValue) -> [u32; 16]
     ensures { λ r. ⌜ r ≡ left .words ++ right .words ⌝ }
 {
     let a = left.words;
@@ -108,7 +108,7 @@ pub fn pair(left: HashValue, right: HashValue) -> [u32; 16]
 }
 
 // The 64 bytes of two hash values, one after the other.
-pub fn pair_bytes(left: HashValue, right: HashValue) -> [u8; 64]
+pub(crate) fn pair_bytes(left: HashValue, right: HashValue) -> [u8; 64]
     ensures { λ r. ⌜ r ≡ bytesOf (left .words) ++ bytesOf (right .words) ⌝ }
 {
     let w = pair(left, right);

@@ -55,7 +55,8 @@ pub extern "C" fn hash_finish(v: &[u32; 8], tail: &[u8], n: u64, out: &mut [u32;
 // SHA-256 of the 64 bytes left, right.
 #[no_mangle]
 pub extern "C" fn hash_parent(left: &[u32; 8], right: &[u32; 8], out: &mut [u32; 8])
-    ensures { λ _. ⌜ bytesOf (now (out .exit)) ≡ sha256 (bytesOf (now (left .entry)) ++ bytesOf (now (right .entry))) ⌝ }
+    ensures { λ _. ⌜ bytesOf (now (out .exit))
+        ≡ sha256 (bytesOf (now (left .entry)) ++ bytesOf (now (right .entry))) ⌝ }
 {
     let x = *left;
     let y = *right;

@@ -70,7 +70,7 @@ pub fn build_answer(
 }
 
 // 7: chunk c is past the pack; 8: it has another length.
-pub fn chunk_answer(length: u32, c: u32, size: usize) -> u32
+fn chunk_answer(length: u32, c: u32, size: usize) -> u32
     ensures { λ r. ⌜ r ≡ chunkAnswer length c size ⌝ }
 {
     if tree::pack::chunk_count(length) <= c {
@@ -83,7 +83,7 @@ pub fn chunk_answer(length: u32, c: u32, size: usize) -> u32
 }
 
 // All that refuses a chunk before its hashes are looked at: 12, 11, 7, 8.
-pub fn take_answer(
+pub(crate) fn take_answer(
     length: u32,
     chunks: usize,
     map: usize,

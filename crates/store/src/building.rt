@@ -30,7 +30,9 @@ fn clear_row(ws: &mut [u32], n: u64)
 
 // Clears the rows, and writes and trusts the root's hash.
 pub fn start(map: &mut [u32], hashes: &mut [u32], trusted: &mut [u32], root: HashValue, n: u32)
-    ensures { λ _. ⌜ roomsOf [] (now (map .exit)) (now (hashes .exit)) (now (trusted .exit)) ≡ startRooms (roomsOf [] (now (map .entry)) (now (hashes .entry)) (now (trusted .entry))) n (bytesOf (root .words)) ⌝ }
+    ensures { λ _. ⌜ roomsOf [] (now (map .exit)) (now (hashes .exit)) (now (trusted .exit))
+        ≡ startRooms (roomsOf [] (now (map .entry)) (now (hashes .entry)) (now (trusted .entry))) n
+        (bytesOf (root .words)) ⌝ }
 {
     let w = tree::pack::leaf_places(n);
     clear_row(map, n as u64);
@@ -64,7 +66,10 @@ fn nth(h: u32, k: u32) -> u64
 
 // The hash of the k-th node of height h, inside a content of n chunks: of a chunk, or of the two children in the room.
 fn hash_of(hashes: &[u32], content: &[u8], n: u32, h: u32, k: u32) -> HashValue
-    requires { ⌜ (h ≤ 32) × (k < n / 2 ^ h) × (n ≡ countOf (length (now content))) × (16 * n ≤ length (now hashes) + 8) ⌝ }
+    requires { ⌜ (h ≤ 32)
+        × (k < n / 2 ^ h)
+        × (n ≡ countOf (length (now content)))
+        × (16 * n ≤ length (now hashes) + 8) ⌝ }
     requires { ⌜ Filled (now hashes) (treeOf (now content)) n h ⌝ }
     ensures { λ r. ⌜ bytesOf (r .words) ≡ treeOf (now (content .entry)) h (k * 2 ^ h) ⌝ }
 {
@@ -78,9 +83,15 @@ fn hash_of(hashes: &[u32], content: &[u8], n: u32, h: u32, k: u32) -> HashValue
 
 // Writes and trusts it.
 fn put_node(hashes: &mut [u32], trusted: &mut [u32], content: &[u8], n: u32, h: u32, k: u32)
-    requires { ⌜ (h ≤ 32) × (k < n / 2 ^ h) × (n ≡ countOf (length (now content))) × (16 * n ≤ length (now hashes) + 8) ⌝ }
+    requires { ⌜ (h ≤ 32)
+        × (k < n / 2 ^ h)
+        × (n ≡ countOf (length (now content)))
+        × (16 * n ≤ length (now hashes) + 8) ⌝ }
     requires { ⌜ Filled (now hashes) (treeOf (now content)) n h ⌝ }
-    ensures { λ _. ⌜ (now (hashes .exit) ≡ putHash (now (hashes .entry)) (bin h (k * 2 ^ h)) (treeOf (now (content .entry)) h (k * 2 ^ h))) × (now (trusted .exit) ≡ mark (now (trusted .entry)) (bin h (k * 2 ^ h)) (treeOf (now (content .entry)) h (k * 2 ^ h))) ⌝ }
+    ensures { λ _. ⌜ (now (hashes .exit)
+        ≡ putHash (now (hashes .entry)) (bin h (k * 2 ^ h)) (treeOf (now (content .entry)) h (k * 2 ^ h)))
+        × (now (trusted .exit)
+        ≡ mark (now (trusted .entry)) (bin h (k * 2 ^ h)) (treeOf (now (content .entry)) h (k * 2 ^ h))) ⌝ }
 {
     let b = nth(h, k);
     let v = hash_of(hashes, content, n, h, k);
@@ -91,7 +102,9 @@ fn put_node(hashes: &mut [u32], trusted: &mut [u32], content: &[u8], n: u32, h: 
 fn put_level(hashes: &mut [u32], trusted: &mut [u32], content: &[u8], n: u32, h: u32)
     requires { ⌜ (h ≤ 32) × (n ≡ countOf (length (now content))) × (16 * n ≤ length (now hashes) + 8) ⌝ }
     requires { ⌜ Filled (now hashes) (treeOf (now content)) n h ⌝ }
-    ensures { λ _. ⌜ (now (hashes .exit) ≡ putLevel putHash (treeOf (now (content .entry))) h (n / 2 ^ h) (now (hashes .entry))) × (now (trusted .exit) ≡ putLevel mark (treeOf (now (content .entry))) h (n / 2 ^ h) (now (trusted .entry))) ⌝ }
+    ensures { λ _. ⌜ (now (hashes .exit)
+        ≡ putLevel putHash (treeOf (now (content .entry))) h (n / 2 ^ h) (now (hashes .entry)))
+        × (now (trusted .exit) ≡ putLevel mark (treeOf (now (content .entry))) h (n / 2 ^ h) (now (trusted .entry))) ⌝ }
 {
     let count = (n as u64 / tree::bin::pow2(h)) as u32;
     let mut k = 0u32;
@@ -104,7 +117,9 @@ fn put_level(hashes: &mut [u32], trusted: &mut [u32], content: &[u8], n: u32, h:
 // Every node inside the pack, of a tree of `top` levels.
 fn put_levels(hashes: &mut [u32], trusted: &mut [u32], content: &[u8], n: u32, top: u32)
     requires { ⌜ (top ≤ 32) × (n ≡ countOf (length (now content))) × (16 * n ≤ length (now hashes) + 8) ⌝ }
-    ensures { λ _. ⌜ (now (hashes .exit) ≡ putLevels putHash (treeOf (now (content .entry))) n (suc top) (now (hashes .entry))) × (now (trusted .exit) ≡ putLevels mark (treeOf (now (content .entry))) n (suc top) (now (trusted .entry))) ⌝ }
+    ensures { λ _. ⌜ (now (hashes .exit)
+        ≡ putLevels putHash (treeOf (now (content .entry))) n (suc top) (now (hashes .entry)))
+        × (now (trusted .exit) ≡ putLevels mark (treeOf (now (content .entry))) n (suc top) (now (trusted .entry))) ⌝ }
 {
     let mut h = 0u32;
     while h <= top {
@@ -116,7 +131,8 @@ fn put_levels(hashes: &mut [u32], trusted: &mut [u32], content: &[u8], n: u32, t
 // Clears the rows, and sets the n map bits.
 fn mark_all(map: &mut [u32], trusted: &mut [u32], n: u32, w: u64)
     requires { ⌜ w ≤ 2 ^ 32 ⌝ }
-    ensures { λ _. ⌜ (now (map .exit) ≡ setRange (clearRow (now (map .entry)) n) 0 n) × (now (trusted .exit) ≡ clearRow (now (trusted .entry)) (2 * w)) ⌝ }
+    ensures { λ _. ⌜ (now (map .exit) ≡ setRange (clearRow (now (map .entry)) n) 0 n)
+        × (now (trusted .exit) ≡ clearRow (now (trusted .entry)) (2 * w)) ⌝ }
 {
     clear_row(map, n as u64);
     bits::set_range(map, 0, n as usize);
@@ -132,8 +148,13 @@ pub fn build(
     n: u32,
     content: &[u8],
 ) -> HashValue
-    requires { ⌜ (n ≡ countOf (length (now content))) × (16 * leafPlaces n ≤ length (now hashes)) × (length (now content) ≤ length (now chunks)) ⌝ }
-    ensures { λ r. ⌜ (bytesOf (r .words) ≡ rootOf (now (content .entry))) × (roomsOf (now (chunks .exit)) (now (map .exit)) (now (hashes .exit)) (now (trusted .exit)) ≡ buildRooms (roomsOf (now (chunks .entry)) (now (map .entry)) (now (hashes .entry)) (now (trusted .entry))) (now (content .entry))) ⌝ }
+    requires { ⌜ (n ≡ countOf (length (now content)))
+        × (16 * leafPlaces n ≤ length (now hashes))
+        × (length (now content) ≤ length (now chunks)) ⌝ }
+    ensures { λ r. ⌜ (bytesOf (r .words) ≡ rootOf (now (content .entry)))
+        × (roomsOf (now (chunks .exit)) (now (map .exit)) (now (hashes .exit)) (now (trusted .exit))
+        ≡ buildRooms (roomsOf (now (chunks .entry)) (now (map .entry)) (now (hashes .entry)) (now (trusted .entry)))
+        (now (content .entry))) ⌝ }
 {
     let top = tree::pack::levels(n);
     let w = tree::bin::pow2(top);

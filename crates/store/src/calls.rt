@@ -1,5 +1,5 @@
-// The calls on the rooms: start a store, build a whole one, take a chunk. Any order, any rooms, any numbers and any bytes
-// get an answer, and a refusal changes nothing.
+// The calls on the rooms: start a store, build a whole one, take a chunk. Any order, any rooms, any numbers and any
+// bytes get an answer, and a refusal changes nothing.
 ghost use mathlib.Core.Path.{_≡_};
 ghost use Prim.Native.Nat.{_+_, _*_, _<_, _≤_};
 ghost use lib.ListN.{length};
@@ -38,7 +38,10 @@ pub fn start(
     hashes: &mut [u32],
     trusted: &mut [u32],
 ) -> u32
-    ensures { λ r. ⌜ outOf r (roomsOf (now (chunks .entry)) (now (map .exit)) (now (hashes .exit)) (now (trusted .exit))) ≡ startSpec (roomsOf (now (chunks .entry)) (now (map .entry)) (now (hashes .entry)) (now (trusted .entry))) (bytesOf (order .root .words)) (order .length) ⌝ }
+    ensures { λ r. ⌜ outOf r
+        (roomsOf (now (chunks .entry)) (now (map .exit)) (now (hashes .exit)) (now (trusted .exit)))
+        ≡ startSpec (roomsOf (now (chunks .entry)) (now (map .entry)) (now (hashes .entry)) (now (trusted .entry)))
+        (bytesOf (order .root .words)) (order .length) ⌝ }
 {
     let length = order.length;
     let root = order.root;
@@ -65,7 +68,11 @@ pub fn build(
     trusted: &mut [u32],
     content: &[u8],
 ) -> Built
-    ensures { λ r. ⌜ (outOf (r .answer) (roomsOf (now (chunks .exit)) (now (map .exit)) (now (hashes .exit)) (now (trusted .exit))) ≡ buildSpec (roomsOf (now (chunks .entry)) (now (map .entry)) (now (hashes .entry)) (now (trusted .entry))) length (now (content .entry))) × (bytesOf (r .root .words) ≡ foundRoot (r .answer) (rootOf (now (content .entry)))) ⌝ }
+    ensures { λ r. ⌜ (outOf (r .answer)
+        (roomsOf (now (chunks .exit)) (now (map .exit)) (now (hashes .exit)) (now (trusted .exit)))
+        ≡ buildSpec (roomsOf (now (chunks .entry)) (now (map .entry)) (now (hashes .entry)) (now (trusted .entry)))
+        length (now (content .entry)))
+        × (bytesOf (r .root .words) ≡ foundRoot (r .answer) (rootOf (now (content .entry)))) ⌝ }
 {
     let refused = answers::build_answer(
         length,
@@ -99,7 +106,8 @@ pub fn verdict(
     entries: &[u64],
     bytes: &[u8],
 ) -> Verdict
-    ensures { λ r. ⌜ r ≡ roomVerdict (countOf (order .length)) (bytesOf (order .root .words)) (now (hashes .entry)) (now (trusted .entry)) c (now (chunk .entry)) (integrityOf (now (entries .entry)) (now (bytes .entry))) ⌝ }
+    ensures { λ r. ⌜ r ≡ roomVerdict (countOf (order .length)) (bytesOf (order .root .words)) (now (hashes .entry))
+        (now (trusted .entry)) c (now (chunk .entry)) (integrityOf (now (entries .entry)) (now (bytes .entry))) ⌝ }
 {
     let root = order.root;
     let n = tree::pack::chunk_count(order.length);
@@ -131,7 +139,9 @@ fn store_if_fits(
     bytes: &[u8],
 ) -> u32
     requires { ⌜ (c < n) × (chunkSize * c + length (now chunk) ≤ length (now chunks)) ⌝ }
-    ensures { λ r. ⌜ outOf r (roomsOf (now (chunks .exit)) (now (map .exit)) (now (hashes .exit)) (now (trusted .exit))) ≡ storeIfFits (roomsOf (now (chunks .entry)) (now (map .entry)) (now (hashes .entry)) (now (trusted .entry))) (bytesOf (root .words)) n c (now (chunk .entry)) (integrityOf (now (entries .entry)) (now (bytes .entry))) ⌝ }
+    ensures { λ r. ⌜ outOf r (roomsOf (now (chunks .exit)) (now (map .exit)) (now (hashes .exit)) (now (trusted .exit)))
+        ≡ storeIfFits (roomsOf (now (chunks .entry)) (now (map .entry)) (now (hashes .entry)) (now (trusted .entry)))
+        (bytesOf (root .words)) n c (now (chunk .entry)) (integrityOf (now (entries .entry)) (now (bytes .entry))) ⌝ }
 {
     let mut scratch = [0u32; verdicts::SCRATCH];
     let v = verdicts::judge(
@@ -179,7 +189,10 @@ pub fn take(
     entries: &[u64],
     bytes: &[u8],
 ) -> u32
-    ensures { λ r. ⌜ outOf r (roomsOf (now (chunks .exit)) (now (map .exit)) (now (hashes .exit)) (now (trusted .exit))) ≡ takeSpec (roomsOf (now (chunks .entry)) (now (map .entry)) (now (hashes .entry)) (now (trusted .entry))) (bytesOf (order .root .words)) (order .length) c (now (chunk .entry)) (integrityOf (now (entries .entry)) (now (bytes .entry))) ⌝ }
+    ensures { λ r. ⌜ outOf r (roomsOf (now (chunks .exit)) (now (map .exit)) (now (hashes .exit)) (now (trusted .exit)))
+        ≡ takeSpec (roomsOf (now (chunks .entry)) (now (map .entry)) (now (hashes .entry)) (now (trusted .entry)))
+        (bytesOf (order .root .words)) (order .length) c (now (chunk .entry))
+        (integrityOf (now (entries .entry)) (now (bytes .entry))) ⌝ }
 {
     let length = order.length;
     let root = order.root;

@@ -36,7 +36,8 @@ pub fn copy_in(dst: &mut [u8], at: usize, src: &[u8])
 
 // Writes node b's hash and trusts it.
 pub fn trust(hashes: &mut [u32], trusted: &mut [u32], b: u64, v: HashValue)
-    ensures { λ _. ⌜ (now (hashes .exit) ≡ putHash (now (hashes .entry)) b (bytesOf (v .words))) × (now (trusted .exit) ≡ mark (now (trusted .entry)) b (bytesOf (v .words))) ⌝ }
+    ensures { λ _. ⌜ (now (hashes .exit) ≡ putHash (now (hashes .entry)) b (bytesOf (v .words)))
+        × (now (trusted .exit) ≡ mark (now (trusted .entry)) b (bytesOf (v .words))) ⌝ }
 {
     room::write(hashes, b, v);
     bits::set(trusted, b as usize);
@@ -45,7 +46,12 @@ pub fn trust(hashes: &mut [u32], trusted: &mut [u32], b: u64, v: HashValue)
 // The peak of height h that came, where n has one.
 fn put_peak(hashes: &mut [u32], trusted: &mut [u32], entries: &[u64], bytes: &[u8], n: u32, h: u32)
     requires { ⌜ h < 59 ⌝ }
-    ensures { λ _. ⌜ (now (hashes .exit) ≡ putIf putHash (peakBit n h) (now (hashes .entry)) (bin h (above (suc h) n)) (gotBy (integrityOf (now (entries .entry)) (now (bytes .entry))) h (above (suc h) n))) × (now (trusted .exit) ≡ putIf mark (peakBit n h) (now (trusted .entry)) (bin h (above (suc h) n)) (gotBy (integrityOf (now (entries .entry)) (now (bytes .entry))) h (above (suc h) n))) ⌝ }
+    ensures { λ _. ⌜ (now (hashes .exit)
+        ≡ putIf putHash (peakBit n h) (now (hashes .entry)) (bin h (above (suc h) n))
+        (gotBy (integrityOf (now (entries .entry)) (now (bytes .entry))) h (above (suc h) n)))
+        × (now (trusted .exit)
+        ≡ putIf mark (peakBit n h) (now (trusted .entry)) (bin h (above (suc h) n))
+        (gotBy (integrityOf (now (entries .entry)) (now (bytes .entry))) h (above (suc h) n))) ⌝ }
 {
     if tree::peaks::side(n, h) == 1 {
         let b = tree::peaks::peak(n, h);
@@ -64,7 +70,12 @@ fn put_peaks(
     top: u32,
 )
     requires { ⌜ top ≤ 32 ⌝ }
-    ensures { λ _. ⌜ (now (hashes .exit) ≡ putPeaks putHash (gotBy (integrityOf (now (entries .entry)) (now (bytes .entry)))) n (suc top) (now (hashes .entry))) × (now (trusted .exit) ≡ putPeaks mark (gotBy (integrityOf (now (entries .entry)) (now (bytes .entry)))) n (suc top) (now (trusted .entry))) ⌝ }
+    ensures { λ _. ⌜ (now (hashes .exit)
+        ≡ putPeaks putHash (gotBy (integrityOf (now (entries .entry)) (now (bytes .entry)))) n (suc top)
+        (now (hashes .entry)))
+        × (now (trusted .exit)
+        ≡ putPeaks mark (gotBy (integrityOf (now (entries .entry)) (now (bytes .entry)))) n (suc top)
+        (now (trusted .entry))) ⌝ }
 {
     let mut h = 0u32;
     while h <= top {
@@ -83,7 +94,14 @@ fn put_new_peaks(
     top: u32,
 )
     requires { ⌜ (top ≡ levels n) × (top ≤ 32) ⌝ }
-    ensures { λ _. ⌜ (now (hashes .exit) ≡ pick (every (trustedIn (now (trusted .entry))) (peaks n)) (now (hashes .entry)) (putPeaks putHash (gotBy (integrityOf (now (entries .entry)) (now (bytes .entry)))) n (suc top) (now (hashes .entry)))) × (now (trusted .exit) ≡ pick (every (trustedIn (now (trusted .entry))) (peaks n)) (now (trusted .entry)) (putPeaks mark (gotBy (integrityOf (now (entries .entry)) (now (bytes .entry)))) n (suc top) (now (trusted .entry)))) ⌝ }
+    ensures { λ _. ⌜ (now (hashes .exit)
+        ≡ pick (every (trustedIn (now (trusted .entry))) (peaks n)) (now (hashes .entry))
+        (putPeaks putHash (gotBy (integrityOf (now (entries .entry)) (now (bytes .entry)))) n (suc top)
+        (now (hashes .entry))))
+        × (now (trusted .exit)
+        ≡ pick (every (trustedIn (now (trusted .entry))) (peaks n)) (now (trusted .entry))
+        (putPeaks mark (gotBy (integrityOf (now (entries .entry)) (now (bytes .entry)))) n (suc top)
+        (now (trusted .entry)))) ⌝ }
 {
     let opened = peaks::all_trusted(trusted, n, top);
     if !opened {
@@ -102,7 +120,12 @@ fn put_pair(
     own: HashValue,
 )
     requires { ⌜ h < 59 ⌝ }
-    ensures { λ _. ⌜ (now (hashes .exit) ≡ putHash (putHash (now (hashes .entry)) (bin h (above h c)) (bytesOf (own .words))) (bin h (other c h (above (suc h) c))) (gotBy (integrityOf (now (entries .entry)) (now (bytes .entry))) h (other c h (above (suc h) c)))) × (now (trusted .exit) ≡ setBit (setBit (now (trusted .entry)) (bin h (above h c))) (bin h (other c h (above (suc h) c)))) ⌝ }
+    ensures { λ _. ⌜ (now (hashes .exit)
+        ≡ putHash (putHash (now (hashes .entry)) (bin h (above h c)) (bytesOf (own .words)))
+        (bin h (other c h (above (suc h) c)))
+        (gotBy (integrityOf (now (entries .entry)) (now (bytes .entry))) h (other c h (above (suc h) c))))
+        × (now (trusted .exit)
+        ≡ setBit (setBit (now (trusted .entry)) (bin h (above h c))) (bin h (other c h (above (suc h) c)))) ⌝ }
 {
     let b = tree::peaks::node(c, h);
     trust(hashes, trusted, b, own);
@@ -122,7 +145,12 @@ fn put_path(
     t: u32,
 )
     requires { ⌜ t ≤ 33 ⌝ }
-    ensures { λ _. ⌜ (now (hashes .exit) ≡ putPath putHash (hashIn (now (scratch .entry))) (gotBy (integrityOf (now (entries .entry)) (now (bytes .entry)))) c t (now (hashes .entry))) × (now (trusted .exit) ≡ putPath mark (hashIn (now (scratch .entry))) (gotBy (integrityOf (now (entries .entry)) (now (bytes .entry)))) c t (now (trusted .entry))) ⌝ }
+    ensures { λ _. ⌜ (now (hashes .exit)
+        ≡ putPath putHash (hashIn (now (scratch .entry)))
+        (gotBy (integrityOf (now (entries .entry)) (now (bytes .entry)))) c t (now (hashes .entry)))
+        × (now (trusted .exit)
+        ≡ putPath mark (hashIn (now (scratch .entry))) (gotBy (integrityOf (now (entries .entry)) (now (bytes .entry))))
+        c t (now (trusted .entry))) ⌝ }
 {
     let mut h = 0u32;
     while h < t {
@@ -146,8 +174,12 @@ fn put(
     entries: &[u64],
     bytes: &[u8],
 )
-    requires { ⌜ (t ≤ 33) × (chunkSize * c + length (now chunk) ≤ length (now chunks)) × Climbed (now scratch) (gotBy (integrityOf (now entries) (now bytes))) (sha256 (now chunk)) c t ⌝ }
-    ensures { λ _. ⌜ roomsOf (now (chunks .exit)) (now (map .exit)) (now (hashes .exit)) (now (trusted .exit)) ≡ stored (roomsOf (now (chunks .entry)) (now (map .entry)) (now (hashes .entry)) (now (trusted .entry))) n c t (now (chunk .entry)) (integrityOf (now (entries .entry)) (now (bytes .entry))) ⌝ }
+    requires { ⌜ (t ≤ 33)
+        × (chunkSize * c + length (now chunk) ≤ length (now chunks))
+        × Climbed (now scratch) (gotBy (integrityOf (now entries) (now bytes))) (sha256 (now chunk)) c t ⌝ }
+    ensures { λ _. ⌜ roomsOf (now (chunks .exit)) (now (map .exit)) (now (hashes .exit)) (now (trusted .exit))
+        ≡ stored (roomsOf (now (chunks .entry)) (now (map .entry)) (now (hashes .entry)) (now (trusted .entry))) n c t
+        (now (chunk .entry)) (integrityOf (now (entries .entry)) (now (bytes .entry))) ⌝ }
 {
     let i = c as usize;
     let top = tree::pack::levels(n);
@@ -157,8 +189,8 @@ fn put(
     put_path(hashes, trusted, scratch, entries, bytes, c, t);
 }
 
-// Stores chunk c of n, found to fit below the trusted node of height t, with the hashes of its climb in the scratch. A chunk
-// already held changes nothing.
+// Stores chunk c of n, found to fit below the trusted node of height t, with the hashes of its climb in the scratch. A
+// chunk already held changes nothing.
 pub fn store(
     chunks: &mut [u8],
     map: &mut [u32],
@@ -172,8 +204,12 @@ pub fn store(
     entries: &[u64],
     bytes: &[u8],
 )
-    requires { ⌜ (t ≤ 33) × (chunkSize * c + length (now chunk) ≤ length (now chunks)) × Climbed (now scratch) (gotBy (integrityOf (now entries) (now bytes))) (sha256 (now chunk)) c t ⌝ }
-    ensures { λ _. ⌜ roomsOf (now (chunks .exit)) (now (map .exit)) (now (hashes .exit)) (now (trusted .exit)) ≡ storeSpec (roomsOf (now (chunks .entry)) (now (map .entry)) (now (hashes .entry)) (now (trusted .entry))) n c t (now (chunk .entry)) (integrityOf (now (entries .entry)) (now (bytes .entry))) ⌝ }
+    requires { ⌜ (t ≤ 33)
+        × (chunkSize * c + length (now chunk) ≤ length (now chunks))
+        × Climbed (now scratch) (gotBy (integrityOf (now entries) (now bytes))) (sha256 (now chunk)) c t ⌝ }
+    ensures { λ _. ⌜ roomsOf (now (chunks .exit)) (now (map .exit)) (now (hashes .exit)) (now (trusted .exit))
+        ≡ storeSpec (roomsOf (now (chunks .entry)) (now (map .entry)) (now (hashes .entry)) (now (trusted .entry))) n c
+        t (now (chunk .entry)) (integrityOf (now (entries .entry)) (now (bytes .entry))) ⌝ }
 {
     let held = bits::test(map, c as usize);
     if !held {

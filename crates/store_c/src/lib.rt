@@ -1,5 +1,5 @@
-// The calls of the crate store for C and Rust, on numbers and slices alone: what the comparisons and the benchmark link.
-// An order's root is eight words; a call with another number of them is refused with 11, before all else.
+// The calls of the crate store for C and Rust, on numbers and slices alone: what the comparisons and the benchmark
+// link. An order's root is eight words; a call with another number of them is refused with 11, before all else.
 ghost use mathlib.Core.Path.{_≡_};
 ghost use Rattle.store.proofs.Promise.{roomsOf, integrityOf, rootOf, outOf, startSpec, buildSpec, takeSpec};
 ghost use Rattle.store_c.specs.Root.{rooted, rootIn, rootPut};
@@ -20,7 +20,12 @@ pub extern "C" fn store_start(
     hashes: &mut [u32],
     trusted: &mut [u32],
 ) -> u32
-    ensures { λ r. ⌜ outOf r (roomsOf (now (chunks .entry)) (now (map .exit)) (now (hashes .exit)) (now (trusted .exit))) ≡ rooted (now (root .entry)) (roomsOf (now (chunks .entry)) (now (map .entry)) (now (hashes .entry)) (now (trusted .entry))) (startSpec (roomsOf (now (chunks .entry)) (now (map .entry)) (now (hashes .entry)) (now (trusted .entry))) (rootIn (now (root .entry))) length) ⌝ }
+    ensures { λ r. ⌜ outOf r
+        (roomsOf (now (chunks .entry)) (now (map .exit)) (now (hashes .exit)) (now (trusted .exit)))
+        ≡ rooted (now (root .entry))
+        (roomsOf (now (chunks .entry)) (now (map .entry)) (now (hashes .entry)) (now (trusted .entry)))
+        (startSpec (roomsOf (now (chunks .entry)) (now (map .entry)) (now (hashes .entry)) (now (trusted .entry)))
+        (rootIn (now (root .entry))) length) ⌝ }
 {
     if root.len() != 8 {
         return 11;
@@ -43,7 +48,13 @@ pub extern "C" fn store_build(
     trusted: &mut [u32],
     content: &[u8],
 ) -> u32
-    ensures { λ r. ⌜ (outOf r (roomsOf (now (chunks .exit)) (now (map .exit)) (now (hashes .exit)) (now (trusted .exit))) ≡ rooted (now (root .entry)) (roomsOf (now (chunks .entry)) (now (map .entry)) (now (hashes .entry)) (now (trusted .entry))) (buildSpec (roomsOf (now (chunks .entry)) (now (map .entry)) (now (hashes .entry)) (now (trusted .entry))) length (now (content .entry)))) × (now (root .exit) ≡ rootPut r (now (root .entry)) (rootOf (now (content .entry)))) ⌝ }
+    ensures { λ r. ⌜ (outOf r
+        (roomsOf (now (chunks .exit)) (now (map .exit)) (now (hashes .exit)) (now (trusted .exit)))
+        ≡ rooted (now (root .entry))
+        (roomsOf (now (chunks .entry)) (now (map .entry)) (now (hashes .entry)) (now (trusted .entry)))
+        (buildSpec (roomsOf (now (chunks .entry)) (now (map .entry)) (now (hashes .entry)) (now (trusted .entry)))
+        length (now (content .entry))))
+        × (now (root .exit) ≡ rootPut r (now (root .entry)) (rootOf (now (content .entry)))) ⌝ }
 {
     if root.len() != 8 {
         return 11;
@@ -72,7 +83,12 @@ pub extern "C" fn store_take(
     entries: &[u64],
     bytes: &[u8],
 ) -> u32
-    ensures { λ r. ⌜ outOf r (roomsOf (now (chunks .exit)) (now (map .exit)) (now (hashes .exit)) (now (trusted .exit))) ≡ rooted (now (root .entry)) (roomsOf (now (chunks .entry)) (now (map .entry)) (now (hashes .entry)) (now (trusted .entry))) (takeSpec (roomsOf (now (chunks .entry)) (now (map .entry)) (now (hashes .entry)) (now (trusted .entry))) (rootIn (now (root .entry))) length c (now (chunk .entry)) (integrityOf (now (entries .entry)) (now (bytes .entry)))) ⌝ }
+    ensures { λ r. ⌜ outOf r (roomsOf (now (chunks .exit)) (now (map .exit)) (now (hashes .exit)) (now (trusted .exit)))
+        ≡ rooted (now (root .entry))
+        (roomsOf (now (chunks .entry)) (now (map .entry)) (now (hashes .entry)) (now (trusted .entry)))
+        (takeSpec (roomsOf (now (chunks .entry)) (now (map .entry)) (now (hashes .entry)) (now (trusted .entry)))
+        (rootIn (now (root .entry))) length c (now (chunk .entry))
+        (integrityOf (now (entries .entry)) (now (bytes .entry)))) ⌝ }
 {
     if root.len() != 8 {
         return 11;

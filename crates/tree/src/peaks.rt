@@ -59,7 +59,7 @@ pub fn peak(n: u32, h: u32) -> u64
 }
 
 // Whether the node of height h above chunk c lies within 0..n-1.
-pub fn inside(n: u32, c: u32, h: u32) -> bool
+fn inside(n: u32, c: u32, h: u32) -> bool
     requires { ⌜ h < 60 ⌝ }
     ensures { λ r. ⌜ r ≡ leb (above h c + 2 ^ h) n ⌝ }
 {
@@ -91,7 +91,8 @@ fn put(room: &mut [u64], k: usize, b: u64) -> usize
 // Puts the peak of height h, if n has one.
 fn put_peak(room: &mut [u64], k: usize, n: u32, h: u32) -> usize
     requires { ⌜ (k < 2 ^ 32) × (h < 59) ⌝ }
-    ensures { λ r. ⌜ (r ≡ k + length (peakTurn n h)) × (now (room .exit) ≡ listed (now (room .entry)) k (peakTurn n h)) ⌝ }
+    ensures { λ r. ⌜ (r ≡ k + length (peakTurn n h))
+        × (now (room .exit) ≡ listed (now (room .entry)) k (peakTurn n h)) ⌝ }
 {
     if side(n, h) != 1 {
         return k;
@@ -102,7 +103,8 @@ fn put_peak(room: &mut [u64], k: usize, n: u32, h: u32) -> usize
 // Puts the sibling of height h, if it goes out with chunk c.
 fn put_sibling(room: &mut [u64], k: usize, n: u32, c: u32, h: u32) -> usize
     requires { ⌜ (k < 2 ^ 32) × (h < 59) ⌝ }
-    ensures { λ r. ⌜ (r ≡ k + length (siblingTurn n c h)) × (now (room .exit) ≡ listed (now (room .entry)) k (siblingTurn n c h)) ⌝ }
+    ensures { λ r. ⌜ (r ≡ k + length (siblingTurn n c h))
+        × (now (room .exit) ≡ listed (now (room .entry)) k (siblingTurn n c h)) ⌝ }
 {
     if !inside(n, c, h + 1) {
         return k;

@@ -32,7 +32,7 @@ fn fits(at: u64, n: usize) -> bool
 }
 
 // Whether node b's hash came.
-pub fn has(entries: &[u64], bytes: &[u8], b: u64) -> bool
+pub(crate) fn has(entries: &[u64], bytes: &[u8], b: u64) -> bool
     ensures { λ r. ⌜ r ≡ came (integrityOf (now (entries .entry)) (now (bytes .entry))) b ⌝ }
 {
     let n = bytes.len();

@@ -1,4 +1,4 @@
-// Which chunk may be stored, at SHA-256: the hash room, the hashes that came with a chunk, the peaks, the climb and the verdict.
+// Which chunk may be stored, at SHA-256: the hash room, the hashes that came, the peaks, the climb and the verdict.
 pub mod integrity;
 pub mod peaks;
 pub mod room;

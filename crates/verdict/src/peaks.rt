@@ -51,7 +51,8 @@ pub fn all_trusted(trusted: &[u32], n: u32, top: u32) -> bool
 // One height of all_came.
 fn peak_came(entries: &[u64], bytes: &[u8], n: u32, h: u32, ok: bool) -> bool
     requires { ⌜ h < 59 ⌝ }
-    ensures { λ r. ⌜ r ≡ pick (peakBit n h) (pick (cameIn (integrityOf (now (entries .entry)) (now (bytes .entry))) (peakAt n h)) ok false) ok ⌝ }
+    ensures { λ r. ⌜ r ≡ pick (peakBit n h)
+        (pick (cameIn (integrityOf (now (entries .entry)) (now (bytes .entry))) (peakAt n h)) ok false) ok ⌝ }
 {
     if tree::peaks::side(n, h) != 1 {
         return ok;
@@ -64,7 +65,7 @@ fn peak_came(entries: &[u64], bytes: &[u8], n: u32, h: u32, ok: bool) -> bool
 }
 
 // Whether all peaks of n came.
-pub fn all_came(entries: &[u64], bytes: &[u8], n: u32, top: u32) -> bool
+pub(crate) fn all_came(entries: &[u64], bytes: &[u8], n: u32, top: u32) -> bool
     requires { ⌜ (top ≡ levels n) × (top ≤ 32) ⌝ }
     ensures { λ r. ⌜ r ≡ every (cameIn (integrityOf (now (entries .entry)) (now (bytes .entry)))) (peaks n) ⌝ }
 {
@@ -79,7 +80,8 @@ pub fn all_came(entries: &[u64], bytes: &[u8], n: u32, top: u32) -> bool
 
 // Node b's hash: of those that came, or of the room.
 fn hash_from(came: bool, hashes: &[u32], entries: &[u64], bytes: &[u8], b: u64) -> HashValue
-    ensures { λ r. ⌜ bytesOf (r .words) ≡ source came (now (hashes .entry)) (integrityOf (now (entries .entry)) (now (bytes .entry))) b ⌝ }
+    ensures { λ r. ⌜ bytesOf (r .words)
+        ≡ source came (now (hashes .entry)) (integrityOf (now (entries .entry)) (now (bytes .entry))) b ⌝ }
 {
     if came {
         return integrity::get(entries, bytes, b);
@@ -98,7 +100,10 @@ fn fold(
     acc: HashValue,
 ) -> HashValue
     requires { ⌜ h < 59 ⌝ }
-    ensures { λ r. ⌜ bytesOf (r .words) ≡ folded sha256 filler n (sourceBy came (now (hashes .entry)) (integrityOf (now (entries .entry)) (now (bytes .entry)))) h (bytesOf (acc .words)) ⌝ }
+    ensures { λ r. ⌜ bytesOf (r .words)
+        ≡ folded sha256 filler n
+        (sourceBy came (now (hashes .entry)) (integrityOf (now (entries .entry)) (now (bytes .entry)))) h
+        (bytesOf (acc .words)) ⌝ }
 {
     if tree::peaks::side(n, h) == 1 {
         let b = tree::peaks::peak(n, h);
@@ -115,7 +120,9 @@ fn fold(
 // The peaks of n combined with fillers, where n is no power of two.
 fn combine(came: bool, hashes: &[u32], entries: &[u64], bytes: &[u8], n: u32, top: u32) -> HashValue
     requires { ⌜ (top ≤ 32) × (n < 2 ^ top) ⌝ }
-    ensures { λ r. ⌜ bytesOf (r .words) ≡ given sha256 filler n (sourceBy came (now (hashes .entry)) (integrityOf (now (entries .entry)) (now (bytes .entry)))) top 0 ⌝ }
+    ensures { λ r. ⌜ bytesOf (r .words)
+        ≡ given sha256 filler n
+        (sourceBy came (now (hashes .entry)) (integrityOf (now (entries .entry)) (now (bytes .entry)))) top 0 ⌝ }
 {
     let mut acc = value::zero();
     let mut h = 0u32;
@@ -126,7 +133,7 @@ fn combine(came: bool, hashes: &[u32], entries: &[u64], bytes: &[u8], n: u32, to
     acc
 }
 
-// The root that the peaks of n give, those that came or those in the room: where n is a power of two it is the one peak.
+// The root that the peaks of n give, those that came or those in the room; of a power of two it is the one peak.
 pub fn root_of_peaks(
     came: bool,
     hashes: &[u32],
@@ -136,7 +143,9 @@ pub fn root_of_peaks(
     top: u32,
 ) -> HashValue
     requires { ⌜ (top ≤ 32) × (n ≤ 2 ^ top) ⌝ }
-    ensures { λ r. ⌜ bytesOf (r .words) ≡ given sha256 filler n (sourceBy came (now (hashes .entry)) (integrityOf (now (entries .entry)) (now (bytes .entry)))) top 0 ⌝ }
+    ensures { λ r. ⌜ bytesOf (r .words)
+        ≡ given sha256 filler n
+        (sourceBy came (now (hashes .entry)) (integrityOf (now (entries .entry)) (now (bytes .entry)))) top 0 ⌝ }
 {
     let w = tree::bin::pow2(top);
     if n as u64 == w {

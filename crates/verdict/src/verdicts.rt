@@ -24,13 +24,14 @@ use hash::value;
 use hash::value::HashValue;
 use tree::verdict::Verdict;
 
-// The words of a scratch: it keeps the hash of a climb's node at each height from 0 to 32, so that storing hashes none again.
+// The words of a scratch: eight for a climb's node of each height from 0 to 32, so that storing hashes none again.
 pub const SCRATCH: usize = 264;
 
 // One height of siblings_came.
 fn sibling_came(entries: &[u64], bytes: &[u8], c: u32, h: u32, ok: bool) -> bool
     requires { ⌜ h < 59 ⌝ }
-    ensures { λ r. ⌜ r ≡ pick (cameIn (integrityOf (now (entries .entry)) (now (bytes .entry))) (siblingAt c h)) ok false ⌝ }
+    ensures { λ r. ⌜ r
+        ≡ pick (cameIn (integrityOf (now (entries .entry)) (now (bytes .entry))) (siblingAt c h)) ok false ⌝ }
 {
     let b = tree::peaks::sibling(c, h);
     if integrity::has(entries, bytes, b) {
@@ -42,7 +43,8 @@ fn sibling_came(entries: &[u64], bytes: &[u8], c: u32, h: u32, ok: bool) -> bool
 // Whether the sibling of each node above chunk c of a height below t came.
 fn siblings_came(entries: &[u64], bytes: &[u8], c: u32, t: u32) -> bool
     requires { ⌜ t ≤ 33 ⌝ }
-    ensures { λ r. ⌜ r ≡ every (cameIn (integrityOf (now (entries .entry)) (now (bytes .entry)))) (siblings c t (above t c)) ⌝ }
+    ensures { λ r. ⌜ r ≡ every (cameIn (integrityOf (now (entries .entry)) (now (bytes .entry))))
+        (siblings c t (above t c)) ⌝ }
 {
     let mut ok = true;
     let mut h = 0u32;
@@ -71,7 +73,8 @@ fn counts(trusted: &[u32], opened: bool, n: u32, c: u32, h: u32) -> bool
 // The height of the first node at or above chunk c that counts as trusted.
 fn reach(trusted: &[u32], opened: bool, n: u32, c: u32, top: u32) -> u32
     requires { ⌜ top ≤ 32 ⌝ }
-    ensures { λ r. ⌜ (r ≡ reachFrom (λ h. countedBit opened n (now (trusted .entry)) h (above h c)) (suc top) 0) × (r ≤ 33) ⌝ }
+    ensures { λ r. ⌜ (r ≡ reachFrom (λ h. countedBit opened n (now (trusted .entry)) h (above h c)) (suc top) 0)
+        × (r ≤ 33) ⌝ }
 {
     let mut h = 0u32;
     let mut left = top + 1;
@@ -88,7 +91,9 @@ fn reach(trusted: &[u32], opened: bool, n: u32, c: u32, top: u32) -> u32
 // One step of the climb from chunk c, from height h to the next: left then right.
 fn step(entries: &[u64], bytes: &[u8], c: u32, h: u32, acc: HashValue) -> HashValue
     requires { ⌜ h < 59 ⌝ }
-    ensures { λ r. ⌜ bytesOf (r .words) ≡ joined sha256 c h (above (suc h) c) (bytesOf (acc .words)) (gotBy (integrityOf (now (entries .entry)) (now (bytes .entry))) h (other c h (above (suc h) c))) ⌝ }
+    ensures { λ r. ⌜ bytesOf (r .words)
+        ≡ joined sha256 c h (above (suc h) c) (bytesOf (acc .words))
+        (gotBy (integrityOf (now (entries .entry)) (now (bytes .entry))) h (other c h (above (suc h) c))) ⌝ }
 {
     let b = tree::peaks::sibling(c, h);
     let s = integrity::get(entries, bytes, b);
@@ -98,7 +103,7 @@ fn step(entries: &[u64], bytes: &[u8], c: u32, h: u32, acc: HashValue) -> HashVa
     node::parent(s, acc)
 }
 
-// The climb from chunk c, whose leaf has the hash v, to the node of height t above it; the scratch keeps the hashes below.
+// The climb from chunk c, whose leaf has the hash v, to the node of height t above; the scratch keeps those below.
 fn climb(
     scratch: &mut [u32; SCRATCH],
     entries: &[u64],
@@ -108,7 +113,12 @@ fn climb(
     t: u32,
 ) -> HashValue
     requires { ⌜ t ≤ 33 ⌝ }
-    ensures { λ r. ⌜ (bytesOf (r .words) ≡ climb sha256 (gotBy (integrityOf (now (entries .entry)) (now (bytes .entry)))) (bytesOf (v .words)) c t (above t c)) × (now (scratch .exit) ≡ kept (now (scratch .entry)) (gotBy (integrityOf (now (entries .entry)) (now (bytes .entry)))) (bytesOf (v .words)) c t) ⌝ }
+    ensures { λ r. ⌜ (bytesOf (r .words)
+        ≡ climb sha256 (gotBy (integrityOf (now (entries .entry)) (now (bytes .entry)))) (bytesOf (v .words)) c t
+        (above t c))
+        × (now (scratch .exit)
+        ≡ kept (now (scratch .entry)) (gotBy (integrityOf (now (entries .entry)) (now (bytes .entry))))
+        (bytesOf (v .words)) c t) ⌝ }
 {
     let mut acc = v;
     let mut h = 0u32;
@@ -131,7 +141,9 @@ fn target(
     t: u32,
 ) -> HashValue
     requires { ⌜ t ≤ 33 ⌝ }
-    ensures { λ r. ⌜ bytesOf (r .words) ≡ countedHash opened n (now (hashes .entry)) (integrityOf (now (entries .entry)) (now (bytes .entry))) t (above t c) ⌝ }
+    ensures { λ r. ⌜ bytesOf (r .words)
+        ≡ countedHash opened n (now (hashes .entry)) (integrityOf (now (entries .entry)) (now (bytes .entry))) t
+        (above t c) ⌝ }
 {
     let b = tree::peaks::node(c, t);
     if opened {
@@ -146,7 +158,9 @@ fn target(
 // Whether each hash that is needed came.
 fn complete(entries: &[u64], bytes: &[u8], opened: bool, n: u32, c: u32, top: u32, t: u32) -> bool
     requires { ⌜ (top ≡ levels n) × (top ≤ 32) × (t ≤ 33) ⌝ }
-    ensures { λ r. ⌜ r ≡ pick (pick opened true (every (cameIn (integrityOf (now (entries .entry)) (now (bytes .entry)))) (peaks n))) (every (cameIn (integrityOf (now (entries .entry)) (now (bytes .entry)))) (siblings c t (above t c))) false ⌝ }
+    ensures { λ r. ⌜ r ≡ pick
+        (pick opened true (every (cameIn (integrityOf (now (entries .entry)) (now (bytes .entry)))) (peaks n)))
+        (every (cameIn (integrityOf (now (entries .entry)) (now (bytes .entry)))) (siblings c t (above t c))) false ⌝ }
 {
     if opened {
         return siblings_came(entries, bytes, c, t);
@@ -168,7 +182,9 @@ fn rooted(
     top: u32,
 ) -> bool
     requires { ⌜ (top ≤ 32) × (n ≤ 2 ^ top) ⌝ }
-    ensures { λ r. ⌜ r ≡ pick opened true (same (given sha256 filler n (gotBy (integrityOf (now (entries .entry)) (now (bytes .entry)))) top 0) (bytesOf (root .words))) ⌝ }
+    ensures { λ r. ⌜ r ≡ pick opened true
+        (same (given sha256 filler n (gotBy (integrityOf (now (entries .entry)) (now (bytes .entry)))) top 0)
+        (bytesOf (root .words))) ⌝ }
 {
     if opened {
         return true;
@@ -177,7 +193,7 @@ fn rooted(
     value::same(p, root)
 }
 
-// Whether the climb from the leaf's hash gives the hash that counts for the node of height t; the scratch keeps the climb.
+// Whether the climb from the leaf's hash gives the hash that counts for the node of height t; the scratch keeps it.
 fn met(
     scratch: &mut [u32; SCRATCH],
     hashes: &[u32],
@@ -190,7 +206,14 @@ fn met(
     leaf: HashValue,
 ) -> bool
     requires { ⌜ t ≤ 33 ⌝ }
-    ensures { λ r. ⌜ (r ≡ same (climb sha256 (gotBy (integrityOf (now (entries .entry)) (now (bytes .entry)))) (bytesOf (leaf .words)) c t (above t c)) (countedHash opened n (now (hashes .entry)) (integrityOf (now (entries .entry)) (now (bytes .entry))) t (above t c))) × (now (scratch .exit) ≡ kept (now (scratch .entry)) (gotBy (integrityOf (now (entries .entry)) (now (bytes .entry)))) (bytesOf (leaf .words)) c t) ⌝ }
+    ensures { λ r. ⌜ (r ≡ same
+        (climb sha256 (gotBy (integrityOf (now (entries .entry)) (now (bytes .entry)))) (bytesOf (leaf .words)) c t
+        (above t c))
+        (countedHash opened n (now (hashes .entry)) (integrityOf (now (entries .entry)) (now (bytes .entry))) t
+        (above t c)))
+        × (now (scratch .exit)
+        ≡ kept (now (scratch .entry)) (gotBy (integrityOf (now (entries .entry)) (now (bytes .entry))))
+        (bytesOf (leaf .words)) c t) ⌝ }
 {
     let x = climb(scratch, entries, bytes, c, leaf, t);
     let y = target(hashes, entries, bytes, opened, n, c, t);
@@ -210,7 +233,9 @@ pub fn judge(
     entries: &[u64],
     bytes: &[u8],
 ) -> Verdict
-    ensures { λ r. ⌜ judgedOf r (now (scratch .exit)) ≡ judgeSpec (now (scratch .entry)) n (bytesOf (root .words)) (now (hashes .entry)) (now (trusted .entry)) c (now (chunk .entry)) (integrityOf (now (entries .entry)) (now (bytes .entry))) ⌝ }
+    ensures { λ r. ⌜ judgedOf r (now (scratch .exit))
+        ≡ judgeSpec (now (scratch .entry)) n (bytesOf (root .words)) (now (hashes .entry)) (now (trusted .entry)) c
+        (now (chunk .entry)) (integrityOf (now (entries .entry)) (now (bytes .entry))) ⌝ }
 {
     let top = tree::pack::levels(n);
     let opened = peaks::all_trusted(trusted, n, top);
