@@ -13,7 +13,8 @@ use Rattle.tree.specs.declared.verdict.Verdict.the-variants.{Fits}
 use Rattle.verdict.specs.Room.{Digest, hashIn, putHash}
 use Rattle.verdict.specs.Integrity.{Integrity}
 use Rattle.verdict.specs.Rooms.{gotBy}
-use Rattle.verdict.specs.Verdict.{roomVerdict, roomReached, kept, Judged, judgedOf, scratchBy, judgeSpec}
+use Rattle.verdict.specs.Verdict.{roomVerdict}
+use Rattle.verdict.specs.Steps.{roomReached, kept, Judged, judgedOf, scratchBy, judgeSpec}
 use Rattle.tree.proofs.NodeLaws.{split}
 use Rattle.verdict.proofs.RoomLaws.{digest-hash, length-putHash, hash-same, hash-other}
 use Rattle.verdict.proofs.VerdictLaws.{fits-reached}

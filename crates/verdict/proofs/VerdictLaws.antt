@@ -18,7 +18,8 @@ use Rattle.verdict.specs.Room.{filler}
 use Rattle.verdict.specs.Integrity.{Integrity, cameFrom}
 use Rattle.verdict.specs.Rooms.{roomsOf, stateOf, trustedIn, cameIn, gotBy}
 use Rattle.verdict.specs.Steps.{countedBit, countedHash}
-use Rattle.verdict.specs.Verdict.{roomVerdict, roomReached, kept, judgedOf, scratchBy, judgeSpec}
+use Rattle.verdict.specs.Verdict.{roomVerdict}
+use Rattle.verdict.specs.Steps.{roomReached, kept, judgedOf, scratchBy, judgeSpec}
 use Rattle.tree.proofs.NodeLaws.{whole-below, above-aligned}
 use Rattle.tree.proofs.PackLaws.{high-bound}
 use Rattle.tree.proofs.EachLaws.{every-unless}

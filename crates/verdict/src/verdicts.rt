@@ -14,7 +14,7 @@ ghost use Rattle.verdict.specs.Room.{filler};
 ghost use Rattle.verdict.specs.Integrity.{integrityOf};
 ghost use Rattle.verdict.specs.Rooms.{cameIn, gotBy};
 ghost use Rattle.verdict.specs.Steps.{countedBit, countedHash};
-ghost use Rattle.verdict.specs.Verdict.{kept, judgedOf, judgeSpec};
+ghost use Rattle.verdict.specs.Steps.{kept, judgedOf, judgeSpec};
 use crate::integrity;
 use crate::peaks;
 use crate::room;

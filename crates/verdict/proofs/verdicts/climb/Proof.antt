@@ -8,7 +8,7 @@ use Rattle.tree.specs.Node.{other, above}
 use Rattle.tree.specs.Tree.{joined, climb}
 use Rattle.verdict.specs.Integrity.{integrityOf}
 use Rattle.verdict.specs.Rooms.{gotBy}
-use Rattle.verdict.specs.Verdict.{kept}
+use Rattle.verdict.specs.Steps.{kept}
 use Rattle.verdict.proofs.ClimbLaws.{kept-none, kept-more}
 use Rattle.tree.proofs.TreeLaws.{climb-suc}
 use borrow.Author.Needs.{needs}
