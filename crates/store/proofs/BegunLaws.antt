@@ -73,7 +73,7 @@ module _ (w : Rooms) (r : List ℕ) (L : ℕ) where
         ∙ length-cleared (w .trusted) (2 * leafPlaces (countOf L));
   }
 
-  starts : startSpec w r L .answer ≡ 0 → (roomsAnswer L w ≡ 0) × (startSpec w r L .rooms ≡ startRooms w (countOf L) r)
+  pub starts : startSpec w r L .answer ≡ 0 → (roomsAnswer L w ≡ 0) × (startSpec w r L .rooms ≡ startRooms w (countOf L) r)
   unfolding startSpec
   starts = go (roomsAnswer L w)
     where

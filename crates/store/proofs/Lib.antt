@@ -15,4 +15,5 @@ pub mod AlikeLaws
 pub mod AcceptLaws
 pub mod ShorterLaws
 pub mod NeededLaws
+pub mod TrueLaws
 pub mod Promise

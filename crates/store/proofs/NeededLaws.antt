@@ -1,39 +1,34 @@
--- Taking a chunk looks at the needed hashes alone, and a true chunk with the true hashes that go out with it is taken.
--- Assumes nothing.
+-- Taking a chunk looks at the needed hashes alone. Assumes nothing.
 use mathlib.Core.Path.{_≡_, refl, sym, ap, ap₂, _∙_}
 use mathlib.Core.Bool.{Bool, true, false}
 use mathlib.Core.List.{List}
 use Prim.Native.Nat.{ℕ, suc, _*_, _/_, _%_, _^_, _<_}
 use native.Mathlib.Omega.{arith}
-use borrow.Author.Tests.{lt-leb, eq-eqb}
-use lib.ListN.{length, drop, length-drop}
-use lib.Seq.{length-take-le}
+use lib.ListN.{length}
 use Rattle.hash.proofs.Promise.{sha256}
 use Rattle.bits.proofs.Promise.{bitAt, setBit}
 use Rattle.base.specs.Pick.{pick}
 use Rattle.tree.specs.Node.{other, above}
-use Rattle.tree.specs.Pack.{chunkSize, size, levels}
+use Rattle.tree.specs.Pack.{chunkSize, levels}
 use Rattle.tree.specs.Peaks.{peaks}
 use Rattle.tree.specs.Tree.{climb}
 use Rattle.tree.specs.Verdicts.{orElse, every, number, peaksTrusted, reached}
 use Rattle.tree.specs.declared.verdict.Verdict.{Verdict}
 use Rattle.tree.specs.declared.verdict.Verdict.the-variants.{Fits, Missing, WrongPeaks, WrongClimb}
-use Rattle.tree.proofs.ChunkLaws.{chunk-inside}
 use Rattle.tree.proofs.PeakTests.{bit-peak}
 use Rattle.tree.proofs.TakeLaws.{fits-means}
 use Rattle.tree.proofs.TrueLaws as truth
 use Rattle.tree.proofs.NeededLaws as theory
 use Rattle.verdict.specs.Room.{filler, putHash}
 use Rattle.verdict.specs.Integrity.{Integrity, cameFrom}
-use Rattle.verdict.specs.Rooms.{Rooms, roomsOf, countOf, chunkIn, stateOf, trustedIn, gotBy}
+use Rattle.verdict.specs.Rooms.{Rooms, roomsOf, countOf, stateOf, trustedIn, gotBy}
 use Rattle.verdict.specs.Verdict.{roomVerdict}
 use Rattle.verdict.proofs.VerdictLaws.{verdict-sees}
 use Rattle.store.specs.Storing.{Put, mark, putPeaks, putAll, copied, stored, storeSpec, roomsBy}
-use Rattle.store.specs.Building.{treeOf, rootOf}
 use Rattle.store.specs.Answers.{earlier, chunkAnswer}
 use Rattle.store.specs.Calls.{outOf, unless, roomsAnswer, storeIfFits, takeSpec}
 use Rattle.store.proofs.StoringLaws.{peaks-alike, path-alike}
-use Rattle.store.specs.Needed.{SameNeeded, HoldsTrue, BringsTrue}
+use Rattle.store.specs.Needed.{SameNeeded}
 
 -- ---- the call
 
@@ -94,24 +89,3 @@ module _ (w : Rooms) (L c : ℕ) (o p : Integrity) (A : SameNeeded L w c o p) wh
         ap (unless (earlier (roomsAnswer L w) (chunkAnswer L c (length d))) w)
         (ap₂ outOf (ap number verdicts-same)
         (rooms-same _ refl ∙ ap (λ (v : Verdict). roomsBy v w (λ t. storeSpec w N c t d p)) verdicts-same))
-
--- ---- a true chunk
-
--- a chunk of the pack with the length that it has
-chunk-right : (L c n : ℕ) → c < countOf L → n ≡ size chunkSize L c → chunkAnswer L c n ≡ 0
-unfolding chunkAnswer
-chunk-right L c n l e = rw (lt-leb (countOf L) c l, eq-eqb n (size chunkSize L c) e)
-
-chunk-long : (s : List ℕ) (c : ℕ) → c < countOf (length s) → length (chunkIn (length s) s c) ≡ size chunkSize (length s) c
-chunk-long s c l =
-    length-take-le (size chunkSize (length s) c) (drop (chunkSize * c) s)
-    (rw (length-drop (chunkSize * c) s) (omega (arith, chunk-inside chunkSize (length s) (omega arith) c l)))
-
-pub take-true : (w : Rooms) (s : List ℕ) (c : ℕ) (o : Integrity) → roomsAnswer (length s) w ≡ 0 → c < countOf (length s) → HoldsTrue w s → BringsTrue s c o
-    → takeSpec w (rootOf s) (length s) c (chunkIn (length s) s c) o .answer ≡ 0
-unfolding takeSpec storeIfFits HoldsTrue BringsTrue treeOf rootOf
-take-true w s c o e l T B =
-    rw (e, chunk-right (length s) c _ l (chunk-long s c l))
-    (ap number
-    (verdict-sees (countOf (length s)) (rootOf s) (w .hashes) (w .trusted) c (chunkIn (length s) s c) o (length s) (w .bytes) (w .map)
-    ∙ truth.true-fits sha256 filler (countOf (length s)) (chunkIn (length s) s) (stateOf (length s) w) T c l (cameFrom o) B))

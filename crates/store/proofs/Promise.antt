@@ -16,7 +16,8 @@ use Rattle.verdict.proofs.RoomLaws.{digest-words}
 use Rattle.store.proofs.BegunLaws.{start-running, start-not-same, start-same-sizes, start-empty, build-running, build-not-same, build-same-sizes, build-bytes, build-whole}
 use Rattle.store.proofs.TakenLaws.{take-refused-same, take-means, take-sizes, take-running, take-map, take-bytes}
 use Rattle.store.proofs.AlikeLaws.{hangs, alike}
-use Rattle.store.proofs.NeededLaws.{take-same, take-true}
+use Rattle.store.proofs.NeededLaws.{take-same}
+use Rattle.store.proofs.TrueLaws.{start-true, take-true, keep-true}
 use Rattle.store.proofs.AnswerLaws as answers
 use Rattle.store.proofs.AcceptLaws as accept
 use Rattle.store.proofs.NumberLaws as numbers
@@ -192,11 +193,19 @@ module _ (w : Rooms) (r : List ℕ) (L c : ℕ) (d : List ℕ) (o : Integrity) w
 pub needed-only : (w : Rooms) (r : List ℕ) (L c : ℕ) (d : List ℕ) (o p : Integrity) → SameNeeded L w c o p → takeSpec w r L c d o ≡ takeSpec w r L c d p
 needed-only w r L c d o p A = take-same w L c o p A r d
 
--- Under the order of a content s, where the trusted hashes are those of s: chunk c of s is taken with the hashes that go out
--- with it.
-pub true-fits : (w : Rooms) (s : List ℕ) (c : ℕ) (o : Integrity) → roomsAnswer (length s) w ≡ 0 → c < countOf (length s) → HoldsTrue w s → BringsTrue s c o
-    → takeSpec w (rootOf s) (length s) c (chunkIn (length s) s c) o .answer ≡ 0
-true-fits = take-true
+-- A store that was started under the order of a content s holds its hashes.
+pub started-true : (w : Rooms) (s : List ℕ) → startSpec w (rootOf s) (length s) .answer ≡ 0 → HoldsTrue (startSpec w (rootOf s) (length s) .rooms) s
+started-true = start-true
+
+module _ (w : Rooms) (s : List ℕ) (c : ℕ) (o : Integrity) (T : HoldsTrue w s) (B : BringsTrue s c o) where
+  -- While it does, chunk c of s is taken with the hashes that go out with it,
+  pub true-fits : roomsAnswer (length s) w ≡ 0 → c < countOf (length s) → takeSpec w (rootOf s) (length s) c (chunkIn (length s) s c) o .answer ≡ 0
+  true-fits e l = take-true w s c o e l T B
+
+  -- and the store still holds the hashes of s.
+  pub stays-true : takeSpec w (rootOf s) (length s) c (chunkIn (length s) s c) o .answer ≡ 0
+      → HoldsTrue (takeSpec w (rootOf s) (length s) c (chunkIn (length s) s c) o .rooms) s
+  stays-true = keep-true w s c o T B
 
 -- ---- what a running store holds
 

@@ -56,17 +56,17 @@ module _ (w : Rooms) (r : List ℕ) (L c : ℕ) (d : List ℕ) (o : Integrity) w
       go (suc n) v q = refl
 
   -- the chunk fits below a node of height t, and the rooms are those that storing leaves
-  record Taken : Type 0 where
-    answers-right : earlier (roomsAnswer L w) (chunkAnswer L c (length d)) ≡ 0
-    height : ℕ
-    fits-there : told ≡ Fits height
-    stored-so : left ≡ storeSpec w (countOf L) c height d o
+  pub record Taken : Type 0 where
+    pub answers-right : earlier (roomsAnswer L w) (chunkAnswer L c (length d)) ≡ 0
+    pub height : ℕ
+    pub fits-there : told ≡ Fits height
+    pub stored-so : left ≡ storeSpec w (countOf L) c height d o
 
   left-is : earlier (roomsAnswer L w) (chunkAnswer L c (length d)) ≡ 0 → left ≡ roomsBy told w (λ t. storeSpec w (countOf L) c t d o)
   unfolding takeSpec storeIfFits
   left-is e = ap (λ (n : ℕ). unless n w (outOf (number told) (roomsBy told w (λ t. storeSpec w (countOf L) c t d o))) .rooms) e
 
-  taken : takeSpec w r L c d o .answer ≡ 0 → Taken
+  pub taken : takeSpec w r L c d o .answer ≡ 0 → Taken
   unfolding takeSpec storeIfFits
   taken = go (earlier (roomsAnswer L w) (chunkAnswer L c (length d))) told refl refl
     where
@@ -85,7 +85,7 @@ module _ (w : Rooms) (r : List ℕ) (L c : ℕ) (d : List ℕ) (o : Integrity) w
       let g = chunk-facts L c (length d) (p .1) in
       (roomy-order L w (p .0), g .0, g .1)
 
-  fitting : takeSpec w r L c d o .answer ≡ 0 → Fitting L w (countOf L) c d
+  pub fitting : takeSpec w r L c d o .answer ≡ 0 → Fitting L w (countOf L) c d
   fitting e =
       let m = take-means e in
       let R = m .0 in

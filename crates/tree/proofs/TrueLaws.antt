@@ -1,12 +1,14 @@
 -- A true chunk that comes with true hashes is taken: no store that holds true hashes refuses it. Assumes nothing.
-use mathlib.Core.Path.{_≡_, refl, ap, ap₂, _∙_}
+use mathlib.Core.Path.{_≡_, refl, sym, ap, ap₂, _∙_}
+use mathlib.Core.Logic.{_⊎_, inl, inr, _≢_}
 use mathlib.Core.Bool.{Bool, true, false}
 use mathlib.Core.List.{List, [], _++_}
 use mathlib.Core.Option.{some}
-use Prim.Native.Nat.{ℕ, zero, suc, _+_, _^_, _≤_, _<_}
+use Prim.Native.Nat.{ℕ, zero, suc, _+_, _/_, _%_, _^_, _≤_, _<_}
 use native.Mathlib.Omega.{arith}
-use borrow.Author.Tests.{leb-true}
-use lib.Dec.{leb, ltb}
+use native.Mathlib.Decide.{ℕ-discrete}
+use borrow.Author.Tests.{eq-eqb, ne-eqb, eqb-true, ltb-true, leb-true}
+use lib.Dec.{leb, ltb, eqb}
 use Rattle.base.specs.Same.{same}
 use Rattle.base.proofs.SameLaws.{same-refl}
 use Rattle.base.specs.Pick.{pick}
@@ -14,11 +16,11 @@ use Rattle.tree.specs.Node.{Node, other, above}
 use Rattle.tree.specs.Pack.{levels}
 use Rattle.tree.specs.Peaks.{peaks, peakOf, siblings, sent}
 use Rattle.tree.specs.Tree.{tree, root, combined, joined, climb}
-use Rattle.tree.specs.State.{State, isPeak, adopted}
+use Rattle.tree.specs.State.{State, isPeak, onPath, adopted, hung}
 use Rattle.tree.specs.Verdicts.{Came, isThere, orElse, got, every, Each, peaksTrusted, reached, needed, counted, complete, rooted, met, verdict}
 use Rattle.tree.specs.Steps.{siblingAt}
 use Rattle.tree.specs.declared.verdict.Verdict.the-variants.{Fits}
-use Rattle.tree.proofs.NodeLaws.{down-above, whole-below, above-aligned}
+use Rattle.tree.proofs.NodeLaws.{above-left, above-right, other-left, other-right, down-above, whole-below, above-aligned, child-cases}
 use Rattle.tree.proofs.PackLaws.{high-bound}
 use Rattle.tree.proofs.TreeLaws.{combined-root, climb-true}
 use Rattle.tree.proofs.PeakLaws.{peak-of}
@@ -37,6 +39,16 @@ climb-agree H x y v c zero e = refl
 climb-agree H x y v c (suc t) e =
     rw (down-above t c)
     (ap₂ (λ (p q : List ℕ). joined H c t (above (suc t) c) p q) (climb-agree H x y v c t (λ h l. e h (omega arith))) (e t (omega arith)))
+
+-- a node beside the way is the sibling of one on it
+beside : (h c a : ℕ) → above h a ≡ a → above (suc h) a ≡ above (suc h) c → a ≢ above h c → a ≡ other c h (above (suc h) c)
+beside h c a e p d = go (c / 2 ^ h % 2) refl (child-cases h a e)
+  where
+    go : (x : ℕ) → c / 2 ^ h % 2 ≡ x → (a ≡ above (suc h) a) ⊎ (a ≡ above (suc h) a + 2 ^ h) → a ≡ other c h (above (suc h) c)
+    go zero f (inl q) = absurd (d (omega (arith, q, p, above-left h c f)))
+    go zero f (inr q) = omega (arith, q, p, above-left h c f, other-left h c f)
+    go (suc x) f (inl q) = let g : c / 2 ^ h % 2 ≡ 1 = omega arith in omega (arith, q, p, above-right h c g, other-right h c g)
+    go (suc x) f (inr q) = let g : c / 2 ^ h % 2 ≡ 1 = omega arith in absurd (d (omega (arith, q, p, above-right h c g)))
 
 -- ---- true hashes
 
@@ -129,18 +141,37 @@ module _ (H : List ℕ → List ℕ) (Z : List ℕ) (N : ℕ) (chunk : ℕ → L
         go true = tt
         go false = each-map (TrueAt m) There (λ n. ap isThere) (peaks N) (parts .0)
 
+    climbs : (t : ℕ) → t ≤ reached N s c → climb H (got Z m) (H d) c t (above t c) ≡ tree H Z N chunk t (above t c)
+    climbs t u =
+        climb-agree H (got Z m) (tree H Z N chunk) (H d) c t (λ h i. ap (orElse Z) (sibling-true h (omega (arith, reach .within))))
+        ∙ climb-true H Z N chunk c t l
+
     meets : met H Z N r s c d m ≡ true
     unfolding met
     meets =
         let t = reached N s c in
         let p = peakOf N c .high in
-        let climbs : climb H (got Z m) (H d) c t (above t c) ≡ tree H Z N chunk t (above t c) =
-        climb-agree H (got Z m) (tree H Z N chunk) (H d) c t (λ h u. ap (orElse Z) (sibling-true h (omega (arith, reach .within)))) ∙ climb-true H Z N chunk c t l in
         let inside : above t c + 2 ^ t ≤ N = whole-below N c t p (reach .within .1) (peak-in p (above p c) (peak-test N c l)) in
         let holds : counted H Z N r s c d m .hash t (above t c) ≡ tree H Z N chunk t (above t c) = counted-true t (above t c) (above-aligned t c) inside (reach .passes) in
-        ap₂ same climbs holds ∙ same-refl (tree H Z N chunk t (above t c))
+        ap₂ same (climbs t (omega arith)) holds ∙ same-refl (tree H Z N chunk t (above t c))
 
     -- The verdict on a true chunk with the true hashes that go out with it: it fits.
     pub true-fits : verdict H Z N r s c d m ≡ Fits (reached N s c)
     unfolding verdict
     true-fits = rw (completes, roots, meets)
+
+    -- What hanging it writes is true, so the store still holds true hashes.
+    pub hung-true : HoldsTrue (hung H c (reached N s c) d (got Z m) (counted H Z N r s c d m))
+    hung-true h a e i f = go (onPath c (reached N s c) h a) refl f
+      where
+        at : h < reached N s c → above (suc h) a ≡ above (suc h) c → Dec (a ≡ above h c)
+            → pick (eqb a (above h c)) (climb H (got Z m) (H d) c h (above h c)) (got Z m h a) ≡ tree H Z N chunk h a
+        at u v (yes z) = rw (eq-eqb a (above h c) z) (climbs h (omega arith) ∙ ap (tree H Z N chunk h) (sym z))
+        at u v (no z) = rw (ne-eqb a (above h c) z) (rw (beside h c a e v z) (ap (orElse Z) (sibling-true h (omega (arith, reach .within)))))
+
+        go : (b : Bool) → onPath c (reached N s c) h a ≡ b → pick b true (counted H Z N r s c d m .trust h a) ≡ true
+            → pick b (pick (eqb a (above h c)) (climb H (got Z m) (H d) c h (above h c)) (got Z m h a)) (counted H Z N r s c d m .hash h a) ≡ tree H Z N chunk h a
+        go true p g =
+            let q = both-true (ltb h (reached N s c)) (eqb (above (suc h) a) (above (suc h) c)) p in
+            at (ltb-true h (reached N s c) (q .0)) (eqb-true (above (suc h) a) (above (suc h) c) (q .1)) (ℕ-discrete a (above h c))
+        go false p g = counted-true h a e i g
