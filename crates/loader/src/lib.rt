@@ -5,9 +5,9 @@
 // channel, and encodes the state that this leaves. A room for the state that is too short is answered with 11, for
 // starting and building after 12, and words that no call wrote get an answer too.
 pub mod datagrams; // a datagram, message by message, written and read
-pub mod leaving; // what a call leaves of its outcome
-pub mod message; // a message in numbers
+mod leaving; // what a call leaves of its outcome
+mod message; // a message in numbers
 pub mod running; // open a channel, take in a datagram, write a chunk, ask
 pub mod sizes; // the sizes of the rooms
 pub mod starting; // start a store, build one
-pub mod state; // a state as words
+mod state; // a state as words
