@@ -2,3 +2,4 @@
 pub mod PickLaws
 pub mod SameLaws
 pub mod AmongLaws
+pub mod OutLaws

@@ -1,14 +1,14 @@
 -- Two strings are the same exactly where the test says so. Assumes nothing.
 use mathlib.Core.Path.{_≡_, refl}
 use mathlib.Core.Logic.{_≢_}
-use mathlib.Core.Bool.{Bool, true, false}
+use mathlib.Core.Bool.{Bool, true, false, _&&_}
 use mathlib.Core.List.{List, [], _∷_}
 use Prim.Native.Nat.{ℕ}
 use native.Mathlib.Omega.{arith}
 use native.Mathlib.Decide.{ℕ-discrete}
 use borrow.Author.Tests.{eq-eqb, ne-eqb}
 use lib.Dec.{eqb}
-use Rattle.base.specs.Same.{both, same}
+use Rattle.base.specs.Same.{same}
 
 pub same-refl : (s : List ℕ) → same s s ≡ true
 unfolding same
@@ -18,7 +18,7 @@ same-refl (x ∷ s) = rw (eq-eqb x x refl) (same-refl s)
 differ : false ≡ true → ⊥
 differ e = let z : _≡_ {A = ℕ} 0 1 = cc in omega arith
 
-never : (q : Bool) → both q false ≡ false
+never : (q : Bool) → (q && false) ≡ false
 never true = refl
 never false = refl
 
@@ -29,7 +29,7 @@ same-not [] (y ∷ t) d = refl
 same-not (x ∷ s) [] d = refl
 same-not (x ∷ s) (y ∷ t) d = go (ℕ-discrete x y) (λ n. same-not s t n)
   where
-    go : Dec (x ≡ y) → (s ≢ t → same s t ≡ false) → both (eqb x y) (same s t) ≡ false
+    go : Dec (x ≡ y) → (s ≢ t → same s t ≡ false) → (eqb x y && same s t) ≡ false
     go (yes e) ih = rw (ih (λ f. d (rw (e, f)))) (never (eqb x y))
     go (no n) ih = rw (ne-eqb x y n)
 

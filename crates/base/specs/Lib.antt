@@ -2,3 +2,4 @@
 pub mod Pick
 pub mod Same
 pub mod Among
+pub mod Out

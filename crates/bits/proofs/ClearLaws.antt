@@ -50,3 +50,19 @@ unfolding run
 words-run-out zero a ws j h = refl
 words-run-out (suc n) a ws j h =
     off-word (run clearAt n a ws) (a + n) j (λ e. h (omega arith) (omega arith)) ∙ words-run-out n a ws j (λ p q. h p (omega arith))
+
+-- ---- word by word
+
+pub cleared-before : (n a : ℕ) (ws : List ℕ) (i : ℕ) → i < a → getD (run clearAt n a ws) i 0 ≡ getD ws i 0
+unfolding run
+cleared-before zero a ws i h = refl
+cleared-before (suc n) a ws i h = getD-set-other (run clearAt n a ws) (a + n) i 0 0 (λ e. omega arith) ∙ cleared-before n a ws i h
+
+pub cleared-in : (n a : ℕ) (ws : List ℕ) (i : ℕ) → a ≤ i → i < a + n → getD (run clearAt n a ws) i 0 ≡ 0
+unfolding run
+cleared-in zero a ws i h l = absurd (omega arith)
+cleared-in (suc n) a ws i h l =
+    elim (ℕ-discrete i (a + n)) [
+      | yes e ↦ rw e (cleared (run clearAt n a ws) (a + n))
+      | no d ↦ getD-set-other (run clearAt n a ws) (a + n) i 0 0 d ∙ cleared-in n a ws i h (omega arith)
+    ]

@@ -1,26 +1,51 @@
 -- What it says of the order and of the rooms that neither 12 nor 11 refuses a call. Assumes nothing.
-use Prim.Native.Nat.{ℕ, _*_, _≤_}
-use mathlib.Core.Path.{_≡_}
+use Prim.Native.Nat.{ℕ, _≤_}
+use mathlib.Core.Path.{_≡_, ap, _∙_}
 use borrow.Author.Tests.{ltb-false}
 use lib.Dec.{ltb}
-use Rattle.bits.proofs.Promise.{rowWords}
-use Rattle.table.proofs.Promise.{rowCount}
+use Rattle.base.specs.Pick.{pick}
+use Rattle.table.proofs.Promise.{stateWords}
 use Rattle.wire.proofs.Promise.{maxSize}
-use Rattle.store.proofs.Promise.{earlier, passed, both-zero, countOf, lengthAnswer, orderAnswer, order-accepted}
-use Rattle.channel.specs.Answers.{channelRoomsAnswer}
+use Rattle.store.proofs.Promise.{passed, both-zero, countOf, lengthAnswer, roomsAnswer, buildAnswer, order-accepted}
+use lib.ListN.{length}
+use Rattle.channel.specs.World.{World, orderLength}
+use Rattle.channel.specs.Answers.{peerWords, channelRoomsAnswer, channelsAnswer, allRoomsAnswer, ownRoomsAnswer}
+use Rattle.channel.specs.Starting.{buildNumber}
+use mathlib.Core.List.{List}
 
 -- The rooms for what the peers have and want hold their rows, and the reply room a datagram.
-pub channel-rooms-accepted : (L h w r : ℕ) → channelRoomsAnswer L h w r ≡ 0
-    → (rowCount * rowWords (countOf L) ≤ h) × (rowCount * rowWords (countOf L) ≤ w) × (maxSize ≤ r)
+pub channel-rooms-accepted : (L s h w r : ℕ) → channelRoomsAnswer L s h w r ≡ 0
+    → (stateWords ≤ s) × (peerWords (countOf L) ≤ h) × (peerWords (countOf L) ≤ w) × (maxSize ≤ r)
 unfolding channelRoomsAnswer
-channel-rooms-accepted L h w r e =
-    let p = passed (ltb h (rowCount * rowWords (countOf L))) 10 _ e in
-    let q = passed (ltb w (rowCount * rowWords (countOf L))) 10 _ (p .1) in
-    let s = passed (ltb r maxSize) 10 0 (q .1) in
-    (ltb-false h (rowCount * rowWords (countOf L)) (p .0), ltb-false w (rowCount * rowWords (countOf L)) (q .0), ltb-false r maxSize (s .0))
+channel-rooms-accepted L s h w r e =
+    let n = passed (ltb s stateWords) 10 _ e in
+    let p = passed (ltb h (peerWords (countOf L))) 10 _ (n .1) in
+    let q = passed (ltb w (peerWords (countOf L))) 10 _ (p .1) in
+    let t = passed (ltb r maxSize) 10 0 (q .1) in
+    (ltb-false s stateWords (n .0), ltb-false h (peerWords (countOf L)) (p .0), ltb-false w (peerWords (countOf L)) (q .0), ltb-false r maxSize (t .0))
 
--- The length is within the limit, and the reply room holds a datagram.
-pub call-accepted : (L b m h t x y r : ℕ) → earlier (orderAnswer L b m h t) (channelRoomsAnswer L x y r) ≡ 0 → (lengthAnswer L ≡ 0) × (maxSize ≤ r)
-call-accepted L b m h t x y r e =
-    let p = both-zero (orderAnswer L b m h t) (channelRoomsAnswer L x y r) e in
-    (order-accepted L b m h t (p .0) .0, channel-rooms-accepted L x y r (p .1) .2)
+-- The number under the length that was read.
+pub own-number : (w : World) {m k : ℕ} → m ≡ orderLength (w .channels .state)
+    → k ≡ pick (ltb (length (w .channels .state)) stateWords) 11 (allRoomsAnswer m w) → k ≡ ownRoomsAnswer w
+own-number w e p = p ∙ ap (λ (L : ℕ). pick (ltb (length (w .channels .state)) stateWords) 11 (allRoomsAnswer L w)) e
+
+-- A call that neither 12 nor 11 refuses: the length is within the limit, the state is in its room, the reply room holds a
+-- datagram.
+pub own-accepted : (w : World) → ownRoomsAnswer w ≡ 0
+    → (lengthAnswer (orderLength (w .channels .state)) ≡ 0) × (stateWords ≤ length (w .channels .state)) × (maxSize ≤ length (w .channels .reply))
+own-accepted w e =
+    let L = orderLength (w .channels .state) in
+    let p = both-zero (roomsAnswer L (w .rooms)) (channelsAnswer L (w .channels)) (passed (ltb (length (w .channels .state)) stateWords) 10 _ e .1) in
+    let r = channel-rooms-accepted L (length (w .channels .state)) (length (w .channels .has)) (length (w .channels .wants)) (length (w .channels .reply)) (p .1) in
+    (order-accepted L _ _ _ _ (p .0) .0, r .0, r .3)
+
+-- Neither 12 nor 11 under a new order, and for a building: the state has its room.
+pub rooms-state : (L : ℕ) (w : World) → allRoomsAnswer L w ≡ 0 → stateWords ≤ length (w .channels .state)
+rooms-state L w e =
+    channel-rooms-accepted L (length (w .channels .state)) (length (w .channels .has)) (length (w .channels .wants)) (length (w .channels .reply))
+    (both-zero (roomsAnswer L (w .rooms)) (channelsAnswer L (w .channels)) e .1) .0
+
+pub build-state : (w : World) (L : ℕ) (s : List ℕ) → buildNumber w L s ≡ 0 → stateWords ≤ length (w .channels .state)
+build-state w L s e =
+    channel-rooms-accepted L (length (w .channels .state)) (length (w .channels .has)) (length (w .channels .wants)) (length (w .channels .reply))
+    (both-zero (buildAnswer L (length s) (length (w .rooms .bytes)) (length (w .rooms .map)) (length (w .rooms .hashes)) (length (w .rooms .trusted))) (channelsAnswer L (w .channels)) e .1) .0

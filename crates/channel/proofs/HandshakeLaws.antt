@@ -15,13 +15,13 @@ use Rattle.wire.proofs.Promise.{be32}
 use Rattle.wire.specs.declared.message.Options.{Options}
 use Rattle.wire.specs.declared.message.Options.the-variants.{Fixed, EndOnly, Other}
 use Rattle.writer.proofs.Promise.{within}
-use Rattle.table.proofs.Promise.{rowOf, rowAt, withRow, rowAfter, handshakeAnswer}
+use Rattle.table.proofs.Promise.{rowOf, rowAt, rowAfter, putRow, orderIn, handshakeAnswer}
 use Rattle.table.specs.declared.rows.Row.{Row}
-use Rattle.table.specs.declared.rows.Table.{Table}
-use Rattle.channel.specs.World.{Channels, channelsOf, Out, outOf, orderRoot, tableRows, putRow}
+use Rattle.hash.specs.declared.value.HashValue.{HashValue}
+use Rattle.channel.specs.World.{Channels, channelsOf, Out, outOf, orderRoot, tableRows}
 use Rattle.channel.specs.Opening.{openedRow, occupied}
 use Rattle.channel.specs.Take.{rowFor, ours, handshakeTaken}
-use Rattle.channel.proofs.OutLaws.{unless-not, unless-done}
+use Rattle.base.proofs.OutLaws.{unless-not, unless-done}
 
 -- ---- the options
 
@@ -55,6 +55,10 @@ module _ (root s : List ℕ) {o : Options} where
   unfolding ours
   ours-other e = rw e
 
+-- With the root that was read.
+pub ours-read : (st s : List ℕ) (o : Options) {root : HashValue} {b : Bool} → root ≡ orderIn st .root → b ≡ ours (bytesOf (root .words)) s o → b ≡ ours (orderRoot st) s o
+ours-read st s o e p = p ∙ ap (λ (r : HashValue). ours (bytesOf (r .words)) s o) e
+
 -- ---- a HANDSHAKE
 
 module _ (ch : Channels) (id : ℕ) (s : List ℕ) (a : ℕ) (o : Options) {to k : ℕ} {b : Bool} (te : to ≡ be32 s 0) (be : b ≡ ours (orderRoot (ch .state)) s o)
@@ -79,7 +83,7 @@ module _ (ch : Channels) (id : ℕ) (s : List ℕ) (a : ℕ) (o : Options) {to k
   handshake-opens z e p = taken z (p ∙ rw (eq-eqb (be32 s 0) 0 (sym te ∙ e)))
 
   -- One to a row in use changes that row.
-  pub handshake-changes : k ≡ 0 → to ≢ 0 → {i : ℕ} {r q : Row} {t : Table} → i ≡ rowOf (tableRows (ch .state)) to → r ≡ rowAt (tableRows (ch .state)) i → q ≡ rowAfter r a
-      → t ≡ withRow (ch .state .table) i q
-      → outOf 0 0 (channelsOf (record { order = ch .state .order; table = t }) (ch .has) (ch .wants) (ch .reply)) ≡ handshakeTaken ch id s a o
+  pub handshake-changes : k ≡ 0 → to ≢ 0 → {i : ℕ} {r q : Row} {t : List ℕ} → i ≡ rowOf (tableRows (ch .state)) to → r ≡ rowAt (tableRows (ch .state)) i → q ≡ rowAfter r a
+      → t ≡ putRow (ch .state) i q
+      → outOf 0 0 (channelsOf t (ch .has) (ch .wants) (ch .reply)) ≡ handshakeTaken ch id s a o
   handshake-changes z d ie re qe we = taken z (rw (ne-eqb (be32 s 0) 0 (λ e. d (te ∙ e)), we, qe, re, ie, te))

@@ -7,16 +7,16 @@ use mathlib.Core.List.{List}
 use lib.Dec.{eqb}
 use Rattle.base.specs.Pick.{pick}
 use Rattle.table.specs.declared.rows.Row.{Row}
-use Rattle.table.proofs.Promise.{handshakeAnswer}
+use Rattle.table.proofs.Promise.{putRow, handshakeAnswer}
 use Rattle.wire.proofs.Promise.{be32, layoutOf}
 use Rattle.wire.specs.declared.message.Options.{Options}
 use Rattle.wire.specs.declared.layout.Layout.{Layout}
 use Rattle.wire.specs.declared.layout.Layout.the-variants.{Fault, HandshakeAlone, Messages, MessagesAndData}
-use Rattle.channel.specs.World.{Channels, channelsOf, World, Out, outOf, orderRoot, tableRows, putRow}
+use Rattle.channel.specs.World.{Channels, channelsOf, World, Out, outOf, orderRoot, tableRows}
 use Rattle.channel.specs.Answers.{ownRoomsAnswer}
 use Rattle.channel.specs.Opening.{openedRow, occupied}
 use Rattle.channel.specs.Take.{ours, handshakeTaken, messagesNumber, affected, messagesTaken, replied, storeOut, dataBy, dataTaken, byLayout, takeSpec}
-use Rattle.channel.proofs.OutLaws.{unless-keeps}
+use Rattle.base.proofs.OutLaws.{unless-keeps}
 
 module _ {A : Type 0} (f : Channels → A)
     (opening : (ch : Channels) (r : Row) → f (occupied ch r .after) ≡ f ch)

@@ -1,21 +1,16 @@
--- What the proofs of several functions cite, and the theorem over every list of calls.
-pub mod OutLaws
-pub mod AcceptLaws
+-- What the proofs of several functions cite.
 pub mod RoomLaws
-pub mod WriteLaws
-pub mod StartLaws
+pub mod AcceptLaws
 pub mod OpenLaws
 pub mod HandshakeLaws
 pub mod TakeLaws
+pub mod StartLaws
+pub mod WriteLaws
+pub mod AskLaws
 pub mod KeepLaws
-pub mod StepLaws
-pub mod RunLaws
-pub mod DemandLaws
 pub mod RefusedLaws
 pub mod ReplyLaws
 pub mod ShorterLaws
-pub mod ShapeLaws
 pub mod NumberLaws
 pub mod ReadBackLaws
-pub mod SufficeLaws
 pub mod Promise

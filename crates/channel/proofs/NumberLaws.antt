@@ -1,16 +1,16 @@
 -- The numbers that each call can give. Assumes nothing.
-use Prim.Native.Nat.{ℕ, zero, suc, _*_}
-use mathlib.Core.Path.{_≡_, refl, _∙_}
+use Prim.Native.Nat.{ℕ, zero, suc}
+use mathlib.Core.Path.{_≡_, refl}
 use mathlib.Core.Bool.{Bool, true, false, not}
 use mathlib.Core.List.{List, [], _∷_}
 use lib.Dec.{leb, ltb, eqb}
 use lib.ListN.{length}
 use Rattle.base.specs.Pick.{pick}
 use Rattle.base.specs.Among.{among, OneOf}
+use Rattle.base.proofs.OutLaws.{unless-one}
 use Rattle.base.proofs.AmongLaws.{allAmong, pick-one, earlier-one, one-of-more}
-use Rattle.bits.proofs.Promise.{bitAt, rowWords}
-use Rattle.table.proofs.Promise.{rowCount, openAnswer, messagesAnswer, handshakeAnswer, writeAnswer, open-numbered, messages-numbered, handshake-numbered, write-numbered}
-use Rattle.table.specs.declared.rows.Row.{Row}
+use Rattle.bits.proofs.Promise.{bitAt}
+use Rattle.table.proofs.Promise.{stateWords, messagesAnswer, handshakeAnswer, writeAnswer, open-numbered, messages-numbered, handshake-numbered, write-numbered}
 use Rattle.wire.proofs.Promise.{be32, minSize, maxSize, numberOf, layoutOf, layout-one}
 use Rattle.wire.specs.declared.message.Options.{Options}
 use Rattle.wire.specs.declared.layout.Layout.{Layout}
@@ -18,44 +18,39 @@ use Rattle.wire.specs.declared.layout.Layout.the-variants.{Fault, HandshakeAlon
 use Rattle.writer.proofs.Promise.{readAll}
 use Rattle.effects.proofs.Promise.{anyPast}
 use Rattle.held.proofs.Promise.{ask-numbered}
-use Rattle.store.proofs.Promise.{refuse, earlier, both-zero, countOf, roomsAnswer, orderAnswer, buildAnswer, order-numbered, build-numbered, take-numbered}
-use Rattle.store.specs.declared.calls.Order.{Order}
-use Rattle.channel.specs.declared.state.State.{State}
-use Rattle.channel.specs.World.{Channels, World, Out, outOf, unless, beside, orderRoot, orderLength, chunkCount, tableRows}
-use Rattle.channel.specs.Answers.{channelRoomsAnswer, channelsAnswer, allRoomsAnswer, ownRoomsAnswer}
-use Rattle.channel.specs.Opening.{callingRow, openedRow, occupied, openNumber, openSpec}
+use Rattle.store.proofs.Promise.{passed, both-zero, countOf, roomsAnswer, buildAnswer, order-numbered, build-numbered, take-numbered}
+use Rattle.order.specs.declared.Order.{Order}
+use Rattle.channel.specs.World.{Channels, World, Out, orderRoot, orderLength, chunkCount, tableRows}
+use Rattle.channel.specs.Answers.{peerWords, channelRoomsAnswer, channelsAnswer, allRoomsAnswer, ownRoomsAnswer}
+use Rattle.channel.specs.Opening.{openedRow, occupied, openNumber, openSpec}
 use Rattle.channel.specs.Starting.{startSpec, buildNumber, buildSpec}
 use Rattle.channel.specs.Take.{ours, handshakeTaken, messagesNumber, messagesTaken, storeOut, dataBy, dataTaken, byLayout, takeSpec}
 use Rattle.channel.specs.Write.{heldAnswer, writeNumber, writeSpec}
-use Rattle.channel.specs.Ask.{askSpec}
-
--- ---- one of a call's numbers
-
-module _ (ms : List ℕ) where
-  refuse-one : (b : Bool) (x y : ℕ) → OneOf ms x → OneOf ms y → OneOf ms (refuse b x y)
-  refuse-one true x y p q = p
-  refuse-one false x y p q = q
-
-  unless-one : {W : Type 0} (n : ℕ) (old : W) (out : Out W) → OneOf ms n → OneOf ms (out .answer) → OneOf ms (unless n old out .answer)
-  unless-one zero old out p q = q
-  unless-one (suc n) old out p q = p
+use Rattle.channel.specs.Ask.{Asked, askedOf, askSpec}
 
 -- ---- 12 and 11
 
 abbrev roomNumbers : List ℕ
 roomNumbers = 0 ∷ 11 ∷ 12 ∷ []
 
-channel-rooms-one : (L h w r : ℕ) → OneOf roomNumbers (channelRoomsAnswer L h w r)
+channel-rooms-one : (L s h w r : ℕ) → OneOf roomNumbers (channelRoomsAnswer L s h w r)
 unfolding channelRoomsAnswer among
-channel-rooms-one L h w r =
-    let words = rowCount * rowWords (countOf L) in
-    refuse-one roomNumbers (ltb h words) 11 _ refl (refuse-one roomNumbers (ltb w words) 11 _ refl (refuse-one roomNumbers (ltb r maxSize) 11 0 refl refl))
+channel-rooms-one L s h w r =
+    let words = peerWords (countOf L) in
+    pick-one roomNumbers (ltb s stateWords) 11 _ refl
+    (pick-one roomNumbers (ltb h words) 11 _ refl
+    (pick-one roomNumbers (ltb w words) 11 _ refl
+    (pick-one roomNumbers (ltb r maxSize) 11 0 refl refl)))
 
 rooms-one : (L : ℕ) (w : World) → OneOf roomNumbers (allRoomsAnswer L w)
 rooms-one L w =
     earlier-one roomNumbers (roomsAnswer L (w .rooms)) (channelsAnswer L (w .channels))
     (order-numbered L (length (w .rooms .bytes)) (length (w .rooms .map)) (length (w .rooms .hashes)) (length (w .rooms .trusted)))
-    (channel-rooms-one L (length (w .channels .has)) (length (w .channels .wants)) (length (w .channels .reply)))
+    (channel-rooms-one L (length (w .channels .state)) (length (w .channels .has)) (length (w .channels .wants)) (length (w .channels .reply)))
+
+own-one : (w : World) → OneOf roomNumbers (ownRoomsAnswer w)
+unfolding among
+own-one w = pick-one roomNumbers (ltb (length (w .channels .state)) stateWords) 11 _ refl (rooms-one (orderLength (w .channels .state)) w)
 
 pub start-one : (w : World) (o : Order) → OneOf (0 ∷ 11 ∷ 12 ∷ []) (startSpec w o .answer)
 unfolding startSpec among
@@ -68,12 +63,16 @@ build-one w L s =
     let h = length (w .rooms .hashes) in let t = length (w .rooms .trusted) in
     unless-one roomNumbers (buildNumber w L s) w _
     (earlier-one roomNumbers (buildAnswer L (length s) b m h t) (channelsAnswer L (w .channels)) (build-numbered L (length s) b m h t)
-    (channel-rooms-one L (length (w .channels .has)) (length (w .channels .wants)) (length (w .channels .reply))))
+    (channel-rooms-one L (length (w .channels .state)) (length (w .channels .has)) (length (w .channels .wants)) (length (w .channels .reply))))
     refl
 
-pub ask-one : (st : State) (map : List ℕ) → OneOf (0 ∷ 11 ∷ 12 ∷ []) (askSpec st map .answer)
-unfolding askSpec
-ask-one st map = ask-numbered (orderLength st) map
+either-asked : (b : Bool) (x y : Asked) → OneOf roomNumbers (x .answer) → OneOf roomNumbers (y .answer) → OneOf roomNumbers (pick b x y .answer)
+either-asked true x y p q = p
+either-asked false x y p q = q
+
+pub ask-one : (st map : List ℕ) → OneOf (0 ∷ 11 ∷ 12 ∷ []) (askSpec st map .answer)
+unfolding askSpec among
+ask-one st map = either-asked (ltb (length st) stateWords) (askedOf 11 0 false) _ refl (ask-numbered (orderLength st) map)
 
 -- ---- in rooms that suffice: neither 11 nor 12
 
@@ -92,7 +91,7 @@ module _ (w : World) (enough : ownRoomsAnswer w ≡ 0) where
       let h = heldAnswer N c (w .rooms .map) in
       unless-one ms (writeNumber w id c) w _
       (rw enough (earlier-one ms r h (one-of-more (0 ∷ 3 ∷ []) ms r refl (write-numbered (tableRows (w .channels .state)) id))
-      (refuse-one ms (leb N c) 7 _ refl (refuse-one ms (not (bitAt (w .rooms .map) c)) 13 0 refl refl))))
+      (pick-one ms (leb N c) 7 _ refl (pick-one ms (not (bitAt (w .rooms .map) c)) 13 0 refl refl))))
       refl
 
   abbrev takeNumbers : List ℕ
@@ -110,7 +109,7 @@ module _ (w : World) (enough : ownRoomsAnswer w ≡ 0) where
       done true x y p q = rw p refl
       done false x y p q = rw q refl
 
-  messages-number-one : (st : State) (s : List ℕ) → OneOf takeNumbers (messagesNumber st s)
+  messages-number-one : (st s : List ℕ) → OneOf takeNumbers (messagesNumber st s)
   unfolding messagesNumber among allAmong
   messages-number-one st s =
       let n = messagesAnswer (tableRows st) (be32 s 0) (eqb (length s) minSize) in
@@ -123,7 +122,7 @@ module _ (w : World) (enough : ownRoomsAnswer w ≡ 0) where
   unfolding dataTaken dataBy among allAmong
   data-one clock s entries c timestamp start n =
       let out = storeOut w s entries c start n in
-      let p = both-zero (roomsAnswer (orderLength (w .channels .state)) (w .rooms)) (channelsAnswer (orderLength (w .channels .state)) (w .channels)) enough in
+      let p = both-zero (roomsAnswer (orderLength (w .channels .state)) (w .rooms)) (channelsAnswer (orderLength (w .channels .state)) (w .channels)) (passed (ltb (length (w .channels .state)) stateWords) 10 _ enough .1) in
       unless-one takeNumbers (messagesNumber (w .channels .state) s) w _ (messages-number-one (w .channels .state) s)
       (unless-one takeNumbers (out .answer) w _
       (one-of-more (0 ∷ 7 ∷ 8 ∷ 9 ∷ 10 ∷ []) takeNumbers (out .answer) refl (take-numbered (w .rooms) (orderRoot (w .channels .state)) (orderLength (w .channels .state)) c _ _ (p .0)))
@@ -144,7 +143,7 @@ module _ (w : World) (enough : ownRoomsAnswer w ≡ 0) where
 
 -- What a call gives that 12 or 11 refuses.
 refused-one : (ms : List ℕ) → allAmong roomNumbers ms ≡ true → (w : World) (n : ℕ) → ownRoomsAnswer w ≡ n → OneOf ms n
-refused-one ms a w n e = rw e at (one-of-more roomNumbers ms (ownRoomsAnswer w) a (rooms-one (orderLength (w .channels .state)) w))
+refused-one ms a w n e = rw e at (one-of-more roomNumbers ms (ownRoomsAnswer w) a (own-one w))
 
 open-by : (w : World) (id n : ℕ) → ownRoomsAnswer w ≡ n → OneOf (0 ∷ 6 ∷ 11 ∷ 12 ∷ 14 ∷ []) (openSpec w id .answer)
 unfolding openSpec among allAmong

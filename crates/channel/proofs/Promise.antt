@@ -1,37 +1,29 @@
 -- What the crates above know of this one: of its definitions the names passed on here, which numbers a call can give, that a
--- refused one alters nothing, demand 2 of what is taken and sent, and demand 3. Assumes nothing.
+-- refused one alters nothing, and demand 2 of what is taken and sent. Assumes nothing.
 use mathlib.Core.Path.{_≡_}
-use mathlib.Core.Logic.{_≢_}
 use mathlib.Core.Option.{some}
-use mathlib.Core.Bool.{false}
 use mathlib.Core.List.{List, [], _∷_}
 use Prim.Native.Nat.{ℕ, _≤_, _<_, _^_}
 use lib.ListN.{length}
 use Rattle.base.specs.Among.{OneOf}
-use Rattle.bits.proofs.Promise.{bitAt}
+use Rattle.hash.proofs.Promise.{Words}
 use Rattle.wire.proofs.Promise.{be32, placed, maxSize, layoutOf}
-use Rattle.writer.proofs.Promise.{AreBytes, readAll, writeAll, writtenOf, datagramOf}
-use Rattle.store.proofs.Promise.{countOf, lengthAnswer, Whole}
-use Rattle.store.specs.declared.calls.Order.{Order}
-use Rattle.channel.specs.declared.state.State.{State}
+use Rattle.writer.proofs.Promise.{AreBytes, readAll, writeAll, datagramOf}
+use Rattle.store.proofs.Promise.{lengthAnswer}
+use Rattle.order.specs.declared.Order.{Order}
 use Rattle.channel.proofs.NumberLaws as numbers
 use Rattle.channel.proofs.RefusedLaws as refused
-use Rattle.channel.proofs.DemandLaws as demand
 use Rattle.channel.proofs.ReplyLaws as reply
 use Rattle.channel.proofs.ShorterLaws as shorter
-use Rattle.channel.proofs.ShapeLaws as shape
 use Rattle.channel.proofs.ReadBackLaws as reading
-use Rattle.channel.proofs.SufficeLaws as suffice
-pub use Rattle.channel.specs.World.{Channels, channelsOf, World, worldOf, Out, outOf, Unaltered, orderRoot, orderLength, chunkCount, tableRows, Shaped}
+pub use Rattle.channel.specs.World.{Channels, channelsOf, World, worldOf, Out, outOf, Unaltered, orderRoot, orderLength, chunkCount, tableRows}
 pub use Rattle.channel.specs.Opening.{openSpec}
-pub use Rattle.channel.specs.Starting.{startSpec, buildSpec}
+pub use Rattle.channel.specs.Starting.{orderOf, startSpec, buildSpec}
 pub use Rattle.channel.specs.Take.{takeSpec}
 pub use Rattle.channel.specs.Write.{writeSpec}
 pub use Rattle.channel.specs.Ask.{Asked, askedOf, askSpec}
-pub use Rattle.channel.specs.Reply.{Reply, replyOf, openReply, takeReply, writeReply, leftIn, Replies, Typed}
-pub use Rattle.channel.specs.Run.{Call, opening, taking, writing, asking, lend, step, run, answerTo, ReplyFits, FreshOrBuilt, fresh, built, firstBrought}
-pub use Rattle.channel.specs.Demand.{BothWhole, Demand}
-pub use Rattle.channel.specs.Answers.{EnoughFor}
+pub use Rattle.channel.specs.Reply.{Reply, replyOf, openReply, takeReply, writeReply, leftIn, Replies}
+pub use Rattle.channel.specs.Answers.{peerWords, Suffice}
 
 -- ---- demand 1: the numbers of document 01 that each call can give
 
@@ -52,7 +44,7 @@ take-numbered = numbers.take-one
 pub write-numbered : (w : World) (id c clock : ℕ) → OneOf (0 ∷ 3 ∷ 7 ∷ 11 ∷ 12 ∷ 13 ∷ []) (writeSpec w id c clock .answer)
 write-numbered = numbers.write-one
 
-pub ask-numbered : (st : State) (map : List ℕ) → OneOf (0 ∷ 11 ∷ 12 ∷ []) (askSpec st map .answer)
+pub ask-numbered : (st map : List ℕ) → OneOf (0 ∷ 11 ∷ 12 ∷ []) (askSpec st map .answer)
 ask-numbered = numbers.ask-one
 
 -- ---- demand 1: a refusal gives a reply length of 0 and changes neither store, channel table nor any lent room
@@ -74,16 +66,11 @@ write-refused-same = refused.write-unaltered
 
 -- ---- a start and a building in rooms of the sizes needed are not refused with 11
 
-pub start-enough : (w : World) (o : Order) → lengthAnswer (o .length) ≡ 0 → EnoughFor (o .length) w → startSpec w o .answer ≡ 0
-start-enough = shorter.start-enough
+pub start-suffices : (w : World) (o : Order) → lengthAnswer (o .length) ≡ 0 → Suffice (o .length) w → startSpec w o .answer ≡ 0
+start-suffices = shorter.start-suffices
 
-pub build-enough : (w : World) (L : ℕ) (s : List ℕ) → lengthAnswer L ≡ 0 → length s ≡ L → EnoughFor L w → buildSpec w L s .answer ≡ 0
-build-enough = shorter.build-enough
-
--- After a start or a building that answered 0, no call of a list, lent a reply room of at least the least size, is refused with
--- 11 or 12: its other rooms are the store's own, as the last call left them.
-pub never-short : (w : World) (ks : List Call) (k : Call) → FreshOrBuilt w → ReplyFits k → (answerTo (run w ks) k ≢ 11) × (answerTo (run w ks) k ≢ 12)
-never-short = suffice.never-short
+pub build-suffices : (w : World) (L : ℕ) (s : List ℕ) → lengthAnswer L ≡ 0 → length s ≡ L → Suffice L w → buildSpec w L s .answer ≡ 0
+build-suffices = shorter.build-suffices
 
 -- ---- a start: of an order of some length, and in rooms for a longer one
 
@@ -101,50 +88,23 @@ start-reply = reply.start-reply
 pub take-reply : (w : World) (clock id : ℕ) (s : List ℕ) → length (takeSpec w clock id s .after .channels .reply) ≡ length (w .channels .reply)
 take-reply = reply.take-reply
 
--- ---- a state keeps its shape, and writing a chunk leaves it
-
-pub start-shaped : (w : World) (o : Order) → length (o .root .words) ≡ 8 → startSpec w o .answer ≡ 0 → Shaped (startSpec w o .after .channels .state)
-start-shaped = shape.start-shaped
-
-pub build-shaped : (w : World) (L : ℕ) (s : List ℕ) → buildSpec w L s .answer ≡ 0 → Shaped (buildSpec w L s .after .channels .state)
-build-shaped = shape.build-shaped
-
-pub step-shaped : (w : World) (k : Call) → Shaped (w .channels .state) → Shaped (step w k .channels .state)
-step-shaped = shape.step-shaped
-
-pub write-state : (w : World) (id c clock : ℕ) → writeSpec w id c clock .after .channels .state ≡ w .channels .state
-write-state = shape.write-state
-
 -- ---- demand 2: "a datagram taken writes back to the same bytes"
 
 -- Begin with its destination and add of the messages read from it, in a room of at least the least size, give exactly its bytes.
 pub taken-writes-back : (w : World) (clock id : ℕ) (s room : List ℕ) → AreBytes s → takeSpec w clock id s .answer ≡ 0 → maxSize ≤ length room
-    → (writeAll room (be32 s 0) (readAll s) ≡ writtenOf 0 (length s) (placed room 0 s)) × (datagramOf (writeAll room (be32 s 0) (readAll s)) ≡ s)
+    → (writeAll room (be32 s 0) (readAll s) ≡ outOf 0 (length s) (placed room 0 s)) × (datagramOf (writeAll room (be32 s 0) (readAll s)) ≡ s)
 taken-writes-back = reading.taken-writes-back
 
 -- ---- demand 2: "What is written reads back as the same messages", of every reply that a call leaves with 0
 
-pub open-reads : (w : World) → Typed (w .channels .state) → (id : ℕ) → id < 2 ^ 32 → openSpec w id .answer ≡ 0
+pub open-reads : (w : World) → Words (w .channels .state) → (id : ℕ) → id < 2 ^ 32 → openSpec w id .answer ≡ 0
     → Replies (openSpec w id) (some (openReply (w .channels .state) id))
 open-reads = reading.open-reads
 
-pub take-reads : (w : World) → Typed (w .channels .state) → (clock id : ℕ) (s : List ℕ) → AreBytes s → id < 2 ^ 32 → takeSpec w clock id s .answer ≡ 0
+pub take-reads : (w : World) → Words (w .channels .state) → (clock id : ℕ) (s : List ℕ) → AreBytes s → id < 2 ^ 32 → takeSpec w clock id s .answer ≡ 0
     → Replies (takeSpec w clock id s) (takeReply (w .channels .state) clock id s (layoutOf s .layout))
 take-reads = reading.take-reads
 
-pub write-reads : (w : World) → Typed (w .channels .state) → (id c clock : ℕ) → clock < 2 ^ 64 → writeSpec w id c clock .answer ≡ 0
+pub write-reads : (w : World) → Words (w .channels .state) → (id c clock : ℕ) → clock < 2 ^ 64 → writeSpec w id c clock .answer ≡ 0
     → Replies (writeSpec w id c clock) (some (writeReply w id c clock))
 write-reads = reading.write-reads
-
--- ---- where a list begins: "A fresh store has no chunk in its map, a built one all N"
-
-pub fresh-empty : (w : World) (o : Order) → startSpec w o .answer ≡ 0 → (x : ℕ) → x < countOf (o .length) → bitAt (startSpec w o .after .rooms .map) x ≡ false
-fresh-empty = demand.fresh-empty
-
-pub built-full : (w : World) (L : ℕ) (s : List ℕ) → buildSpec w L s .answer ≡ 0 → Whole L (buildSpec w L s .after .rooms)
-built-full = demand.built-full
-
--- ---- demand 3, of every list of calls on a fresh or built store
-
-pub demand-3 : (w : World) (ks : List Call) → FreshOrBuilt w → Demand w ks
-demand-3 = demand.demand-3

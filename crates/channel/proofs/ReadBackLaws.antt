@@ -7,14 +7,14 @@ use mathlib.Core.Path.{_≡_, refl, sym, ap, _∙_}
 use mathlib.Core.Logic.{_≢_, _⊎_, inl, inr}
 use mathlib.Core.Bool.{Bool, true, false, true≢false}
 use mathlib.Core.List.{List}
-use mathlib.Core.Option.{Option, none, some}
+use mathlib.Core.Option.{none, some}
 use borrow.Author.Tests.{eq-eqb, eqb-true}
 use lib.Dec.{eqb}
 use lib.ListN.{length, take, drop, length-take}
 use lib.Seq.{getD-drop}
-use Rattle.hash.proofs.Promise.{bytes-length}
+use Rattle.hash.proofs.Promise.{Words, bytes-length}
 use Rattle.base.specs.Pick.{pick}
-use Rattle.table.proofs.Promise.{rowAt, openRowOf, openAnswer, handshakeAnswer, writeAnswer, open-some, handshake-opened, handshake-taken}
+use Rattle.table.proofs.Promise.{orderIn, root-eight, peer-fits, rowAt, openRowOf, openAnswer, handshakeAnswer, writeAnswer, open-some, handshake-opened, handshake-taken}
 use Rattle.table.specs.declared.rows.Row.{Row}
 use Rattle.tree.proofs.Promise.{chunkSize, maxLength, chunks, chunk-some}
 use Rattle.wire.proofs.Promise.{be32, placed, minSize, maxSize, numberOf, layoutOf, Numbered, handshakeFault, Alone, layout-numbered, layout-passed, layout-alone, placed-front}
@@ -22,17 +22,17 @@ use Rattle.wire.specs.declared.message.Options.{Options}
 use Rattle.wire.specs.declared.message.Options.the-variants.{Fixed, EndOnly, Other}
 use Rattle.wire.specs.declared.layout.Layout.{Layout}
 use Rattle.wire.specs.declared.layout.Layout.the-variants.{Fault, HandshakeAlone, Messages, MessagesAndData}
-use Rattle.writer.proofs.Promise.{Item, AreBytes, be32-fits, Reads, Rewritable, readAll, writeAll, writtenOf, datagramOf, round-trip-read}
+use Rattle.writer.proofs.Promise.{Item, AreBytes, be32-fits, Reads, Plain, rewritable, readAll, writeAll, datagramOf, round-trip-read}
 use Rattle.replies.proofs.Promise.{handshakeItems, handshakeReply, ackItems, ackReply, chunkItems, chunkReply, handshake-long, ack-long, chunk-fits, handshake-reads, ack-reads, chunk-reads}
 use Rattle.store.proofs.Promise.{earlier, both-zero, chunkIn, lengthAnswer, length-accepted, taken-chunk}
 use Rattle.channel.specs.World.{Channels, World, Out, outOf, beside, orderRoot, orderLength, chunkCount, tableRows}
 use Rattle.channel.specs.Answers.{ownRoomsAnswer}
-use Rattle.channel.specs.Opening.{callingRow, openedRow, ourHandshake, occupied, openNumber, openSpec}
-use Rattle.channel.specs.Take.{rowFor, ours, handshakeTaken, messagesNumber, affected, messagesTaken, delay, acknowledgement, storeOut, dataBy, dataTaken, byLayout, takeSpec}
-use Rattle.channel.specs.Write.{heldAnswer, writeNumber, chunkDatagram, writeSpec}
-use Rattle.channel.specs.Reply.{replyOf, openReply, takeReply, writeReply, Replies, Typed}
-use Rattle.channel.proofs.OutLaws.{unless-zero}
-use Rattle.channel.proofs.AcceptLaws.{call-accepted}
+use Rattle.channel.specs.Opening.{callingRow, openedRow, occupied, openNumber, openSpec}
+use Rattle.channel.specs.Take.{rowFor, ours, handshakeTaken, messagesNumber, affected, messagesTaken, delay, storeOut, dataBy, dataTaken, byLayout, takeSpec}
+use Rattle.channel.specs.Write.{heldAnswer, writeNumber, writeSpec}
+use Rattle.channel.specs.Reply.{replyOf, openReply, takeReply, writeReply, Replies}
+use Rattle.base.proofs.OutLaws.{unless-zero}
+use Rattle.channel.proofs.AcceptLaws.{own-accepted}
 use Rattle.channel.proofs.WriteLaws.{held-inside}
 
 -- ---- a datagram that was taken writes back
@@ -51,12 +51,12 @@ other-never ch id s a q z =
     go (inl e) = true≢false (sym e)
     go (inr e) = closes (eqb (be32 s 0) 0) (rw (eq-eqb a 0 e) at (q .0))
 
-options-taken : (ch : Channels) (id : ℕ) (s : List ℕ) (a : ℕ) (o : Options) → Alone s (HandshakeAlone a o) → handshakeTaken ch id s a o .answer ≡ 0 → Rewritable (HandshakeAlone a o)
+options-taken : (ch : Channels) (id : ℕ) (s : List ℕ) (a : ℕ) (o : Options) → Alone s (HandshakeAlone a o) → handshakeTaken ch id s a o .answer ≡ 0 → Plain (HandshakeAlone a o)
 options-taken ch id s a (Fixed r) q z = tt
 options-taken ch id s a EndOnly q z = tt
 options-taken ch id s a Other q z = absurd (other-never ch id s a q z)
 
-layout-taken : (w : World) (clock id : ℕ) (s : List ℕ) (l : Layout) → Numbered l → Alone s l → byLayout w clock id s l .answer ≡ 0 → (numberOf l ≡ 0) × Rewritable l
+layout-taken : (w : World) (clock id : ℕ) (s : List ℕ) (l : Layout) → Numbered l → Alone s l → byLayout w clock id s l .answer ≡ 0 → (numberOf l ≡ 0) × Plain l
 unfolding byLayout
 layout-taken w clock id s (Fault n) h q z = absurd (omega (arith, h .0, z))
 layout-taken w clock id s (HandshakeAlone a o) h q z = (refl, options-taken (w .channels) id s a o q z)
@@ -68,13 +68,13 @@ front : (room r : List ℕ) → length r ≤ length room → take (length r) (pl
 front room r h = rw (zero-add (length r)) at (placed-front room 0 r (omega arith))
 
 pub taken-writes-back : (w : World) (clock id : ℕ) (s room : List ℕ) → AreBytes s → takeSpec w clock id s .answer ≡ 0 → maxSize ≤ length room
-    → (writeAll room (be32 s 0) (readAll s) ≡ writtenOf 0 (length s) (placed room 0 s)) × (datagramOf (writeAll room (be32 s 0) (readAll s)) ≡ s)
+    → (writeAll room (be32 s 0) (readAll s) ≡ outOf 0 (length s) (placed room 0 s)) × (datagramOf (writeAll room (be32 s 0) (readAll s)) ≡ s)
 unfolding takeSpec
 taken-writes-back w clock id s room small z big =
     let l = layoutOf s .layout in
     let t = unless-zero (ownRoomsAnswer w) w (byLayout w clock id s l) z .1 in
     let p = layout-taken w clock id s l (layout-numbered s) (layout-alone s) t in
-    let e = round-trip-read room s small big (p .0) (p .1) in
+    let e = round-trip-read room s small big (p .0) (rewritable l (p .1)) in
     (e, ap datagramOf e ∙ front room s (omega (arith, layout-passed s (p .0) .1)))
 
 -- ---- a reply reads back
@@ -83,15 +83,9 @@ taken-writes-back w clock id s room small z big =
 reads-front : (room r : List ℕ) (to : ℕ) (is : List Item) → length r ≤ length room → Reads r to is → Reads (take (length r) (placed room 0 r)) to is
 reads-front room r to is h x = rw (front room r h) x
 
-module _ (w : World) (typed : Typed (w .channels .state)) where
+module _ (w : World) (small : Words (w .channels .state)) where
   root-long : length (orderRoot (w .channels .state)) ≡ 32
-  root-long = bytes-length (w .channels .state .order .root .words) ∙ ap (λ (n : ℕ). 4 * n) (typed .shaped .root-words)
-
-  -- A length within the limit, and a reply room for a datagram.
-  rooms-say : ownRoomsAnswer w ≡ 0 → (lengthAnswer (orderLength (w .channels .state)) ≡ 0) × (maxSize ≤ length (w .channels .reply))
-  rooms-say =
-      call-accepted (orderLength (w .channels .state)) (length (w .rooms .bytes)) (length (w .rooms .map)) (length (w .rooms .hashes)) (length (w .rooms .trusted))
-      (length (w .channels .has)) (length (w .channels .wants)) (length (w .channels .reply))
+  root-long = bytes-length (orderIn (w .channels .state) .root .words) ∙ ap (λ (n : ℕ). 4 * n) (root-eight (w .channels .state))
 
   few-chunks : lengthAnswer (orderLength (w .channels .state)) ≡ 0 → chunkCount (w .channels .state) ≤ chunks chunkSize maxLength
   few-chunks z = let a = length-accepted (orderLength (w .channels .state)) z .1 in omega arith
@@ -110,7 +104,7 @@ module _ (w : World) (typed : Typed (w .channels .state)) where
   open-reads id h z =
       let n = unless-zero (openNumber w id) w _ z .0 in
       let p = both-zero (ownRoomsAnswer w) (openAnswer (tableRows (w .channels .state)) id) n in
-      rw n (occupied-reads id 0 (callingRow id) refl refl h (open-some (tableRows (w .channels .state)) id (p .1)) (omega arith) (rooms-say (p .0) .1))
+      rw n (occupied-reads id 0 (callingRow id) refl refl h (open-some (tableRows (w .channels .state)) id (p .1)) (omega arith) (own-accepted w (p .0) .2))
 
   -- A HANDSHAKE to channel 0 opens one; any other has no reply.
   opened-or-not : (id : ℕ) (s : List ℕ) (a : ℕ) → id < 2 ^ 32 → a < 2 ^ 32 → maxSize ≤ length (w .channels .reply) → (other : Out Channels) → other .len ≡ 0
@@ -142,23 +136,23 @@ module _ (w : World) (typed : Typed (w .channels .state)) where
       let d = delay clock timestamp in
       rw (p .0, q .0)
       (reads-front (w .channels .reply) (ackReply peer c c d) peer (ackItems c c d) (omega (arith, ack-long peer c c d))
-      (ack-reads peer c c d (typed .peers-fit (rowFor st s)) (omega arith) (omega arith) (mod-lt (clock + 2 ^ 64 - timestamp) (omega arith))))
+      (ack-reads peer c c d (peer-fits st small (rowFor st s)) (omega arith) (omega arith) (mod-lt (clock + 2 ^ 64 - timestamp) (omega arith))))
 
   layout-replies : (clock id : ℕ) (s : List ℕ) (l : Layout) → Numbered l → Alone s l → AreBytes s → id < 2 ^ 32 → ownRoomsAnswer w ≡ 0 → byLayout w clock id s l .answer ≡ 0
       → Replies (byLayout w clock id s l) (takeReply (w .channels .state) clock id s l)
   unfolding byLayout messagesTaken
-  layout-replies clock id s (Fault n) h q small i e z = refl
-  layout-replies clock id s (HandshakeAlone a o) h q small i e z = handshake-replies id s a o i (rw (q .1) (be32-fits (drop minSize s) (λ k. rw (getD-drop minSize s k 0) (small (minSize + k))) 1)) (rooms-say e .1) z
-  layout-replies clock id s (Messages k) h q small i e z = let n = unless-zero (messagesNumber (w .channels .state) s) (w .channels) _ z .0 in rw n refl
-  layout-replies clock id s (MessagesAndData c x b n k) h q small i e z = data-replies clock s (layoutOf s .entries) c x b n (rooms-say e .0) (rooms-say e .1) z
+  layout-replies clock id s (Fault n) h q bytes i e z = refl
+  layout-replies clock id s (HandshakeAlone a o) h q bytes i e z = handshake-replies id s a o i (rw (q .1) (be32-fits (drop minSize s) (λ k. rw (getD-drop minSize s k 0) (bytes (minSize + k))) 1)) (own-accepted w e .2) z
+  layout-replies clock id s (Messages k) h q bytes i e z = let n = unless-zero (messagesNumber (w .channels .state) s) (w .channels) _ z .0 in rw n refl
+  layout-replies clock id s (MessagesAndData c x b n k) h q bytes i e z = data-replies clock s (layoutOf s .entries) c x b n (own-accepted w e .0) (own-accepted w e .2) z
 
   pub take-reads : (clock id : ℕ) (s : List ℕ) → AreBytes s → id < 2 ^ 32 → takeSpec w clock id s .answer ≡ 0
       → Replies (takeSpec w clock id s) (takeReply (w .channels .state) clock id s (layoutOf s .layout))
   unfolding takeSpec
-  take-reads clock id s small i z =
+  take-reads clock id s bytes i z =
       let l = layoutOf s .layout in
       let p = unless-zero (ownRoomsAnswer w) w (byLayout w clock id s l) z in
-      rw (p .0) (layout-replies clock id s l (layout-numbered s) (layout-alone s) small i (p .0) (p .1))
+      rw (p .0) (layout-replies clock id s l (layout-numbered s) (layout-alone s) bytes i (p .0) (p .1))
 
   pub write-reads : (id c clock : ℕ) → clock < 2 ^ 64 → writeSpec w id c clock .answer ≡ 0 → Replies (writeSpec w id c clock) (some (writeReply w id c clock))
   unfolding writeSpec
@@ -173,10 +167,10 @@ module _ (w : World) (typed : Typed (w .channels .state)) where
       let p = both-zero (ownRoomsAnswer w) (earlier (writeAnswer rs id) (heldAnswer N c (w .rooms .map))) n in
       let q = both-zero (writeAnswer rs id) (heldAnswer N c (w .rooms .map)) (p .1) in
       let inside = held-inside N c (w .rooms .map) (q .1) in
-      let say = rooms-say (p .0) in
+      let say = own-accepted w (p .0) in
       let few = few-chunks (say .0) in
       let short : length bytes ≤ chunkSize = simp length-take (omega (arith, chunk-some chunkSize L (omega arith) c inside)) in
       rw n
       (reads-front (w .channels .reply) (chunkReply (w .rooms .hashes) peer N c clock bytes) peer (chunkItems (w .rooms .hashes) N c clock bytes)
-      (omega (arith, chunk-fits (w .rooms .hashes) peer N c clock bytes few short, say .1))
-      (chunk-reads (w .rooms .hashes) peer N c clock bytes (typed .peers-fit (openRowOf rs id)) (omega (arith, inside, few)) h few short))
+      (omega (arith, chunk-fits (w .rooms .hashes) peer N c clock bytes few short, say .2))
+      (chunk-reads (w .rooms .hashes) peer N c clock bytes (peer-fits st small (openRowOf rs id)) (omega (arith, inside, few)) h few short))

@@ -5,13 +5,13 @@ use mathlib.Core.List.{List}
 use lib.ListN.{length}
 use Rattle.table.specs.declared.rows.Row.{Row}
 use Rattle.wire.proofs.Promise.{placed-length}
-use Rattle.store.specs.declared.calls.Order.{Order}
+use Rattle.order.specs.declared.Order.{Order}
 use Rattle.channel.specs.World.{Channels, World}
 use Rattle.channel.specs.Answers.{allRoomsAnswer}
 use Rattle.channel.specs.Opening.{ourHandshake, occupied}
 use Rattle.channel.specs.Starting.{freshChannels, startSpec}
 use Rattle.channel.specs.Take.{affected, takeSpec}
-use Rattle.channel.proofs.OutLaws.{unless-keeps}
+use Rattle.base.proofs.OutLaws.{unless-keeps}
 use Rattle.channel.proofs.KeepLaws.{take-keeps}
 
 abbrev replyLength : Channels → ℕ

@@ -1,26 +1,25 @@
 -- Starting and building, return by return as the code has them. Assumes nothing.
-use Prim.Native.Nat.{ℕ, _*_}
+use Prim.Native.Nat.{ℕ}
 use mathlib.Core.Path.{_≡_, sym, ap, ap₂, _∙_}
 use mathlib.Core.Logic.{_≢_}
 use mathlib.Core.List.{List}
 use lib.ListN.{length}
 use Rattle.hash.proofs.Promise.{bytesOf, words, Words, words-bytes}
 use Rattle.hash.specs.declared.value.HashValue.{HashValue}
-use Rattle.bits.proofs.Promise.{clearWords, rowWords}
-use Rattle.table.proofs.Promise.{rowCount}
+use Rattle.bits.proofs.Promise.{clearWords}
+use Rattle.table.proofs.Promise.{freshWords}
 use Rattle.store.proofs.Promise.{Rooms, buildAnswer, countOf, rootOf, foundRoot, both-zero, build-zero}
 use Rattle.store.proofs.Promise as store
-use Rattle.store.specs.declared.calls.Order.{Order}
-use Rattle.channel.specs.declared.state.State.{State}
-use Rattle.channel.specs.World.{World, Channels, channelsOf, outOf}
-use Rattle.channel.specs.Answers.{channelsAnswer, allRoomsAnswer}
-use Rattle.channel.specs.Starting.{freshState, freshChannels, startSpec, orderFor, buildNumber, buildSpec}
-use Rattle.channel.proofs.OutLaws.{unless-not, unless-done}
+use Rattle.order.specs.declared.Order.{Order}
+use Rattle.channel.specs.World.{World, Channels, channelsOf, Out, outOf}
+use Rattle.channel.specs.Answers.{peerWords, channelsAnswer, allRoomsAnswer}
+use Rattle.channel.specs.Starting.{freshChannels, orderOf, startSpec, buildNumber, buildSpec}
+use Rattle.base.proofs.OutLaws.{unless-not, unless-done}
 
 -- What a store begins with: its chunk rooms, every row free, and both rooms for peers cleared.
-begun : (ch : Channels) (o : Order) {st : State} {rooms rooms′ : Rooms} {has wants : List ℕ} → st ≡ freshState o → rooms ≡ rooms′
-    → has ≡ clearWords (ch .has) 0 (rowCount * rowWords (countOf (o .length)))
-    → wants ≡ clearWords (ch .wants) 0 (rowCount * rowWords (countOf (o .length)))
+begun : (ch : Channels) (o : Order) {st : List ℕ} {rooms rooms′ : Rooms} {has wants : List ℕ} → st ≡ freshWords (ch .state) o → rooms ≡ rooms′
+    → has ≡ clearWords (ch .has) 0 (peerWords (countOf (o .length)))
+    → wants ≡ clearWords (ch .wants) 0 (peerWords (countOf (o .length)))
     → _≡_ {A = World} (record { rooms = rooms; channels = channelsOf st has wants (ch .reply) }) (record { rooms = rooms′; channels = freshChannels o ch })
 unfolding freshChannels
 begun ch o se re he we = cc
@@ -34,15 +33,15 @@ module _ (w : World) (o : Order) (k : ℕ) (ke : k ≡ allRoomsAnswer (o .length
   start-not d = ap (λ (x : ℕ). outOf x 0 w) ke ∙ unless-not (allRoomsAnswer (o .length) w) w _ (λ z. d (ke ∙ z))
 
   -- One that is not refused: the store's rooms as its start leaves them, the rooms for peers cleared.
-  pub start-done : k ≡ 0 → {n : ℕ} {st : State} {rooms : Rooms} {has wants : List ℕ}
-      → store.outOf n rooms ≡ store.startSpec (w .rooms) (bytesOf (o .root .words)) (o .length)
-      → has ≡ clearWords (w .channels .has) 0 (rowCount * rowWords (countOf (o .length)))
-      → wants ≡ clearWords (w .channels .wants) 0 (rowCount * rowWords (countOf (o .length)))
-      → st ≡ freshState o
+  pub start-done : k ≡ 0 → {n : ℕ} {st : List ℕ} {rooms : Rooms} {has wants : List ℕ}
+      → outOf n 0 rooms ≡ store.startSpec (w .rooms) (bytesOf (o .root .words)) (o .length)
+      → has ≡ clearWords (w .channels .has) 0 (peerWords (countOf (o .length)))
+      → wants ≡ clearWords (w .channels .wants) 0 (peerWords (countOf (o .length)))
+      → st ≡ freshWords (w .channels .state) o
       → outOf 0 0 (record { rooms = rooms; channels = channelsOf st has wants (w .channels .reply) }) ≡ startSpec w o
   unfolding startSpec
   start-done z e he we se =
-      ap (outOf 0 0) (begun (w .channels) o se (ap (λ (x : store.Out). x .rooms) e) he we)
+      ap (outOf 0 0) (begun (w .channels) o se (ap (λ (x : Out Rooms). x .after) e) he we)
       ∙ unless-done (allRoomsAnswer (o .length) w) w _ (sym ke ∙ z)
 
 -- ---- building
@@ -65,15 +64,15 @@ module _ (w : World) (L : ℕ) (s : List ℕ) (k : ℕ) (ke : k ≡ buildNumber 
       found-words u (rootOf s) l f (e ∙ ap (λ (x : ℕ). foundRoot x (rootOf s)) (a ∙ build-zero (w .rooms) L s (b .0)))
 
   -- The store's rooms as its building leaves them, the rooms for peers cleared, the root found in the order.
-  pub build-done : k ≡ 0 → {n : ℕ} {st : State} {rooms : Rooms} {has wants : List ℕ} (v : HashValue)
-      → (store.outOf n rooms ≡ store.buildSpec (w .rooms) L s) × (bytesOf (v .words) ≡ foundRoot n (rootOf s))
+  pub build-done : k ≡ 0 → {n : ℕ} {st : List ℕ} {rooms : Rooms} {has wants : List ℕ} (v : HashValue)
+      → (outOf n 0 rooms ≡ store.buildSpec (w .rooms) L s) × (bytesOf (v .words) ≡ foundRoot n (rootOf s))
       → length (v .words) ≡ 8 → Words (v .words)
-      → has ≡ clearWords (w .channels .has) 0 (rowCount * rowWords (countOf L))
-      → wants ≡ clearWords (w .channels .wants) 0 (rowCount * rowWords (countOf L))
-      → st ≡ freshState (record { root = v; length = L })
+      → has ≡ clearWords (w .channels .has) 0 (peerWords (countOf L))
+      → wants ≡ clearWords (w .channels .wants) 0 (peerWords (countOf L))
+      → st ≡ freshWords (w .channels .state) (record { root = v; length = L })
       → outOf 0 0 (record { rooms = rooms; channels = channelsOf st has wants (w .channels .reply) }) ≡ buildSpec w L s
   unfolding buildSpec
   build-done z {n} v e l f he we se =
-      let r : v .words ≡ words 8 (rootOf s) = build-root z n (v .words) (ap (λ (x : store.Out). x .answer) (e .0)) l f (e .1) in
-      ap (outOf 0 0) (begun (w .channels) (orderFor L s) (se ∙ ap (λ (u : List ℕ). freshState (record { root = record { words = u }; length = L })) r) (ap (λ (x : store.Out). x .rooms) (e .0)) he we)
+      let r : v .words ≡ words 8 (rootOf s) = build-root z n (v .words) (ap (λ (x : Out Rooms). x .answer) (e .0)) l f (e .1) in
+      ap (outOf 0 0) (begun (w .channels) (orderOf (rootOf s) L) (se ∙ ap (λ (u : List ℕ). freshWords (w .channels .state) (record { root = record { words = u }; length = L })) r) (ap (λ (x : Out Rooms). x .after) (e .0)) he we)
       ∙ unless-done (buildNumber w L s) w _ (sym ke ∙ z)

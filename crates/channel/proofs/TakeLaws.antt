@@ -6,6 +6,7 @@ use mathlib.Core.Path.{_≡_, refl, sym, ap, _∙_}
 use mathlib.Core.Logic.{_≢_}
 use mathlib.Core.Bool.{Bool, true, false}
 use mathlib.Core.List.{List, []}
+use borrow.Author.Tests.{eqb-true}
 use lib.Dec.{eqb}
 use lib.ListN.{length, take, drop}
 use Rattle.bits.proofs.Promise.{rowWords, row-words}
@@ -14,21 +15,33 @@ use Rattle.wire.specs.declared.message.Options.{Options}
 use Rattle.wire.specs.declared.layout.Layout.{Layout}
 use Rattle.wire.specs.declared.layout.Layout.the-variants.{Fault, HandshakeAlone, Messages, MessagesAndData}
 use Rattle.writer.proofs.Promise.{within, readAll}
-use Rattle.effects.proofs.Promise.{anyPast, Peer, peerOf, effects, allQuiet, quiet-effects}
+use Rattle.effects.proofs.Promise.{anyPast, Peer, peerOf, effects, allQuiet, quiet-effects, keepalive-within}
 use Rattle.replies.proofs.Promise.{ackReply}
-use Rattle.table.proofs.Promise.{rowCount, rowOf, rowAt, withRow, messagesAnswer, row-put-back}
+use Rattle.table.proofs.Promise.{rowCount, rowOf, rowAt, flag, putRow, orderIn, messagesAnswer, flag-same, put-row-same}
 use Rattle.table.specs.declared.rows.Row.{Row}
-use Rattle.table.specs.declared.rows.Table.{Table}
-use Rattle.store.proofs.Promise.{Out as StoreOut, outOf as storedOf, earlier-not, Rooms, countOf, lengthAnswer, length-accepted, integrityOf, takeSpec as storeTake, refused-same}
-use Rattle.channel.specs.declared.state.State.{State}
+use Rattle.order.specs.declared.Order.{Order}
+use Rattle.hash.proofs.Promise.{bytesOf}
+use Rattle.store.proofs.Promise.{earlier-not, Rooms, countOf, lengthAnswer, length-accepted, integrityOf, takeSpec as storeTake, refused-same}
 use Rattle.channel.specs.World.{Channels, channelsOf, World, Out, outOf, beside, orderRoot, orderLength, chunkCount, tableRows, rowBit}
 use Rattle.channel.specs.Answers.{ownRoomsAnswer}
 use Rattle.channel.specs.Take.{rowFor, handshakeTaken, messagesNumber, withMark, affected, messagesTaken, delay, acknowledgement, replied, dataBy, storeOut, dataTaken, byLayout, takeSpec}
-use Rattle.channel.proofs.OutLaws.{unless-not, unless-done}
+use Rattle.base.proofs.OutLaws.{unless-not, unless-done}
+
+-- ---- the row that a datagram goes to
+
+pub row-for : (st s : List ℕ) {to i : ℕ} → to ≡ be32 s 0 → i ≡ rowOf (tableRows st) to → i ≡ rowFor st s
+row-for st s te ie = ie ∙ ap (rowOf (tableRows st)) te
+
+pub row-for-to : (st s : List ℕ) {to i : ℕ} → to ≡ be32 s 0 → i ≡ rowFor st s → i ≡ rowOf (tableRows st) to
+row-for-to st s te ie = rw te ie
+
+-- The chunks under the length that was read.
+pub count-read : (st : List ℕ) {m n : ℕ} → m ≡ orderLength st → n ≡ countOf m → n ≡ chunkCount st
+count-read st me ne = ne ∙ ap countOf me
 
 -- ---- the number of messages
 
-module _ (st : State) (s : List ℕ) {to k : ℕ} {alive : Bool} (te : to ≡ be32 s 0) (ae : alive ≡ eqb (length s) minSize)
+module _ (st : List ℕ) (s : List ℕ) {to k : ℕ} {alive : Bool} (te : to ≡ be32 s 0) (ae : alive ≡ eqb (length s) minSize)
     (ke : k ≡ messagesAnswer (tableRows st) to alive) where
   table-number : k ≡ messagesAnswer (tableRows st) (be32 s 0) (eqb (length s) minSize)
   table-number = rw (← te, ← ae) ke
@@ -37,6 +50,11 @@ module _ (st : State) (s : List ℕ) {to k : ℕ} {alive : Bool} (te : to ≡ be
   pub messages-table : k ≢ 0 → k ≡ messagesNumber st s
   unfolding messagesNumber
   messages-table d = table-number ∙ earlier-not (messagesAnswer (tableRows st) (be32 s 0) (eqb (length s) minSize)) _ (λ z. d (table-number ∙ z))
+
+  -- None, of a keepalive.
+  pub messages-keepalive : k ≡ 0 → alive ≡ true → 0 ≡ messagesNumber st s
+  unfolding messagesNumber
+  messages-keepalive z a = rw (sym table-number ∙ z, keepalive-within (chunkCount st) s (eqb-true (length s) minSize (sym ae ∙ a)))
 
   module _ (z : k ≡ 0) {n : ℕ} {b : Bool} (ne : n ≡ chunkCount st) (be : b ≡ anyPast n (readAll s)) where
     past-is : anyPast (chunkCount st) (readAll s) ≡ b
@@ -65,39 +83,44 @@ base-small L {n} {w} {i} z ne we l =
     small b m = let k = mul-le-mul-left w l in (omega (arith, b .1, we), omega (arith, b .1, we, k), omega (arith, b .1, we, k))
 
 -- The channels after the effects, room by room.
-pub affected-is : (st : State) (has wants : List ℕ) (s : List ℕ) {to n w i : ℕ} {r : Row} {h v : List ℕ} {choked : Bool} {t : Table}
-    → to ≡ be32 s 0 → n ≡ chunkCount st → w ≡ rowWords n → i ≡ rowOf (tableRows st) to → r ≡ rowAt (tableRows st) i
+pub affected-is : (st has wants s : List ℕ) {m n w i : ℕ} {r : Row} {h v t : List ℕ} {choked : Bool}
+    → i ≡ rowFor st s → r ≡ rowAt (tableRows st) i → m ≡ orderLength st → n ≡ countOf m → w ≡ rowWords n
     → peerOf h v choked ≡ effects (32 * (w * i)) (readAll s) (peerOf has wants (r .choked))
-    → t ≡ withRow (st .table) i (withMark r choked)
-    → channelsOf (record { order = st .order; table = t }) h v [] ≡ affected (channelsOf st has wants []) s
+    → t ≡ putRow st i (withMark r choked)
+    → channelsOf t h v [] ≡ affected (channelsOf st has wants []) s
 unfolding affected
-affected-is st has wants s {to} {n} {w} {i} {r} {h} {v} {choked} {t} te ne we ie re me tte = rw (table-is, ap (λ (x : Peer). x .has) peer-is, ap (λ (x : Peer). x .wants) peer-is)
+affected-is st has wants s {m} {n} {w} {i} {r} {h} {v} {t} {choked} ie re le ne we me tte = rw (words-are, ap (λ (x : Peer). x .has) peer-is, ap (λ (x : Peer). x .wants) peer-is)
   where
-    i-is : i ≡ rowFor st s
-    i-is = ie ∙ ap (rowOf (tableRows st)) te
-
     r-is : r ≡ rowAt (tableRows st) (rowFor st s)
-    r-is = re ∙ ap (rowAt (tableRows st)) i-is
+    r-is = re ∙ ap (rowAt (tableRows st)) ie
 
     w-is : w ≡ rowWords (chunkCount st)
-    w-is = we ∙ ap rowWords ne
+    w-is = we ∙ ap rowWords (ne ∙ ap countOf le)
 
     peer-is : peerOf h v choked ≡ effects (rowBit (chunkCount st) (rowFor st s)) (readAll s) (peerOf has wants (rowAt (tableRows st) (rowFor st s) .choked))
-    peer-is = rw (← r-is, ← i-is, ← w-is) me
+    peer-is = rw (← r-is, ← ie, ← w-is) me
 
-    table-is : t ≡ withRow (st .table) (rowFor st s) (withMark (rowAt (tableRows st) (rowFor st s)) (effects (rowBit (chunkCount st) (rowFor st s)) (readAll s) (peerOf has wants (rowAt (tableRows st) (rowFor st s) .choked)) .choked))
-    table-is = rw (← peer-is, ← r-is, ← i-is) tte
+    words-are : t ≡ putRow st (rowFor st s) (withMark (rowAt (tableRows st) (rowFor st s))
+        (effects (rowBit (chunkCount st) (rowFor st s)) (readAll s) (peerOf has wants (rowAt (tableRows st) (rowFor st s) .choked)) .choked))
+    words-are = rw (← peer-is, ← r-is, ← ie) tte
+
+-- Where the mark is as it was, the words stay.
+pub mark-stays : (st : List ℕ) (i : ℕ) {r : Row} (choked : Bool) {x y : ℕ} → r ≡ rowAt (tableRows st) i → x ≡ flag choked → y ≡ flag (r .choked) → x ≡ y
+    → st ≡ putRow st i (withMark r choked)
+mark-stays st i {r} choked re xe ye e =
+    let m : choked ≡ r .choked = flag-same choked (r .choked) (sym xe ∙ e ∙ ye) in
+    sym (ap (λ (b : Bool). putRow st i (withMark r b)) m ∙ ap (putRow st i) re ∙ put-row-same st i)
 
 -- The reply room has no part in the effects.
-pub affected-beside : (st st′ : State) (has wants h v reply s : List ℕ) → channelsOf st′ h v [] ≡ affected (channelsOf st has wants []) s → channelsOf st′ h v reply ≡ affected (channelsOf st has wants reply) s
+pub affected-beside : (st st′ : List ℕ) (has wants h v reply s : List ℕ) → channelsOf st′ h v [] ≡ affected (channelsOf st has wants []) s → channelsOf st′ h v reply ≡ affected (channelsOf st has wants reply) s
 unfolding affected
 affected-beside st st′ has wants h v reply s e = ap (λ (ch : Channels). channelsOf (ch .state) (ch .has) (ch .wants) reply) e
 
 -- Quiet messages leave the channels as they are.
-pub quiet-affected : (st : State) (has wants s : List ℕ) → allQuiet (readAll s) ≡ true → channelsOf st has wants [] ≡ affected (channelsOf st has wants []) s
+pub quiet-affected : (st : List ℕ) (has wants s : List ℕ) → allQuiet (readAll s) ≡ true → channelsOf st has wants [] ≡ affected (channelsOf st has wants []) s
 unfolding affected
 quiet-affected st has wants s q =
-    rw (quiet-effects (rowBit (chunkCount st) (rowFor st s)) (readAll s) (peerOf has wants (rowAt (tableRows st) (rowFor st s) .choked)) q, row-put-back (st .table) (rowFor st s))
+    rw (quiet-effects (rowBit (chunkCount st) (rowFor st s)) (readAll s) (peerOf has wants (rowAt (tableRows st) (rowFor st s) .choked)) q, put-row-same st (rowFor st s))
 
 -- ---- messages without DATA
 
@@ -117,14 +140,14 @@ pub delay-is : (clock x : ℕ) {d : ℕ} → clock < 2 ^ 64 → x < 2 ^ 64 → d
 delay-is clock x a b l e = omega arith
 
 -- To the peer of the row that the datagram goes to.
-pub ack-is : (st : State) (s : List ℕ) (clock c x : ℕ) (reply : List ℕ) {to i d len : ℕ} {r : Row} {p : List ℕ}
-    → to ≡ be32 s 0 → i ≡ rowOf (tableRows st) to → r ≡ rowAt (tableRows st) i → d ≡ delay clock x
+pub ack-is : (st : List ℕ) (s : List ℕ) (clock c x : ℕ) (reply : List ℕ) {i d len : ℕ} {r : Row} {p : List ℕ}
+    → i ≡ rowFor st s → r ≡ rowAt (tableRows st) i → d ≡ delay clock x
     → (len ≡ length (ackReply (r .peer) c c d)) × (p ≡ placed reply 0 (ackReply (r .peer) c c d))
     → (len ≡ length (acknowledgement st s clock c x)) × (p ≡ placed reply 0 (acknowledgement st s clock c x))
-ack-is st s clock c x reply te ie re de e = rw (← te, ← ie, ← re, ← de) e
+ack-is st s clock c x reply ie re de e = rw (← ie, ← re, ← de) e
 
 -- The effects, and a reply.
-replied-is : (ch : Channels) (s r : List ℕ) {st : State} {h v p : List ℕ} → channelsOf st h v [] ≡ affected (channelsOf (ch .state) (ch .has) (ch .wants) []) s
+replied-is : (ch : Channels) (s r : List ℕ) {st : List ℕ} {h v p : List ℕ} → channelsOf st h v [] ≡ affected (channelsOf (ch .state) (ch .has) (ch .wants) []) s
     → p ≡ placed (ch .reply) 0 r → channelsOf st h v p ≡ replied (affected ch s) r
 unfolding affected
 replied-is ch s r e q = rw q (ap (λ (x : Channels). channelsOf (x .state) (x .has) (x .wants) (placed (ch .reply) 0 r)) e)
@@ -140,10 +163,12 @@ module _ (w : World) (clock : ℕ) (s es : List ℕ) (c x b n : ℕ) {k : ℕ} (
   unfolding dataTaken
   data-refused d = ap (λ (y : ℕ). outOf y 0 w) ke ∙ unless-not _ w _ (λ z. d (ke ∙ z))
 
-  module _ (z : k ≡ 0) {d : List ℕ} (de : d ≡ within s b n) {m : ℕ} {after : Rooms}
-      (me : storedOf m after ≡ storeTake (w .rooms) (orderRoot (w .channels .state)) (orderLength (w .channels .state)) c d (integrityOf es s)) where
-    out-is : storedOf m after ≡ storeOut w s es c b n
-    out-is = rw (← de) me
+  module _ (z : k ≡ 0) {o : Order} (oe : o ≡ orderIn (w .channels .state)) {d : List ℕ} (de : d ≡ within s b n) {m : ℕ} {after : Rooms}
+      (me : outOf m 0 after ≡ storeTake (w .rooms) (bytesOf (o .root .words)) (o .length) c d (integrityOf es s)) where
+    out-is : outOf m 0 after ≡ storeOut w s es c b n
+    out-is =
+        me ∙ ap (λ (x : Order). storeTake (w .rooms) (bytesOf (x .root .words)) (x .length) c d (integrityOf es s)) oe
+        ∙ ap (λ (y : List ℕ). storeTake (w .rooms) (orderRoot (w .channels .state)) (orderLength (w .channels .state)) c y (integrityOf es s)) de
 
     settled : {out : Out World} → out ≡ dataBy w clock s c x (storeOut w s es c b n) → out ≡ dataTaken w clock s es c x b n
     unfolding dataTaken
@@ -154,26 +179,26 @@ module _ (w : World) (clock : ℕ) (s es : List ℕ) (c x b n : ℕ) {k : ℕ} (
     unfolding dataBy
     data-unfit d =
         settled
-        (ap (λ (g : Rooms). outOf m 0 (record { rooms = g; channels = w .channels })) (ap (λ (o : StoreOut). o .rooms) out-is ∙ refused-same (w .rooms) _ _ c _ _ (λ q. d (ap (λ (o : StoreOut). o .answer) out-is ∙ q)))
-        ∙ ap (λ (y : ℕ). outOf y 0 w) (ap (λ (o : StoreOut). o .answer) out-is)
-        ∙ unless-not (storeOut w s es c b n .answer) w _ (λ q. d (ap (λ (o : StoreOut). o .answer) out-is ∙ q)))
+        (ap (λ (g : Rooms). outOf m 0 (record { rooms = g; channels = w .channels })) (ap (λ (o : Out Rooms). o .after) out-is ∙ refused-same (w .rooms) _ _ c _ _ (λ q. d (ap (λ (o : Out Rooms). o .answer) out-is ∙ q)))
+        ∙ ap (λ (y : ℕ). outOf y 0 w) (ap (λ (o : Out Rooms). o .answer) out-is)
+        ∙ unless-not (storeOut w s es c b n .answer) w _ (λ q. d (ap (λ (o : Out Rooms). o .answer) out-is ∙ q)))
 
-    -- StoreOut, and acknowledged.
-    pub data-done : m ≡ 0 → {len : ℕ} {p h v : List ℕ} {st : State}
+    -- Stored, and acknowledged.
+    pub data-done : m ≡ 0 → {len : ℕ} {p h v : List ℕ} {st : List ℕ}
         → (len ≡ length (acknowledgement (w .channels .state) s clock c x)) × (p ≡ placed (w .channels .reply) 0 (acknowledgement (w .channels .state) s clock c x))
         → channelsOf st h v [] ≡ affected (channelsOf (w .channels .state) (w .channels .has) (w .channels .wants) []) s
         → outOf 0 len (record { rooms = after; channels = channelsOf st h v p }) ≡ dataTaken w clock s es c x b n
     unfolding dataBy
     data-done q {len} {p} {h} {v} {st} a e =
         settled
-        (assembled len after (channelsOf st h v p) (a .0) (ap (λ (o : StoreOut). o .rooms) out-is) (replied-is (w .channels) s reply e (a .1))
-        ∙ unless-done (storeOut w s es c b n .answer) w _ (sym (ap (λ (o : StoreOut). o .answer) out-is) ∙ q))
+        (assembled len after (channelsOf st h v p) (a .0) (ap (λ (o : Out Rooms). o .after) out-is) (replied-is (w .channels) s reply e (a .1))
+        ∙ unless-done (storeOut w s es c b n .answer) w _ (sym (ap (λ (o : Out Rooms). o .answer) out-is) ∙ q))
       where
         reply : List ℕ
         reply = acknowledgement (w .channels .state) s clock c x
 
-        assembled : (l : ℕ) (g : Rooms) (ch : Channels) → l ≡ length reply → g ≡ storeOut w s es c b n .rooms → ch ≡ replied (affected (w .channels) s) reply
-            → outOf {W = World} 0 l (record { rooms = g; channels = ch }) ≡ outOf 0 (length reply) (record { rooms = storeOut w s es c b n .rooms; channels = replied (affected (w .channels) s) reply })
+        assembled : (l : ℕ) (g : Rooms) (ch : Channels) → l ≡ length reply → g ≡ storeOut w s es c b n .after → ch ≡ replied (affected (w .channels) s) reply
+            → outOf {W = World} 0 l (record { rooms = g; channels = ch }) ≡ outOf 0 (length reply) (record { rooms = storeOut w s es c b n .after; channels = replied (affected (w .channels) s) reply })
         assembled l g ch x y u = rw (x, y, u)
 
 -- ---- any datagram

@@ -18,8 +18,10 @@ use Rattle.store.proofs.Promise.{earlier, roomsAnswer, passed, both-zero, order
 use Rattle.channel.specs.World.{World, channelsOf, Out, outOf, orderLength, chunkCount, tableRows}
 use Rattle.channel.specs.Answers.{channelsAnswer, ownRoomsAnswer}
 use Rattle.channel.specs.Write.{heldAnswer, writeNumber, chunkDatagram, writeSpec}
-use Rattle.channel.proofs.OutLaws.{unless-not, unless-done}
+use Rattle.base.proofs.OutLaws.{unless-not, unless-done}
 use Rattle.channel.proofs.AcceptLaws.{channel-rooms-accepted}
+use Rattle.table.proofs.Promise.{stateWords}
+use lib.Dec.{ltb}
 
 -- ---- the chunk
 
@@ -82,12 +84,12 @@ module _ (w : World) (id c clock N : ℕ) (ne : N ≡ chunkCount (w .channels .s
         let p = both-zero a l (sym ke ∙ z) in
         let q = both-zero b h (sym le ∙ p .1) in
         let i = held-inside N c (w .rooms .map) (sym he ∙ q .1) in
-        let r = both-zero (roomsAnswer L (w .rooms)) (channelsAnswer L (w .channels)) (sym ae ∙ p .0) in
+        let r = both-zero (roomsAnswer L (w .rooms)) (channelsAnswer L (w .channels)) (passed (ltb (length (w .channels .state)) stateWords) 10 _ (sym ae ∙ p .0) .1) in
         let s = order-accepted L (length (w .rooms .bytes)) (length (w .rooms .map)) (length (w .rooms .hashes)) (length (w .rooms .trusted)) (r .0) in
-        let t = rooms-accepted L (length (w .rooms .bytes)) (length (w .rooms .map)) (length (w .rooms .hashes)) (length (w .rooms .trusted)) (s .1) in
+        let t = rooms-accepted L (w .rooms) (r .0) in
         let j : c < chunks chunkSize L = rw ne at i in record {
-          inside = omega (arith, me, t .0, chunk-inside chunkSize L (omega arith) c j);
-          fits = channel-rooms-accepted L (length (w .channels .has)) (length (w .channels .wants)) (length (w .channels .reply)) (r .1) .2;
+          inside = omega (arith, me, t .bytes-in, chunk-inside chunkSize L (omega arith) c j);
+          fits = channel-rooms-accepted L (length (w .channels .state)) (length (w .channels .has)) (length (w .channels .wants)) (length (w .channels .reply)) (r .1) .3;
           count = rw ne (count-within L (length-accepted L (s .0) .1));
           short = simp length-take (omega (arith, me, chunk-some chunkSize L (omega arith) c j));
         }

@@ -1,10 +1,8 @@
 pub mod World
 pub mod Answers
 pub mod Opening
-pub mod Starting
 pub mod Take
+pub mod Starting
 pub mod Write
 pub mod Ask
 pub mod Reply
-pub mod Run
-pub mod Demand

@@ -1,7 +1,7 @@
 -- The replies that 01 names, as messages and the channel that they go to, 0 or the peer's (01, "Entry points"; "Datagrams",
 -- the effects; "Writing a chunk"), and that a reply reads back as them (00, demand 2: "What is written reads back as the same
 -- messages"). Assumes nothing.
-use Prim.Native.Nat.{ℕ, _<_, _^_}
+use Prim.Native.Nat.{ℕ}
 use mathlib.Core.Path.{_≡_}
 use mathlib.Core.List.{List}
 use mathlib.Core.Option.{Option, none, some}
@@ -15,8 +15,7 @@ use Rattle.writer.proofs.Promise.{Item, Reads}
 use Rattle.replies.proofs.Promise.{handshakeItems, ackItems, chunkItems}
 use Rattle.table.proofs.Promise.{openRowOf, rowAt}
 use Rattle.store.proofs.Promise.{chunkIn}
-use Rattle.channel.specs.declared.state.State.{State}
-use Rattle.channel.specs.World.{World, Out, orderRoot, orderLength, chunkCount, tableRows, Shaped}
+use Rattle.channel.specs.World.{World, Out, orderRoot, orderLength, chunkCount, tableRows}
 use Rattle.channel.specs.Take.{rowFor, delay}
 
 -- A reply: the channel that it goes to, and its messages.
@@ -28,14 +27,15 @@ abbrev pub replyOf : ℕ → List Item → Reply
 replyOf to items = record { to = to; items = items }
 
 -- Opening a channel: "the reply is our HANDSHAKE to channel 0".
-abbrev pub openReply : State → (id : ℕ) → Reply
+abbrev pub openReply : List ℕ → (id : ℕ) → Reply
 openReply st id = replyOf 0 (handshakeItems id (orderRoot st))
 
 -- Taking in a datagram s of this layout: a HANDSHAKE to channel 0 is answered by ours, DATA by "one ACK naming that chunk
 -- alone, its delay the clock minus the timestamp"; both go "to the peer's source channel". No other has a reply.
-abbrev pub takeReply : State → (clock id : ℕ) (s : List ℕ) → Layout → Option Reply
+abbrev pub takeReply : List ℕ → (clock id : ℕ) (s : List ℕ) → Layout → Option Reply
 takeReply st clock id s (Fault n) = none
-takeReply st clock id s (HandshakeAlone source o) = pick (eqb (be32 s 0) 0) (some (replyOf source (handshakeItems id (orderRoot st)))) none
+takeReply st clock id s (HandshakeAlone source o) =
+    pick (eqb (be32 s 0) 0) (some (replyOf source (handshakeItems id (orderRoot st)))) none
 takeReply st clock id s (Messages k) = none
 takeReply st clock id s (MessagesAndData c timestamp start n k) =
     some (replyOf (rowAt (tableRows st) (rowFor st s) .peer) (ackItems c c (delay clock timestamp)))
@@ -54,8 +54,3 @@ leftIn o = take (o .len) (o .after .channels .reply)
 abbrev pub Replies : Out World → Option Reply → Type 0
 Replies o none = o .len ≡ 0
 Replies o (some r) = Reads (leftIn o) (r .to) (r .items)
-
--- A state of which its shape says what its types do, and whose peers' channels have 32 bits.
-pub record Typed (st : State) : Type 0 where
-  pub shaped : Shaped st
-  pub peers-fit : (i : ℕ) → rowAt (tableRows st) i .peer < 2 ^ 32

@@ -14,16 +14,15 @@ use Rattle.wire.specs.declared.layout.Layout.the-variants.{Fault, HandshakeAlon
 use Rattle.writer.proofs.Promise.{within, readAll}
 use Rattle.effects.proofs.Promise.{anyPast, Peer, peerOf, effects}
 use Rattle.replies.proofs.Promise.{ackReply}
-use Rattle.table.proofs.Promise.{rowOf, rowAt, rowAfter, messagesAnswer, handshakeAnswer}
 use Rattle.table.specs.declared.rows.Row.{Row}
-use Rattle.store.proofs.Promise.{Out as StoreOut, earlier, integrityOf, takeSpec as storeTake}
-use Rattle.channel.specs.declared.state.State.{State}
-use Rattle.channel.specs.World.{Channels, channelsOf, World, Out, outOf, unless, beside, orderRoot, orderLength, chunkCount, tableRows, putRow, rowBit}
+use Rattle.table.proofs.Promise.{rowOf, rowAt, rowAfter, putRow, messagesAnswer, handshakeAnswer}
+use Rattle.store.proofs.Promise.{Rooms, earlier, integrityOf, takeSpec as storeTake}
+use Rattle.channel.specs.World.{Channels, channelsOf, World, Out, outOf, unless, beside, orderRoot, orderLength, chunkCount, tableRows, rowBit}
 use Rattle.channel.specs.Answers.{ownRoomsAnswer}
 use Rattle.channel.specs.Opening.{openedRow, occupied}
 
 -- The row that a datagram s goes to, by its destination.
-abbrev pub rowFor : State → (s : List ℕ) → ℕ
+abbrev pub rowFor : List ℕ → (s : List ℕ) → ℕ
 rowFor st s = rowOf (tableRows st) (be32 s 0)
 
 -- ---- a HANDSHAKE
@@ -51,7 +50,7 @@ handshakeTaken ch id s source o =
 -- ---- other messages
 
 -- 5 and 3 by the table, then 7 for a range past N-1. A datagram of four bytes has no message: a keepalive.
-unfoldable pub messagesNumber : State → (s : List ℕ) → ℕ
+unfoldable pub messagesNumber : List ℕ → (s : List ℕ) → ℕ
 messagesNumber st s =
     earlier
     (messagesAnswer (tableRows st) (be32 s 0) (eqb (length s) minSize))
@@ -71,7 +70,8 @@ withMark r choked = record { phase = r .phase; id = r .id; peer = r .peer; choke
 unfoldable pub affected : Channels → (s : List ℕ) → Channels
 affected ch s =
     channelsOf
-    (putRow (ch .state) (rowFor (ch .state) s) (withMark (rowAt (tableRows (ch .state)) (rowFor (ch .state) s)) (peerAfter ch s .choked)))
+    (putRow (ch .state) (rowFor (ch .state) s)
+    (withMark (rowAt (tableRows (ch .state)) (rowFor (ch .state) s)) (peerAfter ch s .choked)))
     (peerAfter ch s .has)
     (peerAfter ch s .wants)
     (ch .reply)
@@ -87,7 +87,7 @@ abbrev pub delay : (clock timestamp : ℕ) → ℕ
 delay clock timestamp = (clock + 2 ^ 64 - timestamp) % 2 ^ 64
 
 -- "Stored DATA is answered by one ACK naming that chunk alone", to the peer of the channel that it came on.
-abbrev pub acknowledgement : State → (s : List ℕ) (clock c timestamp : ℕ) → List ℕ
+abbrev pub acknowledgement : List ℕ → (s : List ℕ) (clock c timestamp : ℕ) → List ℕ
 acknowledgement st s clock c timestamp = ackReply (rowAt (tableRows st) (rowFor st s) .peer) c c (delay clock timestamp)
 
 -- The channels with a reply.
@@ -96,17 +96,17 @@ replied ch r = channelsOf (ch .state) (ch .has) (ch .wants) (placed (ch .reply) 
 
 -- What taking the n bytes from `start` on as chunk c gives and leaves of the chunk rooms; `entries` has the nodes of the
 -- INTEGRITY messages and the places of their hashes.
-abbrev pub storeOut : World → (s entries : List ℕ) (c start n : ℕ) → StoreOut
+abbrev pub storeOut : World → (s entries : List ℕ) (c start n : ℕ) → Out Rooms
 storeOut w s entries c start n =
     storeTake (w .rooms) (orderRoot (w .channels .state)) (orderLength (w .channels .state)) c (within s start n)
     (integrityOf entries s)
 
 -- DATA by that: refused with 8, 9 or 10; or the chunk rooms so, the effects of the messages, and the reply.
-unfoldable pub dataBy : World → (clock : ℕ) (s : List ℕ) (c timestamp : ℕ) → StoreOut → Out World
+unfoldable pub dataBy : World → (clock : ℕ) (s : List ℕ) (c timestamp : ℕ) → Out Rooms → Out World
 dataBy w clock s c timestamp out =
     unless (out .answer) w
     (outOf 0 (length (acknowledgement (w .channels .state) s clock c timestamp)) (record {
-      rooms = out .rooms;
+      rooms = out .after;
       channels = replied (affected (w .channels) s) (acknowledgement (w .channels .state) s clock c timestamp);
     }))
 

@@ -1,7 +1,8 @@
 // Asking: the held count, and whole or not.
 ghost use mathlib.Core.Path.{_≡_};
 ghost use Rattle.channel.specs.Ask.{askedOf, askSpec};
-use crate::state::State;
+use table::words;
+use table::words::STATE_WORDS;
 
 pub struct Asked {
     pub answer: u32,
@@ -10,11 +11,18 @@ pub struct Asked {
 }
 
 // How many chunks the map has, and whether it has all.
-pub fn ask(state: State, map: &[u32]) -> Asked
-    ensures { λ r. ⌜ askedOf (r .answer) (r .held) (r .whole) ≡ askSpec state (now (map .entry)) ⌝ }
+pub fn ask(state: &[u32], map: &[u32]) -> Asked
+    ensures { λ r. ⌜ askedOf (r .answer) (r .held) (r .whole)
+        ≡ askSpec (now (state .entry)) (now (map .entry)) ⌝ }
 {
-    let order = state.order;
-    let asked = held::ask(order.length, map);
+    if state.len() < STATE_WORDS {
+        return Asked {
+            answer: 11,
+            held: 0,
+            whole: false,
+        };
+    }
+    let asked = held::ask(words::length_in(state), map);
     Asked {
         answer: asked.answer,
         held: asked.held,

@@ -7,14 +7,14 @@ ghost use Rattle.wire.proofs.Promise.{minSize, maxSize};
 ghost use Rattle.channel.specs.World.{channelsOf, outOf};
 ghost use Rattle.channel.specs.Take.{ours, handshakeTaken};
 use crate::opening;
-use crate::state::Outcome;
-use crate::state::State;
+use crate::outcome::Outcome;
 use hash::value;
 use hash::value::HashValue;
 use table::answers;
 use table::rows;
 use table::rows::Phase;
 use table::rows::Row;
+use table::words;
 use wire::bytes;
 use wire::message::Options;
 
@@ -44,7 +44,7 @@ fn is_ours(root: HashValue, options: Options, datagram: &[u8]) -> bool
 
 // A HANDSHAKE alone, of a datagram with its destination.
 pub(crate) fn handshake(
-    state: State,
+    state: &mut [u32],
     has: &mut [u32],
     wants: &mut [u32],
     reply: &mut [u8],
@@ -56,23 +56,17 @@ pub(crate) fn handshake(
     requires { ⌜ maxSize ≤ length (now reply) ⌝ }
     requires { ⌜ minSize ≤ length (now datagram) ⌝ }
     ensures { λ r. ⌜ outOf (r .answer) (r .len)
-        (channelsOf (r .state) (now (has .exit)) (now (wants .exit)) (now (reply .exit)))
+        (channelsOf (now (state .exit)) (now (has .exit)) (now (wants .exit)) (now (reply .exit)))
         ≡ handshakeTaken
-        (channelsOf state (now (has .entry)) (now (wants .entry)) (now (reply .entry)))
+        (channelsOf (now (state .entry)) (now (has .entry)) (now (wants .entry)) (now (reply .entry)))
         id (now (datagram .entry)) source options ⌝ }
 {
-    let order = state.order;
-    let table = state.table;
-    let root = order.root;
     let to = bytes::load32(datagram, 0);
-    let ours = is_ours(root, options, datagram);
-    let answer = answers::handshake_answer(table, to, source, ours, id);
+    let i = words::row_of(state, to);
+    let ours = is_ours(words::root_in(state), options, datagram);
+    let answer = answers::handshake_answer(state, i, to, source, ours, id);
     if answer != 0 {
-        return Outcome {
-            answer,
-            len: 0,
-            state,
-        };
+        return Outcome { answer, len: 0 };
     }
     if to == 0 {
         let row = Row {
@@ -83,14 +77,7 @@ pub(crate) fn handshake(
         };
         return opening::occupy(state, has, wants, reply, row);
     }
-    let i = rows::row_of(table, to);
-    let row = rows::row_after(rows::row_at(table, i), source);
-    Outcome {
-        answer: 0,
-        len: 0,
-        state: State {
-            order,
-            table: rows::with_row(table, i, row),
-        },
-    }
+    let row = rows::row_after(words::row_at(state, i), source);
+    words::put_row(state, i, row);
+    Outcome { answer: 0, len: 0 }
 }

@@ -6,13 +6,12 @@ ghost use Rattle.wire.proofs.Promise.{maxSize};
 ghost use Rattle.table.proofs.Promise.{rowCount};
 ghost use Rattle.channel.specs.World.{channelsOf, worldOf, outOf, clearedRow};
 ghost use Rattle.channel.specs.Opening.{occupied, openSpec};
+use crate::outcome::Outcome;
 use crate::rooms;
-use crate::state::Outcome;
-use crate::state::State;
 use table::answers;
-use table::rows;
 use table::rows::Phase;
 use table::rows::Row;
+use table::words;
 use tree::pack;
 
 // Clears row i of a room for what peers have or want, of n chunks.
@@ -27,7 +26,7 @@ fn clear_row(ws: &mut [u32], n: u32, i: usize)
 
 // A channel in the lowest free row; the reply is our HANDSHAKE.
 pub(crate) fn occupy(
-    state: State,
+    state: &mut [u32],
     has: &mut [u32],
     wants: &mut [u32],
     reply: &mut [u8],
@@ -35,30 +34,24 @@ pub(crate) fn occupy(
 ) -> Outcome
     requires { ⌜ maxSize ≤ length (now reply) ⌝ }
     ensures { λ r. ⌜ outOf (r .answer) (r .len)
-        (channelsOf (r .state) (now (has .exit)) (now (wants .exit)) (now (reply .exit)))
-        ≡ occupied (channelsOf state (now (has .entry)) (now (wants .entry)) (now (reply .entry))) row ⌝ }
+        (channelsOf (now (state .exit)) (now (has .exit)) (now (wants .exit)) (now (reply .exit)))
+        ≡ occupied
+        (channelsOf (now (state .entry)) (now (has .entry)) (now (wants .entry)) (now (reply .entry)))
+        row ⌝ }
 {
-    let order = state.order;
-    let table = state.table;
-    let root = order.root;
-    let n = pack::chunk_count(order.length);
-    let i = rows::lowest_free(table);
+    let n = pack::chunk_count(words::length_in(state));
+    let root = words::root_in(state);
+    let i = words::lowest_free(state);
     clear_row(has, n, i);
     clear_row(wants, n, i);
     let len = replies::handshake(reply, row.peer, row.id, root);
-    Outcome {
-        answer: 0,
-        len,
-        state: State {
-            order,
-            table: rows::with_row(table, i, row),
-        },
-    }
+    words::put_row(state, i, row);
+    Outcome { answer: 0, len }
 }
 
 // Opens a channel under an ID: it calls, and the reply is our HANDSHAKE to channel 0.
 pub fn open(
-    state: State,
+    state: &mut [u32],
     chunks: &[u8],
     map: &[u32],
     hashes: &[u32],
@@ -69,17 +62,16 @@ pub fn open(
     id: u32,
 ) -> Outcome
     ensures { λ r. ⌜ outOf (r .answer) (r .len)
-        (worldOf (r .state) (now (chunks .entry)) (now (map .entry)) (now (hashes .entry)) (now (trusted .entry))
-        (now (has .exit)) (now (wants .exit)) (now (reply .exit)))
+        (worldOf (now (state .exit)) (now (chunks .entry)) (now (map .entry)) (now (hashes .entry))
+        (now (trusted .entry)) (now (has .exit)) (now (wants .exit)) (now (reply .exit)))
         ≡ openSpec
-        (worldOf state (now (chunks .entry)) (now (map .entry)) (now (hashes .entry)) (now (trusted .entry))
-        (now (has .entry)) (now (wants .entry)) (now (reply .entry)))
+        (worldOf (now (state .entry)) (now (chunks .entry)) (now (map .entry)) (now (hashes .entry))
+        (now (trusted .entry)) (now (has .entry)) (now (wants .entry)) (now (reply .entry)))
         id ⌝ }
 {
-    let order = state.order;
-    let table = state.table;
-    let refused = rooms::all_rooms_answer(
-        order.length,
+    let refused = rooms::own_rooms_answer(
+        words::length_in(state),
+        state.len(),
         chunks.len(),
         map.len(),
         hashes.len(),
@@ -88,13 +80,9 @@ pub fn open(
         wants.len(),
         reply.len(),
     );
-    let answer = rooms::earlier(refused, answers::open_answer(table, id));
+    let answer = rooms::earlier(refused, answers::open_answer(state, id));
     if answer != 0 {
-        return Outcome {
-            answer,
-            len: 0,
-            state,
-        };
+        return Outcome { answer, len: 0 };
     }
     let row = Row {
         phase: Phase::Calling,

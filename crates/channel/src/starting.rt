@@ -1,40 +1,27 @@
 // Starting a store under an order, and building a whole one from its content.
 ghost use mathlib.Core.Path.{_≡_};
-ghost use Prim.Native.Nat.{_*_};
-ghost use Rattle.bits.proofs.Promise.{clearWords, rowWords};
-ghost use Rattle.table.proofs.Promise.{rowCount};
+ghost use Rattle.bits.proofs.Promise.{clearWords};
 ghost use Rattle.store.proofs.Promise.{countOf};
 ghost use Rattle.channel.specs.World.{worldOf, outOf};
-ghost use Rattle.channel.specs.Starting.{freshState, startSpec, buildSpec};
+ghost use Rattle.channel.specs.Answers.{peerWords};
+ghost use Rattle.channel.specs.Starting.{startSpec, buildSpec};
 use crate::rooms;
-use crate::state::Outcome;
-use crate::state::State;
+use order::Order;
 use store::calls;
-use store::calls::Order;
-use table::rows;
 use table::rows::ROWS;
+use table::words;
 
 // Clears all rows of a room for what peers have or want, of a pack of this length.
 fn clear_rows(ws: &mut [u32], length: u32)
-    ensures { λ _. ⌜ now (ws .exit) ≡ clearWords (now (ws .entry)) 0 (rowCount * rowWords (countOf length)) ⌝ }
+    ensures { λ _. ⌜ now (ws .exit) ≡ clearWords (now (ws .entry)) 0 (peerWords (countOf length)) ⌝ }
 {
     let row = bits::row_words(tree::pack::chunk_count(length) as u64) as usize;
     bits::clear_words(ws, 0, ROWS * row);
 }
 
-// The state under a new order: every row is free.
-fn fresh_state(order: Order) -> State
-    ensures { λ r. ⌜ r ≡ freshState order ⌝ }
-{
-    State {
-        order,
-        table: rows::free_table(),
-    }
-}
-
-// Starts a store under an order. `state` is what is kept where it is refused.
+// Starts a store under an order. The words of the state need not be one.
 pub fn start(
-    state: State,
+    state: &mut [u32],
     chunks: &[u8],
     map: &mut [u32],
     hashes: &mut [u32],
@@ -43,18 +30,19 @@ pub fn start(
     wants: &mut [u32],
     reply: &[u8],
     order: Order,
-) -> Outcome
-    ensures { λ r. ⌜ outOf (r .answer) (r .len)
-        (worldOf (r .state) (now (chunks .entry)) (now (map .exit)) (now (hashes .exit)) (now (trusted .exit))
-        (now (has .exit)) (now (wants .exit)) (now (reply .entry)))
+) -> u32
+    ensures { λ r. ⌜ outOf r 0
+        (worldOf (now (state .exit)) (now (chunks .entry)) (now (map .exit)) (now (hashes .exit))
+        (now (trusted .exit)) (now (has .exit)) (now (wants .exit)) (now (reply .entry)))
         ≡ startSpec
-        (worldOf state (now (chunks .entry)) (now (map .entry)) (now (hashes .entry)) (now (trusted .entry))
-        (now (has .entry)) (now (wants .entry)) (now (reply .entry)))
+        (worldOf (now (state .entry)) (now (chunks .entry)) (now (map .entry)) (now (hashes .entry))
+        (now (trusted .entry)) (now (has .entry)) (now (wants .entry)) (now (reply .entry)))
         order ⌝ }
 {
     let length = order.length;
     let answer = rooms::all_rooms_answer(
         length,
+        state.len(),
         chunks.len(),
         map.len(),
         hashes.len(),
@@ -64,25 +52,18 @@ pub fn start(
         reply.len(),
     );
     if answer != 0 {
-        return Outcome {
-            answer,
-            len: 0,
-            state,
-        };
+        return answer;
     }
     calls::start(order, chunks, map, hashes, trusted);
     clear_rows(has, length);
     clear_rows(wants, length);
-    Outcome {
-        answer: 0,
-        len: 0,
-        state: fresh_state(order),
-    }
+    words::put_fresh(state, order);
+    0
 }
 
 // Builds a whole store of a length from its content; the root found becomes the order's.
 pub fn build(
-    state: State,
+    state: &mut [u32],
     chunks: &mut [u8],
     map: &mut [u32],
     hashes: &mut [u32],
@@ -92,18 +73,19 @@ pub fn build(
     reply: &[u8],
     length: u32,
     content: &[u8],
-) -> Outcome
-    ensures { λ r. ⌜ outOf (r .answer) (r .len)
-        (worldOf (r .state) (now (chunks .exit)) (now (map .exit)) (now (hashes .exit)) (now (trusted .exit))
-        (now (has .exit)) (now (wants .exit)) (now (reply .entry)))
+) -> u32
+    ensures { λ r. ⌜ outOf r 0
+        (worldOf (now (state .exit)) (now (chunks .exit)) (now (map .exit)) (now (hashes .exit))
+        (now (trusted .exit)) (now (has .exit)) (now (wants .exit)) (now (reply .entry)))
         ≡ buildSpec
-        (worldOf state (now (chunks .entry)) (now (map .entry)) (now (hashes .entry)) (now (trusted .entry))
-        (now (has .entry)) (now (wants .entry)) (now (reply .entry)))
+        (worldOf (now (state .entry)) (now (chunks .entry)) (now (map .entry)) (now (hashes .entry))
+        (now (trusted .entry)) (now (has .entry)) (now (wants .entry)) (now (reply .entry)))
         length (now (content .entry)) ⌝ }
 {
     let answer = rooms::build_number(
         length,
         content.len(),
+        state.len(),
         chunks.len(),
         map.len(),
         hashes.len(),
@@ -113,19 +95,12 @@ pub fn build(
         reply.len(),
     );
     if answer != 0 {
-        return Outcome {
-            answer,
-            len: 0,
-            state,
-        };
+        return answer;
     }
     let built = calls::build(length, chunks, map, hashes, trusted, content);
     let root = built.root;
     clear_rows(has, length);
     clear_rows(wants, length);
-    Outcome {
-        answer: 0,
-        len: 0,
-        state: fresh_state(Order { root, length }),
-    }
+    words::put_fresh(state, Order { root, length });
+    0
 }

@@ -8,17 +8,17 @@ ghost use Rattle.wire.proofs.Promise.{placed, minSize, maxSize};
 ghost use Rattle.writer.proofs.Promise.{readAll};
 ghost use Rattle.effects.proofs.Promise.{allQuiet};
 ghost use Rattle.store.proofs.Promise.{lengthAnswer};
-ghost use Rattle.channel.specs.World.{channelsOf, worldOf, outOf};
-ghost use Rattle.channel.specs.Take.{messagesNumber, affected, messagesTaken};
+ghost use Rattle.table.proofs.Promise.{rowCount};
+ghost use Rattle.channel.specs.World.{channelsOf, worldOf, outOf, orderLength};
+ghost use Rattle.channel.specs.Take.{rowFor, messagesNumber, affected, messagesTaken};
 ghost use Rattle.channel.specs.Take.{acknowledgement, dataTaken, takeSpec};
 use crate::handshakes;
+use crate::outcome::Outcome;
 use crate::rooms;
-use crate::state::Outcome;
-use crate::state::State;
 use store::calls;
 use table::answers;
-use table::rows;
 use table::rows::Row;
+use table::words;
 use tree::pack;
 use wire::bytes;
 use wire::layout;
@@ -34,22 +34,35 @@ struct Judged {
     quiet: bool,
 }
 
-fn judge(state: State, datagram: &[u8]) -> Judged
+// The row that a datagram goes to, or 16. It is found once a call, and handed on.
+fn row_for(state: &[u32], datagram: &[u8]) -> usize
     requires { ⌜ minSize ≤ length (now datagram) ⌝ }
-    ensures { λ r. ⌜ (r .number ≡ messagesNumber state (now (datagram .entry)))
+    ensures { λ r. ⌜ (r ≡ rowFor (now (state .entry)) (now (datagram .entry))) × (r ≤ rowCount) ⌝ }
+{
+    words::row_of(state, bytes::load32(datagram, 0))
+}
+
+fn judge(state: &[u32], i: usize, datagram: &[u8]) -> Judged
+    requires { ⌜ minSize ≤ length (now datagram) ⌝ }
+    requires { ⌜ i ≡ rowFor (now state) (now datagram) ⌝ }
+    ensures { λ r. ⌜ (r .number ≡ messagesNumber (now (state .entry)) (now (datagram .entry)))
         × (r .quiet ≡ true → allQuiet (readAll (now (datagram .entry))) ≡ true) ⌝ }
 {
-    let order = state.order;
-    let table = state.table;
     let keepalive = datagram.len() == MIN_SIZE;
-    let refused = answers::messages_answer(table, bytes::load32(datagram, 0), keepalive);
+    let refused = answers::messages_answer(state, i, bytes::load32(datagram, 0), keepalive);
     if refused != 0 {
         return Judged {
             number: refused,
             quiet: false,
         };
     }
-    let found = effects::survey(datagram, pack::chunk_count(order.length));
+    if keepalive {
+        return Judged {
+            number: 0,
+            quiet: true,
+        };
+    }
+    let found = effects::survey(datagram, pack::chunk_count(words::length_in(state)));
     if found.past {
         return Judged {
             number: 7,
@@ -63,18 +76,20 @@ fn judge(state: State, datagram: &[u8]) -> Judged
 }
 
 // The effects of messages on the channel that they go to.
-fn apply_messages(state: State, has: &mut [u32], wants: &mut [u32], datagram: &[u8]) -> State
-    requires { ⌜ lengthAnswer (state .order .length) ≡ 0 ⌝ }
-    requires { ⌜ minSize ≤ length (now datagram) ⌝ }
-    ensures { λ r. ⌜ channelsOf r (now (has .exit)) (now (wants .exit)) []
-        ≡ affected (channelsOf state (now (has .entry)) (now (wants .entry)) []) (now (datagram .entry)) ⌝ }
+fn apply_messages(state: &mut [u32], i: usize, has: &mut [u32], wants: &mut [u32], datagram: &[u8])
+    requires { ⌜ lengthAnswer (orderLength (now state)) ≡ 0 ⌝ }
+    requires { ⌜ (i ≡ rowFor (now state) (now datagram)) × (i ≤ rowCount) ⌝ }
+    ensures { λ _. ⌜ channelsOf (now (state .exit)) (now (has .exit)) (now (wants .exit)) []
+        ≡ affected
+        (channelsOf (now (state .entry)) (now (has .entry)) (now (wants .entry)) [])
+        (now (datagram .entry)) ⌝ }
 {
-    let order = state.order;
-    let table = state.table;
-    let i = rows::row_of(table, bytes::load32(datagram, 0));
-    let row = rows::row_at(table, i);
-    let words = bits::row_words(pack::chunk_count(order.length) as u64) as usize;
-    let choked = effects::apply(has, wants, 32 * (words * i), row.choked, datagram);
+    let row = words::row_at(state, i);
+    let n = bits::row_words(pack::chunk_count(words::length_in(state)) as u64) as usize;
+    let choked = effects::apply(has, wants, 32 * (n * i), row.choked, datagram);
+    if words::flag(choked) == words::flag(row.choked) {
+        return;
+    }
     let phase = row.phase;
     let marked = Row {
         phase,
@@ -82,47 +97,42 @@ fn apply_messages(state: State, has: &mut [u32], wants: &mut [u32], datagram: &[
         peer: row.peer,
         choked,
     };
-    State {
-        order,
-        table: rows::with_row(table, i, marked),
-    }
+    words::put_row(state, i, marked);
 }
 
 // Messages without DATA.
 fn messages(
-    state: State,
+    state: &mut [u32],
     has: &mut [u32],
     wants: &mut [u32],
     reply: &[u8],
     datagram: &[u8],
 ) -> Outcome
-    requires { ⌜ lengthAnswer (state .order .length) ≡ 0 ⌝ }
+    requires { ⌜ lengthAnswer (orderLength (now state)) ≡ 0 ⌝ }
     requires { ⌜ minSize ≤ length (now datagram) ⌝ }
     ensures { λ r. ⌜ outOf (r .answer) (r .len)
-        (channelsOf (r .state) (now (has .exit)) (now (wants .exit)) (now (reply .entry)))
+        (channelsOf (now (state .exit)) (now (has .exit)) (now (wants .exit)) (now (reply .entry)))
         ≡ messagesTaken
-        (channelsOf state (now (has .entry)) (now (wants .entry)) (now (reply .entry)))
+        (channelsOf (now (state .entry)) (now (has .entry)) (now (wants .entry)) (now (reply .entry)))
         (now (datagram .entry)) ⌝ }
 {
-    let judged = judge(state, datagram);
+    let i = row_for(state, datagram);
+    let judged = judge(state, i, datagram);
     let answer = judged.number;
     if answer != 0 {
-        return Outcome {
-            answer,
-            len: 0,
-            state,
-        };
+        return Outcome { answer, len: 0 };
     }
-    Outcome {
-        answer: 0,
-        len: 0,
-        state: apply_messages(state, has, wants, datagram),
+    if judged.quiet {
+        return Outcome { answer: 0, len: 0 };
     }
+    apply_messages(state, i, has, wants, datagram);
+    Outcome { answer: 0, len: 0 }
 }
 
 // The ACK of chunk c, to the peer of the channel that it came on; its length.
 fn acknowledge(
-    state: State,
+    state: &[u32],
+    i: usize,
     reply: &mut [u8],
     clock: u64,
     c: u32,
@@ -130,20 +140,19 @@ fn acknowledge(
     datagram: &[u8],
 ) -> usize
     requires { ⌜ maxSize ≤ length (now reply) ⌝ }
-    requires { ⌜ minSize ≤ length (now datagram) ⌝ }
-    ensures { λ r. ⌜ (r ≡ length (acknowledgement state (now (datagram .entry)) clock c timestamp))
-        × (now (reply .exit)
-        ≡ placed (now (reply .entry)) 0 (acknowledgement state (now (datagram .entry)) clock c timestamp)) ⌝ }
+    requires { ⌜ i ≡ rowFor (now state) (now datagram) ⌝ }
+    ensures { λ r. ⌜ (r ≡ length (acknowledgement (now (state .entry)) (now (datagram .entry)) clock c timestamp))
+        × (now (reply .exit) ≡ placed (now (reply .entry)) 0
+        (acknowledgement (now (state .entry)) (now (datagram .entry)) clock c timestamp)) ⌝ }
 {
-    let table = state.table;
-    let row = rows::row_at(table, rows::row_of(table, bytes::load32(datagram, 0)));
+    let row = words::row_at(state, i);
     let delay = std::num::wrapping_sub_u64(clock, timestamp);
     replies::ack(reply, row.peer, c, c, delay)
 }
 
 // Messages with DATA, whose chunk has `len` bytes from `start` on and whose INTEGRITY messages are in `entries`.
 fn take_chunk(
-    state: State,
+    state: &mut [u32],
     chunks: &mut [u8],
     map: &mut [u32],
     hashes: &mut [u32],
@@ -159,29 +168,29 @@ fn take_chunk(
     entries: &[u64],
     datagram: &[u8],
 ) -> Outcome
-    requires { ⌜ lengthAnswer (state .order .length) ≡ 0 ⌝ }
+    requires { ⌜ lengthAnswer (orderLength (now state)) ≡ 0 ⌝ }
     requires { ⌜ maxSize ≤ length (now reply) ⌝ }
     requires { ⌜ minSize ≤ length (now datagram) ⌝ }
     requires { ⌜ start + len ≤ length (now datagram) ⌝ }
     ensures { λ r. ⌜ outOf (r .answer) (r .len)
-        (worldOf (r .state) (now (chunks .exit)) (now (map .exit)) (now (hashes .exit)) (now (trusted .exit))
-        (now (has .exit)) (now (wants .exit)) (now (reply .exit)))
+        (worldOf (now (state .exit)) (now (chunks .exit)) (now (map .exit)) (now (hashes .exit))
+        (now (trusted .exit)) (now (has .exit)) (now (wants .exit)) (now (reply .exit)))
         ≡ dataTaken
-        (worldOf state (now (chunks .entry)) (now (map .entry)) (now (hashes .entry)) (now (trusted .entry))
-        (now (has .entry)) (now (wants .entry)) (now (reply .entry)))
+        (worldOf (now (state .entry)) (now (chunks .entry)) (now (map .entry)) (now (hashes .entry))
+        (now (trusted .entry)) (now (has .entry)) (now (wants .entry)) (now (reply .entry)))
         clock (now (datagram .entry)) (now (entries .entry)) c timestamp start len ⌝ }
 {
     let end = start + len;
-    let judged = judge(state, datagram);
+    let i = row_for(state, datagram);
+    let judged = judge(state, i, datagram);
     let refused = judged.number;
     if refused != 0 {
         return Outcome {
             answer: refused,
             len: 0,
-            state,
         };
     }
-    let order = state.order;
+    let order = words::order_in(state);
     let answer = calls::take(
         order,
         chunks,
@@ -194,30 +203,25 @@ fn take_chunk(
         datagram,
     );
     if answer != 0 {
-        return Outcome {
-            answer,
-            len: 0,
-            state,
-        };
+        return Outcome { answer, len: 0 };
     }
-    let sent = acknowledge(state, reply, clock, c, timestamp, datagram);
+    let sent = acknowledge(state, i, reply, clock, c, timestamp, datagram);
     if judged.quiet {
         return Outcome {
             answer: 0,
             len: sent,
-            state,
         };
     }
+    apply_messages(state, i, has, wants, datagram);
     Outcome {
         answer: 0,
         len: sent,
-        state: apply_messages(state, has, wants, datagram),
     }
 }
 
 // Takes in a datagram at a clock; `id` is for a channel that it may open.
 pub fn take(
-    state: State,
+    state: &mut [u32],
     chunks: &mut [u8],
     map: &mut [u32],
     hashes: &mut [u32],
@@ -230,16 +234,16 @@ pub fn take(
     datagram: &[u8],
 ) -> Outcome
     ensures { λ r. ⌜ outOf (r .answer) (r .len)
-        (worldOf (r .state) (now (chunks .exit)) (now (map .exit)) (now (hashes .exit)) (now (trusted .exit))
-        (now (has .exit)) (now (wants .exit)) (now (reply .exit)))
+        (worldOf (now (state .exit)) (now (chunks .exit)) (now (map .exit)) (now (hashes .exit))
+        (now (trusted .exit)) (now (has .exit)) (now (wants .exit)) (now (reply .exit)))
         ≡ takeSpec
-        (worldOf state (now (chunks .entry)) (now (map .entry)) (now (hashes .entry)) (now (trusted .entry))
-        (now (has .entry)) (now (wants .entry)) (now (reply .entry)))
+        (worldOf (now (state .entry)) (now (chunks .entry)) (now (map .entry)) (now (hashes .entry))
+        (now (trusted .entry)) (now (has .entry)) (now (wants .entry)) (now (reply .entry)))
         clock id (now (datagram .entry)) ⌝ }
 {
-    let order = state.order;
-    let refused = rooms::all_rooms_answer(
-        order.length,
+    let refused = rooms::own_rooms_answer(
+        words::length_in(state),
+        state.len(),
         chunks.len(),
         map.len(),
         hashes.len(),
@@ -252,7 +256,6 @@ pub fn take(
         return Outcome {
             answer: refused,
             len: 0,
-            state,
         };
     }
     let mut entries = [0u64; ENTRIES];
@@ -260,7 +263,6 @@ pub fn take(
         Layout::Fault { number } => Outcome {
             answer: number,
             len: 0,
-            state,
         },
         Layout::HandshakeAlone { source, options } => {
             handshakes::handshake(state, has, wants, reply, id, source, options, datagram)

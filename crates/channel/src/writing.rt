@@ -2,11 +2,10 @@
 ghost use mathlib.Core.Path.{_≡_};
 ghost use Rattle.channel.specs.World.{worldOf, outOf};
 ghost use Rattle.channel.specs.Write.{heldAnswer, writeSpec};
+use crate::outcome::Outcome;
 use crate::rooms;
-use crate::state::Outcome;
-use crate::state::State;
 use table::answers;
-use table::rows;
+use table::words;
 use tree::pack;
 use tree::pack::CHUNK_SIZE;
 
@@ -26,7 +25,7 @@ fn held_answer(n: u32, c: u32, map: &[u32]) -> u32
 // The datagram for chunk c on the channel of an ID, with the clock as its timestamp: the hashes that go out with it,
 // then DATA.
 pub fn write(
-    state: State,
+    state: &[u32],
     chunks: &[u8],
     map: &[u32],
     hashes: &[u32],
@@ -39,19 +38,18 @@ pub fn write(
     clock: u64,
 ) -> Outcome
     ensures { λ r. ⌜ outOf (r .answer) (r .len)
-        (worldOf (r .state) (now (chunks .entry)) (now (map .entry)) (now (hashes .entry)) (now (trusted .entry))
-        (now (has .entry)) (now (wants .entry)) (now (reply .exit)))
+        (worldOf (now (state .entry)) (now (chunks .entry)) (now (map .entry)) (now (hashes .entry))
+        (now (trusted .entry)) (now (has .entry)) (now (wants .entry)) (now (reply .exit)))
         ≡ writeSpec
-        (worldOf state (now (chunks .entry)) (now (map .entry)) (now (hashes .entry)) (now (trusted .entry))
-        (now (has .entry)) (now (wants .entry)) (now (reply .entry)))
+        (worldOf (now (state .entry)) (now (chunks .entry)) (now (map .entry)) (now (hashes .entry))
+        (now (trusted .entry)) (now (has .entry)) (now (wants .entry)) (now (reply .entry)))
         id c clock ⌝ }
 {
-    let order = state.order;
-    let table = state.table;
-    let length = order.length;
+    let length = words::length_in(state);
     let n = pack::chunk_count(length);
-    let refused = rooms::all_rooms_answer(
+    let refused = rooms::own_rooms_answer(
         length,
+        state.len(),
         chunks.len(),
         map.len(),
         hashes.len(),
@@ -60,22 +58,14 @@ pub fn write(
         wants.len(),
         reply.len(),
     );
-    let later = rooms::earlier(answers::write_answer(table, id), held_answer(n, c, map));
+    let later = rooms::earlier(answers::write_answer(state, id), held_answer(n, c, map));
     let answer = rooms::earlier(refused, later);
     if answer != 0 {
-        return Outcome {
-            answer,
-            len: 0,
-            state,
-        };
+        return Outcome { answer, len: 0 };
     }
-    let row = rows::row_at(table, rows::open_row_of(table, id));
+    let row = words::row_at(state, words::open_row_of(state, id));
     let from = CHUNK_SIZE as usize * c as usize;
     let end = from + pack::chunk_size(length, c) as usize;
     let len = replies::chunk(reply, hashes, row.peer, n, c, clock, &chunks[from..end]);
-    Outcome {
-        answer: 0,
-        len,
-        state,
-    }
+    Outcome { answer: 0, len }
 }

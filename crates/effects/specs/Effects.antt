@@ -39,13 +39,17 @@ pub record Peer : Type 0 where
 abbrev pub peerOf : List ℕ → List ℕ → Bool → Peer
 peerOf has wants choked = record { has = has; wants = wants; choked = choked }
 
+-- HAVE and ACK: the peer has the chunks, and wants them no more.
+abbrev pub have : (from upto : ℕ) → Peer → Peer
+have from upto m = peerOf (setRange (m .has) from upto) (clearRange (m .wants) from upto) (m .choked)
+
 -- A message on the channel whose bits begin at b in both rooms: "HAVE and ACK set the peer's has-bits and clear its wants ..;
 -- REQUEST sets wants; CANCEL clears them; CHOKE sets a mark, UNCHOKE clears it". INTEGRITY and DATA change none of these.
 unfoldable pub effect : ℕ → Message → Peer → Peer
 effect b (Handshake a o) m = m
 effect b (Data f l x p n) m = m
-effect b (Ack f l d) m = peerOf (setRange (m .has) (b + f) (b + l + 1)) (clearRange (m .wants) (b + f) (b + l + 1)) (m .choked)
-effect b (Have f l) m = peerOf (setRange (m .has) (b + f) (b + l + 1)) (clearRange (m .wants) (b + f) (b + l + 1)) (m .choked)
+effect b (Ack f l d) m = have (b + f) (b + l + 1) m
+effect b (Have f l) m = have (b + f) (b + l + 1) m
 effect b (Integrity f l h) m = m
 effect b (Request f l) m = peerOf (m .has) (setRange (m .wants) (b + f) (b + l + 1)) (m .choked)
 effect b (Cancel f l) m = peerOf (m .has) (clearRange (m .wants) (b + f) (b + l + 1)) (m .choked)

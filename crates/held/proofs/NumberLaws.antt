@@ -5,16 +5,17 @@ use mathlib.Core.Bool.{Bool, true, false}
 use mathlib.Core.List.{List, [], _∷_}
 use lib.Dec.{ltb}
 use lib.ListN.{length}
+use Rattle.base.specs.Pick.{pick}
 use Rattle.base.specs.Among.{among, OneOf}
 use Rattle.base.proofs.AmongLaws.{allAmong, earlier-one, one-of-more}
 use Rattle.bits.proofs.Promise.{countBits, rowWords}
-use Rattle.store.proofs.Promise.{refuse, lengthAnswer, countOf, length-numbered}
+use Rattle.store.proofs.Promise.{lengthAnswer, countOf, length-numbered}
 use Rattle.held.specs.Held.{askNumber, countedUnless, heldSpec}
 
 abbrev askNumbers : List ℕ
 askNumbers = 0 ∷ 11 ∷ 12 ∷ []
 
-room-one : (b : Bool) → OneOf askNumbers (refuse b 11 0)
+room-one : (b : Bool) → OneOf askNumbers (pick b 11 0)
 unfolding among
 room-one true = refl
 room-one false = refl
@@ -28,4 +29,4 @@ unfolding heldSpec askNumber among allAmong
 ask-one L map =
     let N = countOf L in
     let short = ltb (length map) (rowWords N) in
-    counted-one (askNumber L N (length map)) (countBits map N) N (earlier-one askNumbers (lengthAnswer L) (refuse short 11 0) (one-of-more (0 ∷ 12 ∷ []) askNumbers (lengthAnswer L) refl (length-numbered L)) (room-one short))
+    counted-one (askNumber L N (length map)) (countBits map N) N (earlier-one askNumbers (lengthAnswer L) (pick short 11 0) (one-of-more (0 ∷ 12 ∷ []) askNumbers (lengthAnswer L) refl (length-numbered L)) (room-one short))

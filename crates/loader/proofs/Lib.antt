@@ -1,13 +1,4 @@
--- What the proofs of several functions cite, and demand 3 at the interface.
-pub mod StateLaws
-pub mod MessageLaws
+-- What the proofs of several functions cite, and what is known of the interface.
 pub mod CallLaws
-pub mod RoundLaws
-pub mod LinkLaws
-pub mod StartLaws
-pub mod RefusedLaws
-pub mod DemandLaws
-pub mod SizeLaws
-pub mod NumberLaws
-pub mod TypedLaws
+pub mod MessageLaws
 pub mod Promise

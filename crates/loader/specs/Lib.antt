@@ -1,5 +1,1 @@
-pub mod State
-pub mod Calls
 pub mod Message
-pub mod Sizes
-pub mod Run

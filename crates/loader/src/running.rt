@@ -1,14 +1,12 @@
 // The calls on a running store: open a channel, take in a datagram, write a chunk, ask.
 ghost use mathlib.Core.Path.{_≡_};
-ghost use Rattle.channel.proofs.Promise.{outOf, openSpec, takeSpec, writeSpec};
-ghost use Rattle.loader.specs.Calls.{lentOf, callOn, callBeside, countedOf, askOn};
-use crate::leaving;
-use crate::state;
-use crate::state::STATE_WORDS;
+ghost use Rattle.channel.proofs.Promise.{outOf, worldOf, openSpec, takeSpec, writeSpec, askSpec};
+ghost use Rattle.table.proofs.Promise.{flag};
 use channel::asking;
 use channel::opening;
 use channel::taking;
 use channel::writing;
+use table::words;
 
 // Opens a channel under an ID; the reply is our HANDSHAKE.
 #[no_mangle]
@@ -25,21 +23,16 @@ pub extern "C" fn ppspp_open(
     written: &mut usize,
 ) -> u32
     ensures { λ r. ⌜ outOf r (now (written .exit))
-        (lentOf (now (state .exit)) (now (chunks .entry)) (now (map .entry)) (now (hashes .entry))
+        (worldOf (now (state .exit)) (now (chunks .entry)) (now (map .entry)) (now (hashes .entry))
         (now (trusted .entry)) (now (has .exit)) (now (wants .exit)) (now (reply .exit)))
-        ≡ callOn 11
-        (lentOf (now (state .entry)) (now (chunks .entry)) (now (map .entry)) (now (hashes .entry))
+        ≡ openSpec
+        (worldOf (now (state .entry)) (now (chunks .entry)) (now (map .entry)) (now (hashes .entry))
         (now (trusted .entry)) (now (has .entry)) (now (wants .entry)) (now (reply .entry)))
-        (λ w. openSpec w id) ⌝ }
+        id ⌝ }
 {
-    *written = 0;
-    if state.len() < STATE_WORDS {
-        return 11;
-    }
-    let old = state::state_in(state);
-    let outcome = opening::open(old, chunks, map, hashes, trusted, has, wants, reply, id);
+    let outcome = opening::open(state, chunks, map, hashes, trusted, has, wants, reply, id);
     *written = outcome.len;
-    leaving::leave(state, outcome)
+    outcome.answer
 }
 
 // Takes in a datagram at a clock; the ID is for a channel that it may open.
@@ -59,20 +52,15 @@ pub extern "C" fn ppspp_take(
     written: &mut usize,
 ) -> u32
     ensures { λ r. ⌜ outOf r (now (written .exit))
-        (lentOf (now (state .exit)) (now (chunks .exit)) (now (map .exit)) (now (hashes .exit))
+        (worldOf (now (state .exit)) (now (chunks .exit)) (now (map .exit)) (now (hashes .exit))
         (now (trusted .exit)) (now (has .exit)) (now (wants .exit)) (now (reply .exit)))
-        ≡ callOn 11
-        (lentOf (now (state .entry)) (now (chunks .entry)) (now (map .entry)) (now (hashes .entry))
+        ≡ takeSpec
+        (worldOf (now (state .entry)) (now (chunks .entry)) (now (map .entry)) (now (hashes .entry))
         (now (trusted .entry)) (now (has .entry)) (now (wants .entry)) (now (reply .entry)))
-        (λ w. takeSpec w clock id (now (datagram .entry))) ⌝ }
+        clock id (now (datagram .entry)) ⌝ }
 {
-    *written = 0;
-    if state.len() < STATE_WORDS {
-        return 11;
-    }
-    let old = state::state_in(state);
     let outcome = taking::take(
-        old,
+        state,
         chunks,
         map,
         hashes,
@@ -85,7 +73,7 @@ pub extern "C" fn ppspp_take(
         datagram,
     );
     *written = outcome.len;
-    leaving::leave(state, outcome)
+    outcome.answer
 }
 
 // Writes the datagram of a chunk for the channel open under an ID, with the clock as its timestamp.
@@ -105,20 +93,15 @@ pub extern "C" fn ppspp_write(
     written: &mut usize,
 ) -> u32
     ensures { λ r. ⌜ outOf r (now (written .exit))
-        (lentOf (now (state .entry)) (now (chunks .entry)) (now (map .entry)) (now (hashes .entry))
+        (worldOf (now (state .entry)) (now (chunks .entry)) (now (map .entry)) (now (hashes .entry))
         (now (trusted .entry)) (now (has .entry)) (now (wants .entry)) (now (reply .exit)))
-        ≡ callBeside
-        (lentOf (now (state .entry)) (now (chunks .entry)) (now (map .entry)) (now (hashes .entry))
+        ≡ writeSpec
+        (worldOf (now (state .entry)) (now (chunks .entry)) (now (map .entry)) (now (hashes .entry))
         (now (trusted .entry)) (now (has .entry)) (now (wants .entry)) (now (reply .entry)))
-        (λ w. writeSpec w id chunk clock) ⌝ }
+        id chunk clock ⌝ }
 {
-    *written = 0;
-    if state.len() < STATE_WORDS {
-        return 11;
-    }
-    let old = state::state_in(state);
     let outcome = writing::write(
-        old,
+        state,
         chunks,
         map,
         hashes,
@@ -137,16 +120,12 @@ pub extern "C" fn ppspp_write(
 // Asks how many chunks are held, and whether that is all of them.
 #[no_mangle]
 pub extern "C" fn ppspp_ask(state: &[u32], map: &[u32], held: &mut u32, whole: &mut u32) -> u32
-    ensures { λ r. ⌜ countedOf r (now (held .exit)) (now (whole .exit))
-        ≡ askOn (now (state .entry)) (now (map .entry)) ⌝ }
+    ensures { λ r. ⌜ (r ≡ askSpec (now (state .entry)) (now (map .entry)) .answer)
+        × (now (held .exit) ≡ askSpec (now (state .entry)) (now (map .entry)) .held)
+        × (now (whole .exit) ≡ flag (askSpec (now (state .entry)) (now (map .entry)) .whole)) ⌝ }
 {
-    *held = 0;
-    *whole = 0;
-    if state.len() < STATE_WORDS {
-        return 11;
-    }
-    let asked = asking::ask(state::state_in(state), map);
+    let asked = asking::ask(state, map);
     *held = asked.held;
-    *whole = state::flag(asked.whole);
+    *whole = words::flag(asked.whole);
     asked.answer
 }

@@ -1,11 +1,11 @@
 // The sizes of the rooms for a pack, and the layout of the state's words.
 ghost use mathlib.Core.Path.{_≡_};
-ghost use Rattle.store.proofs.Promise.{countOf};
-ghost use Rattle.loader.specs.State.{layoutVersion, stateWords};
-ghost use Rattle.loader.specs.Sizes.{mapWords, hashWords, trustedWords, peerWords};
-use crate::state::LAYOUT_VERSION;
-use crate::state::STATE_WORDS;
+ghost use Rattle.store.proofs.Promise.{countOf, mapWords, hashWords, trustedWords};
+ghost use Rattle.table.proofs.Promise.{layoutVersion, stateWords};
+ghost use Rattle.channel.proofs.Promise.{peerWords};
 use table::rows::ROWS;
+use table::words::LAYOUT_VERSION;
+use table::words::STATE_WORDS;
 
 #[no_mangle]
 pub extern "C" fn ppspp_layout_version() -> u32

@@ -6,9 +6,10 @@ ghost use mathlib.Core.List.{[]};
 ghost use lib.ListN.{length};
 ghost use Rattle.channel.proofs.Promise.{worldOf};
 ghost use Rattle.script.proofs.Promise.{filled, lineSize};
-ghost use Rattle.trace.proofs.Promise.{replayIn, Suffices, Fed};
+ghost use Rattle.trace.proofs.Promise.{replayOf, ReplayRooms, Fed};
 use libc::STDIN_FILENO;
 use libc::STDOUT_FILENO;
+use table::words::STATE_WORDS;
 use trace::ending;
 use trace::limits::LINE_ROOM;
 use trace::session;
@@ -28,6 +29,7 @@ fn flush(out: &[u8], used: usize)
 // written, until all of the block is read.
 fn feed(
     session: Session,
+    state: &mut [u32],
     chunks: &mut [u8],
     map: &mut [u32],
     hashes: &mut [u32],
@@ -42,12 +44,14 @@ fn feed(
 ) -> Progress
     requires { ⌜ lineSize (length (now reply)) ≤ length (now out) ⌝ }
     ensures { λ r. ⌜ Fed
-        (replayIn session (now (chunks .entry)) (now (map .entry)) (now (hashes .entry)) (now (trusted .entry))
-        (now (has .entry)) (now (wants .entry)) (now (reply .entry)))
+        (replayOf (worldOf (now (state .entry)) (now (chunks .entry)) (now (map .entry)) (now (hashes .entry))
+        (now (trusted .entry)) (now (has .entry)) (now (wants .entry)) (now (reply .entry)))
+        (session .id) (session .stage))
         (filled (now (line .entry)) len)
         (now (block .entry)) []
-        (replayIn (r .session) (now (chunks .exit)) (now (map .exit)) (now (hashes .exit)) (now (trusted .exit))
-        (now (has .exit)) (now (wants .exit)) (now (reply .exit)))
+        (replayOf (worldOf (now (state .exit)) (now (chunks .exit)) (now (map .exit)) (now (hashes .exit))
+        (now (trusted .exit)) (now (has .exit)) (now (wants .exit)) (now (reply .exit)))
+        (r .session .id) (r .session .stage))
         (filled (now (line .exit)) (r .len)) ⌝ }
 {
     let mut current = session;
@@ -56,6 +60,7 @@ fn feed(
     while 0 < rest.len() {
         let p = stream::answer_lines(
             current,
+            state,
             chunks,
             map,
             hashes,
@@ -95,7 +100,7 @@ fn read_block(block: &mut [u8], turns: u64) -> usize
 // Reads block after block, and ends. A proved loop has to end, and nothing says that the input does: it counts its
 // turns down, from a number that no run uses up.
 fn run(
-    session: Session,
+    state: &mut [u32],
     chunks: &mut [u8],
     map: &mut [u32],
     hashes: &mut [u32],
@@ -107,17 +112,19 @@ fn run(
     block: &mut [u8],
     out: &mut [u8],
 )
-    requires { ⌜ Suffices
-        (worldOf (session .state) (now chunks) (now map) (now hashes) (now trusted) (now has) (now wants) (now reply))
+    requires { ⌜ ReplayRooms
+        (worldOf (now state) (now chunks) (now map) (now hashes)
+        (now trusted) (now has) (now wants) (now reply))
         (now line) (now out) ⌝ }
 {
-    let mut current = session;
+    let mut current = session::fresh();
     let mut len: usize = 0;
     let mut turns = u64::MAX;
     let mut n = read_block(block, turns);
     while 0 < n {
         let p = feed(
             current,
+            state,
             chunks,
             map,
             hashes,
@@ -137,6 +144,7 @@ fn run(
     }
     let last = ending::finish(
         current,
+        state,
         chunks,
         map,
         hashes,
@@ -151,8 +159,10 @@ fn run(
     flush(out, last.used);
 }
 
-// The rooms of a store for 32 chunks, and those for a line, for input and for output: they suffice.
+// The rooms of a store for 32 chunks, and those for a line, for input and for output: they suffice. The words of the
+// state are none with an order until line one starts the store.
 fn main() {
+    let mut state = [0u32; STATE_WORDS];
     let mut chunks = [0u8; 32768];
     let mut map = [0u32; 1];
     let mut hashes = [0u32; 512];
@@ -164,7 +174,7 @@ fn main() {
     let mut block = io::large_buffer();
     let mut out = io::large_buffer();
     run(
-        session::fresh(),
+        &mut state,
         &mut chunks,
         &mut map,
         &mut hashes,

@@ -9,7 +9,8 @@ use borrow.Author.Tests.{le-ltb}
 use lib.ListN.{length, length-append}
 use Rattle.wire.proofs.Promise.{placed, minSize, maxSize, placed-none, placed-then}
 use Rattle.wire.specs.declared.message.Message.{Message}
-use Rattle.writer.proofs.Promise.{beginSpec, bytes32, bytesOf, writable, sizeOf, Written, writtenOf, Item, itemOf, encode, message-size, size32}
+use Rattle.base.specs.Out.{Out, outOf}
+use Rattle.writer.proofs.Promise.{beginSpec, bytes32, bytesOf, writable, sizeOf, Item, itemOf, encode, message-size, size32}
 use Rattle.replies.specs.Replies.{datagram}
 
 -- ---- encoding
@@ -44,12 +45,12 @@ datagram-last to is i w =
 -- ---- the room
 
 -- A datagram begun in a room that is large enough is its destination at the room's front.
-pub begun : (room : List ℕ) (to : ℕ) → maxSize ≤ length room → {n k : ℕ} {m : List ℕ} → writtenOf n k m ≡ beginSpec room to
+pub begun : (room : List ℕ) (to : ℕ) → maxSize ≤ length room → {n k : ℕ} {m : List ℕ} → outOf n k m ≡ beginSpec room to
     → (k ≡ minSize) × (m ≡ placed room 0 (bytes32 to))
 unfolding beginSpec
 begun room to h {n} {k} {m} e =
-    let f : writtenOf n k m ≡ writtenOf 0 minSize (placed room 0 (bytes32 to)) = rw (le-ltb (length room) maxSize h) at e in
-    (ap (λ (w : Written). w .len) f, ap (λ (w : Written). w .room) f)
+    let f : outOf n k m ≡ outOf 0 minSize (placed room 0 (bytes32 to)) = rw (le-ltb (length room) maxSize h) at e in
+    (ap (λ (w : Out (List ℕ)). w .len) f, ap (λ (w : Out (List ℕ)). w .after) f)
 
 -- The room, which was `old` before, has the messages from place b on, and `at` is the place behind them.
 abbrev pub Stand : List ℕ → ℕ → List Item → List ℕ → ℕ → Type 0
@@ -76,7 +77,7 @@ stand-datagram room to is e s =
 
 -- A message behind a destination is a datagram of one message.
 pub one-datagram : (room : List ℕ) (to : ℕ) (s : List ℕ) (x : Message) → maxSize ≤ length room → writable (length s) x ≡ true → {a k r : ℕ} {m n : List ℕ}
-    → writtenOf a k m ≡ beginSpec room to → (r ≡ k + sizeOf x) × (n ≡ placed m k (bytesOf s x))
+    → outOf a k m ≡ beginSpec room to → (r ≡ k + sizeOf x) × (n ≡ placed m k (bytesOf s x))
     → (r ≡ length (datagram to (itemOf s x ∷ []))) × (n ≡ placed room 0 (datagram to (itemOf s x ∷ [])))
 one-datagram room to s x h w {m = m} b p =
     let e = begun room to h b in

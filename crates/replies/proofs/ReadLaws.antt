@@ -1,22 +1,21 @@
 -- What a store sends passes the checks of whoever reads it, and reads back as the messages that it was made of. Assumes nothing.
-use Prim.Native.Nat.{ℕ, suc, _+_, _*_, _<_, _≤_, _^_}
+use Prim.Native.Nat.{ℕ, suc, _+_, _<_, _≤_, _^_}
 use native.Mathlib.Omega.{arith}
-use mathlib.Core.Path.{_≡_, refl, sym, ap, _∙_}
+use mathlib.Core.Path.{_≡_, refl}
 use mathlib.Core.Logic.{_≢_}
 use mathlib.Core.Bool.{Bool, true, false}
 use mathlib.Core.List.{List, [], _∷_, _++_, map}
 use borrow.Author.Tests.{eq-eqb, ne-eqb, le-ltb}
-use lib.Dec.{eqb, ltb}
+use lib.Dec.{eqb}
 use lib.ListN.{length, getD, length-map}
 use Rattle.base.specs.Pick.{pick}
 use Rattle.tree.proofs.Promise.{first-plus-last, node-range, num, chunkSize, chunks, maxLength, sent, Differs, Distinct, sent-once}
-use Rattle.wire.proofs.Promise.{minSize, maxSize, seen, handshakeFault}
+use Rattle.wire.proofs.Promise.{minSize, seen, handshakeFault}
 use Rattle.wire.specs.declared.message.Options.the-variants.{Fixed}
-use Rattle.wire.specs.declared.message.Message.the-variants.{Handshake, Data, Ack, Integrity}
-use Rattle.writer.proofs.Promise.{sizeOf, itemOf, encode, AllFit, Reads, faultBehind, Joining, notedAll, composed-reads}
+use Rattle.wire.specs.declared.message.Message.the-variants.{Handshake, Data, Ack}
+use Rattle.writer.proofs.Promise.{itemOf, encode, AllHaveWidths, Reads, faultBehind, Joining, notedAll, composed-reads}
 use Rattle.replies.specs.Replies.{handshakeReply, ackReply, hashItem, handshakeItems, ackItems, chunkItems, chunkReply}
-use Rattle.replies.specs.Steps.{integritySize}
-use Rattle.replies.proofs.HashLaws.{item-writable, item-size, items-long}
+use Rattle.replies.proofs.HashLaws.{item-writable, items-long}
 use Rattle.replies.proofs.SendingLaws.{sent-few, sent-under}
 use Rattle.replies.proofs.ReplyLaws.{handshake-writable, handshake-size, ack-writable, ack-size, data-writable, data-size}
 
@@ -82,7 +81,7 @@ module _ (hashes : List ℕ) (to : ℕ) where
     rw (first-plus-last b) (hashes-join bs _ (es ++ (b ∷ (at + 9) ∷ [])) (paired-more es b (at + 9) p) (unseen-more es b (at + 9) bs p (u .1) (d .0)) (d .1)),
   )
 
-  hashes-fit : (bs : List ℕ) → ((i : ℕ) → getD bs i 0 < 2 ^ 32) → AllFit (map (hashItem hashes) bs)
+  hashes-fit : (bs : List ℕ) → ((i : ℕ) → getD bs i 0 < 2 ^ 32) → AllHaveWidths (map (hashItem hashes) bs)
   unfolding hashItem
   hashes-fit [] h = tt
   hashes-fit (b ∷ bs) h = let s = h 0 in ((omega (arith, first-plus-last b), omega (arith, first-plus-last b)), hashes-fit bs (λ i. h (suc i)))

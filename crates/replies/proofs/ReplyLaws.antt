@@ -10,7 +10,8 @@ use Rattle.tree.proofs.Promise.{chunkSize, chunks, maxLength, num, sent}
 use Rattle.wire.proofs.Promise.{placed, minSize, maxSize}
 use Rattle.wire.specs.declared.message.Options.the-variants.{Fixed}
 use Rattle.wire.specs.declared.message.Message.the-variants.{Handshake, Data, Ack}
-use Rattle.writer.proofs.Promise.{writable, writableOptions, sizeOf, optionSpan, bytesOf, writtenOf, beginSpec, itemOf, encode}
+use Rattle.base.specs.Out.{outOf}
+use Rattle.writer.proofs.Promise.{writable, writableOptions, sizeOf, optionSpan, bytesOf, beginSpec, itemOf, encode}
 use Rattle.replies.specs.Replies.{handshakeReply, ackReply, hashItem, chunkReply}
 use Rattle.replies.specs.Steps.{integritySize}
 use Rattle.replies.proofs.DatagramLaws.{datagram-last, begun, stand-more, stand-datagram, one-datagram}
@@ -58,7 +59,7 @@ ack-puts k n s f l d e h = (omega (arith, ack-size f l d), ack-writable s f l d)
 
 -- ---- the replies
 
-module _ (room : List ℕ) (to : ℕ) (large : maxSize ≤ length room) {a k : ℕ} {m : List ℕ} (begins : writtenOf a k m ≡ beginSpec room to) where
+module _ (room : List ℕ) (to : ℕ) (large : maxSize ≤ length room) {a k : ℕ} {m : List ℕ} (begins : outOf a k m ≡ beginSpec room to) where
   -- A HANDSHAKE put behind the destination, from a root's bytes, is our HANDSHAKE.
   pub handshake-done : (source : ℕ) {s w : List ℕ} → s ≡ w → length s ≡ 32 → {n : List ℕ} {r : ℕ}
       → (r ≡ k + sizeOf (Handshake source (Fixed 0))) × (n ≡ placed m k (bytesOf s (Handshake source (Fixed 0))))

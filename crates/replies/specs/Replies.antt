@@ -33,7 +33,8 @@ hashItem hashes b = itemOf (hashIn hashes b) (Integrity (first b) (last b) 0)
 -- What goes out for chunk c of N: all peaks and all siblings below its peak in their order, then DATA with the given clock;
 -- and its datagram.
 abbrev pub chunkItems : List ℕ → ℕ → ℕ → ℕ → List ℕ → List Item
-chunkItems hashes N c time bytes = map (hashItem hashes) (map num (sent N c)) ++ (itemOf bytes (Data c c time 0 (length bytes)) ∷ [])
+chunkItems hashes N c time bytes =
+    map (hashItem hashes) (map num (sent N c)) ++ (itemOf bytes (Data c c time 0 (length bytes)) ∷ [])
 
 unfoldable pub chunkReply : List ℕ → ℕ → ℕ → ℕ → ℕ → List ℕ → List ℕ
 chunkReply hashes to N c time bytes = datagram to (chunkItems hashes N c time bytes)

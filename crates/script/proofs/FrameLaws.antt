@@ -11,7 +11,8 @@ use borrow.Author.Tests.{lt-ltb, le-ltb, le-leb, lt-leb, ltb-false}
 use Rattle.base.specs.Pick.{pick}
 use Rattle.base.proofs.PickLaws.{both-true}
 use Rattle.script.specs.Hex.{allDigits, decoded}
-use Rattle.script.specs.Frames.{hasLength, isFrame, Framed, framed, frameSpec}
+use Rattle.script.specs.Frames.{hasLength, isFrame}
+use Rattle.script.specs.Steps.{Framed, framed, frameSpec}
 use Rattle.script.specs.declared.frames.Frame.{Frame}
 use Rattle.script.specs.declared.frames.Frame.the-variants.{Bytes, Bad}
 

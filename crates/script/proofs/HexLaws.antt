@@ -9,7 +9,7 @@ use lib.Seq.{sets, take-all}
 use lib.Dec.{ltb}
 use borrow.Author.Tests.{lt-ltb, le-ltb, ltb-true}
 use Rattle.base.proofs.PickLaws.{both-true}
-use Rattle.script.specs.Hex.{among, digitOf, digitFor, allDigits, decoded, encoded}
+use Rattle.script.specs.Hex.{between, digitOf, digitFor, allDigits, decoded, encoded}
 
 -- The part of a slice from an index on, as the code has it.
 pub part : (n : ℕ) (t : List ℕ) → take (length t - n) (drop n t) ≡ drop n t
@@ -18,13 +18,13 @@ part n t = take-all (length t - n) (drop n t) (omega (arith, length-drop n t))
 -- ---- the value of a digit
 
 module _ (first last c : ℕ) where
-  pub in-range : first ≤ c → c ≤ last → among first last c ≡ true
+  pub in-range : first ≤ c → c ≤ last → between first last c ≡ true
   in-range h k = rw (le-ltb c first h, lt-ltb c (last + 1) (omega arith))
 
-  pub under : c < first → among first last c ≡ false
+  pub under : c < first → between first last c ≡ false
   under h = rw (lt-ltb c first h)
 
-  pub over : first ≤ c → last < c → among first last c ≡ false
+  pub over : first ≤ c → last < c → between first last c ≡ false
   over h k = rw (le-ltb c first h, le-ltb c (last + 1) (omega arith))
 
 module _ (c : ℕ) where

@@ -12,7 +12,8 @@ use Rattle.script.proofs.FrameLaws as frames
 use Rattle.script.proofs.LineLaws as lines
 pub use Rattle.script.specs.Hex.{digitOf, digitFor, allDigits, decoded, encoded}
 pub use Rattle.script.specs.Lines.{Filled, filled, front, beforeFeed, kept}
-pub use Rattle.script.specs.Frames.{hasLength, isFrame, frameNumber, Framed, framed, frameSpec}
+pub use Rattle.script.specs.Frames.{hasLength, isFrame, frameNumber}
+pub use Rattle.script.specs.Steps.{Framed, framed, frameSpec}
 pub use Rattle.script.specs.Answers.{answerLine, closingLine, lineSize, fits, appended}
 pub use Rattle.script.proofs.RoomLaws.{added, added-size, added-bound, Keeps, keeps-nothing, keeps-part}
 

@@ -28,4 +28,5 @@ fits size at n = leb (at + lineSize n) size
 
 -- Bytes added behind the first `at` of a room; a room that is too small for them stays.
 unfoldable pub appended : List ℕ → ℕ → List ℕ → Filled
-appended room at s = pick (leb (at + length s) (length room)) (filled (sets room at s) (at + length s)) (filled room at)
+appended room at s =
+    pick (leb (at + length s) (length room)) (filled (sets room at s) (at + length s)) (filled room at)

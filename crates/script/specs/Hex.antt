@@ -8,12 +8,13 @@ use Rattle.base.specs.Pick.{pick}
 -- ---- digits
 
 -- Whether a character lies between two, both included.
-abbrev pub among : (first last c : ℕ) → Bool
-among first last c = pick (ltb c first) false (ltb c (last + 1))
+abbrev pub between : (first last c : ℕ) → Bool
+between first last c = pick (ltb c first) false (ltb c (last + 1))
 
 -- The value of a digit, by its ASCII code: `0` to `9`, `A` to `F`, `a` to `f`. 16 for any other character.
 unfoldable pub digitOf : ℕ → ℕ
-digitOf c = pick (among 48 57 c) (c - 48) (pick (among 65 70 c) (c - 65 + 10) (pick (among 97 102 c) (c - 97 + 10) 16))
+digitOf c =
+    pick (between 48 57 c) (c - 48) (pick (between 65 70 c) (c - 65 + 10) (pick (between 97 102 c) (c - 97 + 10) 16))
 
 -- The digit of a value under 16, in lower case.
 unfoldable pub digitFor : ℕ → ℕ

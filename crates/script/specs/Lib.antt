@@ -3,3 +3,4 @@ pub mod Hex
 pub mod Lines
 pub mod Frames
 pub mod Answers
+pub mod Steps

@@ -1,6 +1,7 @@
 // The frame of a line: its bytes, or that it has none.
 ghost use mathlib.Core.Path.{_≡_};
-ghost use Rattle.script.specs.Frames.{hasLength, isFrame, framed, frameSpec};
+ghost use Rattle.script.specs.Frames.{hasLength, isFrame};
+ghost use Rattle.script.specs.Steps.{framed, frameSpec};
 use crate::hex;
 
 pub enum Frame {

@@ -1,6 +1,5 @@
 -- What an answer of 0 says of the numbers before it, and that a call then answers 0. Assumes nothing.
 use mathlib.Core.Path.{_≡_}
-use mathlib.Core.Bool.{not}
 use mathlib.Core.List.{List}
 use Prim.Native.Nat.{ℕ, _≤_, _<_}
 use native.Mathlib.Omega.{arith}
@@ -11,12 +10,12 @@ use Rattle.tree.specs.Pack.{maxLength, levels}
 use Rattle.verdict.specs.Room.{Digest}
 use Rattle.verdict.specs.Rooms.{Rooms, countOf}
 use Rattle.store.specs.Building.{rootOf}
-use Rattle.store.specs.Answers.{refuse, earlier, lengthAnswer, roomAnswer, orderAnswer}
+use Rattle.store.specs.Answers.{earlier, lengthAnswer, contentAnswer, roomAnswer, orderAnswer}
 use Rattle.store.specs.Calls.{roomsAnswer, startSpec, buildAnswer, buildSpec}
 use Rattle.store.proofs.AnswerLaws.{passed, both-zero}
 use Rattle.store.proofs.CallLaws.{content-long}
 use Rattle.store.proofs.BuildingLaws.{tree-digest}
-use Rattle.store.proofs.BuiltLaws.{root-is}
+use Rattle.store.proofs.PutLaws.{root-is}
 
 -- Not 12, and not 11.
 pub order-accepted : (L b m h t : ℕ) → orderAnswer L b m h t ≡ 0 → (lengthAnswer L ≡ 0) × (roomAnswer L b m h t ≡ 0)
@@ -38,8 +37,8 @@ length-accepted L e =
 pub build-accepted : (L n b m h t : ℕ) → buildAnswer L n b m h t ≡ 0 → (lengthAnswer L ≡ 0) × (n ≡ L) × (roomAnswer L b m h t ≡ 0)
 unfolding buildAnswer
 build-accepted L n b m h t e =
-    let p = both-zero (earlier (lengthAnswer L) (refuse (not (eqb n L)) 12 0)) (roomAnswer L b m h t) e in
-    let q = both-zero (lengthAnswer L) (refuse (not (eqb n L)) 12 0) (p .0) in
+    let p = both-zero (earlier (lengthAnswer L) (contentAnswer L n)) (roomAnswer L b m h t) e in
+    let q = both-zero (lengthAnswer L) (contentAnswer L n) (p .0) in
     (q .0, content-long L n (q .1), p .1)
 
 -- A start that nothing refuses answers 0.

@@ -13,27 +13,31 @@ use Rattle.hash.proofs.Promise.{sha256}
 use Rattle.bits.proofs.Promise.{bitAt, setBit, length-setBit, bitAt-set-same, bitAt-set-other}
 use Rattle.base.specs.Pick.{pick}
 use Rattle.tree.specs.Bin.{bin}
-use Rattle.tree.specs.Node.{other, above}
+use Rattle.tree.specs.Node.{siblingFrom, above}
 use Rattle.tree.specs.Pack.{chunkSize, chunks, size, levels}
 use Rattle.tree.specs.Peaks.{peaks}
 use Rattle.tree.specs.Tree.{climb}
-use Rattle.tree.specs.State.{State, isPeak, onPath, adopted, hung, Sound}
-use Rattle.tree.specs.Verdicts.{every, peaksTrusted, counted, verdict, afterBy, after}
+use Rattle.tree.specs.State.{State, isPeak}
+use Rattle.tree.proofs.Sound.{onPath, adopted, hung, Sound, counted, afterBy, after}
+use Rattle.tree.specs.Verdicts.{every, peaksTrusted, verdict}
 use Rattle.tree.specs.declared.verdict.Verdict.{Verdict}
-use Rattle.tree.specs.declared.verdict.Verdict.the-variants.{Fits, Missing, WrongPeaks, WrongClimb}
+use Rattle.tree.specs.declared.verdict.Verdict.the-variants.{Fits}
 use Rattle.verdict.specs.Room.{filler, Digest, hashIn, putHash}
 use Rattle.verdict.specs.Integrity.{Integrity, cameFrom}
-use Rattle.verdict.specs.Rooms.{Rooms, stateOf, SoundRooms, trustedIn, gotBy}
-use Rattle.verdict.specs.Verdict.{roomVerdict}
-use Rattle.store.specs.Storing.{Put, mark, putPeaks, putAll, copied, stored, storeSpec, roomsBy}
+use Rattle.verdict.specs.Rooms.{Rooms, stateOf}
+use Rattle.store.proofs.Running.{SoundRooms}
+use Rattle.verdict.specs.Steps.{trustedIn, gotBy, roomVerdict}
+use Rattle.store.specs.Storing.{Put, mark, putAll, copied, stored, storeSpec}
+use Rattle.store.specs.Steps.{putPeaks}
 use Rattle.verdict.proofs.ClimbLaws.{digest-climb}
 use Rattle.verdict.proofs.RoomLaws.{digest-hash, length-putHash, hash-same, hash-other}
 use Rattle.verdict.proofs.IntegrityLaws.{digest-got}
 use Rattle.verdict.proofs.VerdictLaws.{verdict-sees, fits-within}
 use Rattle.store.proofs.CopyLaws.{copied-in, copied-out}
+use Rattle.store.proofs.PutLaws.{all-is}
 use Rattle.store.proofs.StoringLaws.{own-inside, peak-within}
 use Rattle.store.proofs.WrittenLaws.{path-shows, room-peaks, peaks-show}
-use Rattle.tree.proofs.NodeLaws.{split, other-inside}
+use Rattle.tree.proofs.NodeLaws.{split, beside-inside}
 use Rattle.tree.proofs.PackLaws.{levels-holds}
 use Rattle.tree.proofs.SoundLaws.{sound-agree}
 use Rattle.tree.proofs.TakeLaws.{after-sound}
@@ -63,27 +67,27 @@ module _ (A : Type 0) (put : Put) (look : List ℕ → ℕ → A) (shows : List 
     (at-same : (l : List ℕ) (b : ℕ) (v : List ℕ) → Room l → b < M → Digest v → look (put l b v) b ≡ shows v)
     (at-other : (l : List ℕ) (b b′ : ℕ) (v : List ℕ) → b′ ≢ b → look (put l b v) b′ ≡ look l b′)
     (keeps : (l : List ℕ) (b : ℕ) (v : List ℕ) → Room l → Room (put l b v))
-    (N c t : ℕ) (d : List ℕ) (o : Integrity) (own-digest : (h : ℕ) → Digest (climb sha256 (gotBy o) (sha256 d) c h (above h c)))
+    (N c t : ℕ) (d : List ℕ) (o : Integrity) (own-digest : (h : ℕ) → Digest (climb sha256 (gotBy o) (sha256 d) c h))
     (M-is : M ≡ 2 ^ suc (levels N)) (chunk-in : c < N) (height-in : t ≤ levels N) where
   all-show : (b : Bool) (l : List ℕ) → Room l → (h a : ℕ) → above h a ≡ a
-      → look (putAll put b N c t d o l) (bin h a)
-      ≡ pick (onPath c t h a) (pick (eqb a (above h c)) (shows (climb sha256 (gotBy o) (sha256 d) c h (above h c))) (shows (gotBy o h a)))
+      → look (putAll put b N c t d (gotBy o) l) (bin h a)
+      ≡ pick (onPath c t h a) (pick (eqb a (above h c)) (shows (climb sha256 (gotBy o) (sha256 d) c h)) (shows (gotBy o h a)))
       (pick b (look l (bin h a)) (pick (isPeak N h a) (shows (gotBy o h a)) (look l (bin h a))))
-  unfolding putAll
   all-show b l R h a e =
-      path-shows A put look shows Room M at-same at-other keeps (λ k. climb sha256 (gotBy o) (sha256 d) c k (above k c)) (gotBy o) c own-digest (λ k x. digest-got o (bin k x)) t
+      ap (λ (x : List ℕ). look x (bin h a)) (all-is put b N c t d (gotBy o) l)
+      ∙ path-shows A put look shows Room M at-same at-other keeps (λ k. climb sha256 (gotBy o) (sha256 d) c k) (gotBy o) c own-digest (λ k x. digest-got o (bin k x)) t
       (pick b l (putPeaks put (gotBy o) N (suc (levels N)) l)) (room b) inside h a e
-      ∙ ap (pick (onPath c t h a) (pick (eqb a (above h c)) (shows (climb sha256 (gotBy o) (sha256 d) c h (above h c))) (shows (gotBy o h a)))) (opening b)
+      ∙ ap (pick (onPath c t h a) (pick (eqb a (above h c)) (shows (climb sha256 (gotBy o) (sha256 d) c h)) (shows (gotBy o h a)))) (opening b)
     where
       room : (x : Bool) → Room (pick x l (putPeaks put (gotBy o) N (suc (levels N)) l))
       room true = R
       room false = room-peaks A put look shows Room M at-same at-other keeps (gotBy o) N (λ k x. digest-got o (bin k x)) (suc (levels N)) l R
 
-      inside : (k : ℕ) → k < t → (bin k (above k c) < M) × (bin k (other c k (above (suc k) c)) < M)
+      inside : (k : ℕ) → k < t → (bin k (above k c) < M) × (bin k (siblingFrom k c) < M)
       inside k u =
           let i = levels-holds N in (
             omega (arith, M-is, own-inside (levels N) k c (omega arith) (omega arith)),
-            omega (arith, M-is, other-inside (levels N) k c (omega arith) (omega arith)),
+            omega (arith, M-is, beside-inside (levels N) k c (omega arith) (omega arith)),
           )
 
       opening : (x : Bool) → look (pick x l (putPeaks put (gotBy o) N (suc (levels N)) l)) (bin h a)
@@ -96,7 +100,7 @@ module _ (A : Type 0) (put : Put) (look : List ℕ → ℕ → A) (shows : List 
 -- ---- the four rooms
 
 module _ (L : ℕ) (w : Rooms) (N c t : ℕ) (d : List ℕ) (o : Integrity) (R : Fitting L w N c d) (height-in : t ≤ levels N) where
-  own-digest : (h : ℕ) → Digest (climb sha256 (gotBy o) (sha256 d) c h (above h c))
+  own-digest : (h : ℕ) → Digest (climb sha256 (gotBy o) (sha256 d) c h)
   own-digest = digest-climb (gotBy o) (sha256 d) c (digest-hash d)
 
   abbrev trusts : Bool
@@ -106,12 +110,12 @@ module _ (L : ℕ) (w : Rooms) (N c t : ℕ) (d : List ℕ) (o : Integrity) (R :
   hangs = hung sha256 c t d (gotBy o) (pick trusts (stateOf L w) (adopted N (gotBy o) (stateOf L w)))
 
   hash-agrees : (h a : ℕ) → above h a ≡ a → stateOf L (stored w N c t d o) .hash h a ≡ hangs .hash h a
-  unfolding stored
+  unfolding stored peaksTrusted
   hash-agrees h a e =
       all-show (List ℕ) putHash hashIn (λ v. v) (λ l. 8 * 2 ^ suc (levels N) ≤ length l) (2 ^ suc (levels N))
       (λ l b v k u g. hash-same l b v (omega arith) g) hash-other (λ l b v k. rw (length-putHash l b v) k)
       N c t d o own-digest refl (R .chunk-in) height-in trusts (w .hashes) (R .hashes-in) h a e
-      ∙ ap (pick (onPath c t h a) (pick (eqb a (above h c)) (climb sha256 (gotBy o) (sha256 d) c h (above h c)) (gotBy o h a))) (go trusts)
+      ∙ ap (pick (onPath c t h a) (pick (eqb a (above h c)) (climb sha256 (gotBy o) (sha256 d) c h) (gotBy o h a))) (go trusts)
     where
       go : (x : Bool) → pick x (hashIn (w .hashes) (bin h a)) (pick (isPeak N h a) (gotBy o h a) (hashIn (w .hashes) (bin h a)))
           ≡ pick x (stateOf L w) (adopted N (gotBy o) (stateOf L w)) .hash h a
@@ -119,7 +123,7 @@ module _ (L : ℕ) (w : Rooms) (N c t : ℕ) (d : List ℕ) (o : Integrity) (R :
       go false = refl
 
   trust-agrees : (h a : ℕ) → above h a ≡ a → stateOf L (stored w N c t d o) .trust h a ≡ hangs .trust h a
-  unfolding stored
+  unfolding stored peaksTrusted
   trust-agrees h a e =
       all-show Bool mark bitAt (λ v. true) (λ l. 2 ^ suc (levels N) ≤ length l * 32) (2 ^ suc (levels N))
       (λ l b v k u g. bitAt-set-same l b (omega arith)) (λ l b x v n. bitAt-set-other l b x n) (λ l b v k. rw (length-setBit l b) k)
@@ -182,11 +186,11 @@ module _ (L : ℕ) (w : Rooms) (N c : ℕ) (d r : List ℕ) (o : Integrity) (R :
   seen-here : (x : Verdict) → roomVerdict N r (w .hashes) (w .trusted) c d o ≡ x → verdict sha256 filler N r (stateOf L w) c d (cameFrom o) ≡ x
   seen-here x e = sym (verdict-sees N r (w .hashes) (w .trusted) c d o L (w .bytes) (w .map)) ∙ e
 
-  -- by the verdict the rooms hold what the theory says
-  taken-agrees : (v : Verdict) → roomVerdict N r (w .hashes) (w .trusted) c d o ≡ v
-      → Agrees N (afterBy sha256 filler N r (stateOf L w) c d (cameFrom o) v) (stateOf L (roomsBy v w (λ t. storeSpec w N c t d o)))
+  -- where the chunk fits the rooms hold what the theory says
+  taken-agrees : (t : ℕ) → roomVerdict N r (w .hashes) (w .trusted) c d o ≡ Fits t
+      → Agrees N (afterBy sha256 filler N r (stateOf L w) c d (cameFrom o) (Fits t)) (stateOf L (storeSpec w N c t d o))
   unfolding storeSpec counted peaksTrusted
-  taken-agrees (Fits t) e = go (bitAt (w .map) c)
+  taken-agrees t e = go (bitAt (w .map) c)
     where
       go : (x : Bool)
           → Agrees N
@@ -194,18 +198,15 @@ module _ (L : ℕ) (w : Rooms) (N c : ℕ) (d r : List ℕ) (o : Integrity) (R :
           (stateOf L (pick x w (stored w N c t d o)))
       go true = agrees-self N (stateOf L w)
       go false = stored-agrees L w N c t d o R (fits-within N r (w .hashes) (w .trusted) c d o t (R .chunk-in) e)
-  taken-agrees Missing e = agrees-self N (stateOf L w)
-  taken-agrees WrongPeaks e = agrees-self N (stateOf L w)
-  taken-agrees WrongClimb e = agrees-self N (stateOf L w)
 
   -- so a sound store stays sound
-  pub taken-sound : (v : Verdict) → roomVerdict N r (w .hashes) (w .trusted) c d o ≡ v → SoundRooms L r w
-      → SoundRooms L r (roomsBy v w (λ t. storeSpec w N c t d o))
+  pub taken-sound : (t : ℕ) → roomVerdict N r (w .hashes) (w .trusted) c d o ≡ Fits t → SoundRooms L r w → SoundRooms L r (storeSpec w N c t d o)
   unfolding SoundRooms after
-  taken-sound v e S =
+  taken-sound t e S =
+      let v = Fits t in
       let T : Sound sha256 filler N r (stateOf L w) = rw (R .pack-is) S in
-      let G = taken-agrees v e in
+      let G = taken-agrees t e in
       let A = after-sound sha256 filler N r (stateOf L w) T c (R .chunk-in) d (cameFrom o) in
       let B : Sound sha256 filler N r (afterBy sha256 filler N r (stateOf L w) c d (cameFrom o) v) = rw (seen-here v e) at A in
-      let U = sound-agree sha256 filler N r (afterBy sha256 filler N r (stateOf L w) c d (cameFrom o) v) (stateOf L (roomsBy v w (λ t. storeSpec w N c t d o))) (G .nodes) (G .chunks-are) B in
+      let U = sound-agree sha256 filler N r (afterBy sha256 filler N r (stateOf L w) c d (cameFrom o) v) (stateOf L (storeSpec w N c t d o)) (G .nodes) (G .chunks-are) B in
       rw (← (R .pack-is)) U

@@ -10,15 +10,16 @@ use Rattle.hash.proofs.Promise.{sha256, Bytes, sha256-length, sha256-bytes}
 use Rattle.bits.proofs.Promise.{bitAt}
 use Rattle.tree.specs.Bin.{bin}
 use Rattle.tree.specs.Pack.{chunkSize, size}
-use Rattle.tree.specs.State.{Sound}
-use Rattle.tree.specs.Walk.{Hangs, string, names, Compared, equal, colliding}
+use Rattle.tree.proofs.Sound.{Sound}
+use Rattle.tree.specs.Walk.{Hangs, string, here, there}
+use Rattle.tree.proofs.WalkLaws.{Compared, equal, colliding, string-all, compare}
 use Rattle.verdict.specs.Room.{filler, Digest}
-use Rattle.verdict.specs.Rooms.{Rooms, countOf, stateOf, SoundRooms}
-use Rattle.store.specs.Whole.{Running, HangsIn, Whole, ByteStrings, Alike, same-bytes, collides}
+use Rattle.verdict.specs.Rooms.{Rooms, countOf, stateOf}
+use Rattle.store.proofs.Running.{SoundRooms, Running}
+use Rattle.store.specs.Whole.{HangsIn, Whole, Alike, same-bytes, collides}
 use Rattle.verdict.proofs.RoomLaws.{digest-filler, digest-in, hash-length}
 use Rattle.tree.proofs.ChunkLaws.{parts-alike}
 use Rattle.tree.proofs.SoundLaws.{sound-hangs}
-use Rattle.tree.proofs.WalkLaws.{string-all, compare}
 
 module _ (L : ℕ) (r : List ℕ) (w : Rooms) (R : Running L r w) where
   sound-of : SoundRooms L r w → Sound sha256 filler (countOf L) r (stateOf L w)
@@ -62,9 +63,10 @@ module _ (L : ℕ) where
       (λ h a. digest-in (w .hashes) (bin h a) .0)
       (λ x. bytes-take (size chunkSize L x) (drop (chunkSize * x) (w .bytes)) (bytes-drop (chunkSize * x) (w .bytes) p))
 
-  names-bytes : (w v : Rooms) (c : ℕ) → Bytes (w .bytes) → Bytes (v .bytes) → ByteStrings (names sha256 filler (countOf L) (stateOf L w) (stateOf L v) c)
-  unfolding names
-  names-bytes w v c p q = record { here-bytes = strings-bytes w p _ _; there-bytes = strings-bytes v q _ _ }
+  names-bytes : (w v : Rooms) (c : ℕ) → Bytes (w .bytes) → Bytes (v .bytes)
+      → Bytes (here sha256 filler (countOf L) (stateOf L w) (stateOf L v) c) × Bytes (there sha256 filler (countOf L) (stateOf L w) (stateOf L v) c)
+  unfolding here there
+  names-bytes w v c p q = (strings-bytes w p _ _, strings-bytes v q _ _)
 
 pub alike : (L : ℕ) (r : List ℕ) (w v : Rooms) → Running L r w → Running L r v → Whole L w → Whole L v → Alike L w v
 alike L r w v R S p q =
@@ -72,5 +74,5 @@ alike L r w v R S p q =
     (λ h a. hash-length (w .hashes) (bin h a)) (λ h a. hash-length (v .hashes) (bin h a)) (whole-hangs L r w R p) (whole-hangs L r v S q))
   where
     go : Compared sha256 filler (countOf L) (stateOf L w) (stateOf L v) → Alike L w v
-    go (equal e) = same-bytes (parts-alike chunkSize L (omega arith) (w .bytes) (v .bytes) (R .roomy .bytes-in) (S .roomy .bytes-in) e)
+    go (equal e) = same-bytes (parts-alike chunkSize L (omega arith) (w .bytes) (v .bytes) (R .enough .bytes-in) (S .enough .bytes-in) e)
     go (colliding c p q) = collides c p q (names-bytes L w v c)

@@ -1,21 +1,22 @@
 -- The numbers that refuse a call, test by test as the code has them, and what an answer of 0 says. Assumes nothing.
 use mathlib.Core.Path.{_≡_, refl, sym, _∙_}
 use mathlib.Core.Logic.{_≢_}
-use mathlib.Core.Bool.{Bool, true, false, true≢false, not}
+use mathlib.Core.Bool.{Bool, true, false, true≢false, _&&_, not}
 use Prim.Native.Nat.{ℕ, zero, suc, _*_, _≤_, _<_}
 use native.Mathlib.Omega.{arith}
-use borrow.Author.Tests.{lt-ltb, le-ltb, le-leb, lt-leb, eq-eqb, ne-eqb, eqb-true, ltb-false, leb-false}
-use lib.Dec.{leb, ltb, eqb}
+use borrow.Author.Tests.{lt-ltb, le-ltb, le-leb, lt-leb, eq-eqb, ne-eqb, eqb-true, leb-true, leb-false}
+use lib.Dec.{leb, eqb}
+use Rattle.base.specs.Pick.{pick}
 use Rattle.bits.proofs.Promise.{rowWords}
 use Rattle.tree.specs.Pack.{chunkSize, maxLength, size, leafPlaces}
 use Rattle.verdict.specs.Rooms.{countOf}
-use Rattle.store.specs.Answers.{refuse, earlier, lengthAnswer, roomAnswer, orderAnswer, chunkAnswer}
+use Rattle.store.specs.Answers.{earlier, lengthAnswer, contentAnswer, mapWords, hashWords, trustedWords, roomAnswer, orderAnswer, chunkAnswer}
 use Rattle.store.specs.Calls.{buildAnswer}
 
 -- ---- a chain of tests
 
 -- a number that refuses is not 0, so each test before it failed
-pub passed : (b : Bool) (n rest : ℕ) → refuse b (suc n) rest ≡ 0 → (b ≡ false) × (rest ≡ 0)
+pub passed : (b : Bool) (n rest : ℕ) → pick b (suc n) rest ≡ 0 → (b ≡ false) × (rest ≡ 0)
 passed true n rest e = absurd (omega arith)
 passed false n rest e = (refl, e)
 
@@ -50,26 +51,26 @@ module _ (L : ℕ) where
 module _ (L b m h t n w x y : ℕ) (ne : n ≡ countOf L) (we : w ≡ leafPlaces n) where
   pub bytes-short : b < L → 11 ≡ roomAnswer L b m h t
   unfolding roomAnswer
-  bytes-short l = rw (lt-ltb b L l)
+  bytes-short l = rw (lt-leb L b l)
 
   module _ (bl : L ≤ b) (xe : x ≡ rowWords n) where
     pub map-short : m < x → 11 ≡ roomAnswer L b m h t
     unfolding roomAnswer
-    map-short l = rw (le-ltb b L bl, ← ne, ← xe, lt-ltb m x l)
+    map-short l = rw (le-leb L b bl, ← ne, ← xe, lt-leb x m l)
 
     module _ (ml : x ≤ m) where
       pub hashes-short : h < 16 * w → 11 ≡ roomAnswer L b m h t
       unfolding roomAnswer
-      hashes-short l = rw (le-ltb b L bl, ← ne, ← xe, le-ltb m x ml, ← we, lt-ltb h (16 * w) l)
+      hashes-short l = rw (le-leb L b bl, ← ne, ← xe, le-leb x m ml, ← we, lt-leb (16 * w) h l)
 
       module _ (hl : 16 * w ≤ h) (ye : y ≡ rowWords (2 * w)) where
         pub trusted-short : t < y → 11 ≡ roomAnswer L b m h t
         unfolding roomAnswer
-        trusted-short l = rw (le-ltb b L bl, ← ne, ← xe, le-ltb m x ml, ← we, le-ltb h (16 * w) hl, ← ye, lt-ltb t y l)
+        trusted-short l = rw (le-leb L b bl, ← ne, ← xe, le-leb x m ml, ← we, le-leb (16 * w) h hl, ← ye, lt-leb y t l)
 
         pub rooms-right : y ≤ t → 0 ≡ roomAnswer L b m h t
         unfolding roomAnswer
-        rooms-right l = rw (le-ltb b L bl, ← ne, ← xe, le-ltb m x ml, ← we, le-ltb h (16 * w) hl, ← ye, le-ltb t y l)
+        rooms-right l = rw (le-leb L b bl, ← ne, ← xe, le-leb x m ml, ← we, le-leb (16 * w) h hl, ← ye, le-leb y t l)
 
 -- ---- one after the other
 
@@ -86,7 +87,7 @@ module _ (L n b m h t : ℕ) {r : ℕ} (e : r ≡ lengthAnswer L) where
   unfolding buildAnswer
   build-refused d = e ∙ go (lengthAnswer L) (λ z. d (e ∙ z))
     where
-      go : (x : ℕ) → x ≢ 0 → x ≡ earlier (earlier x (refuse (not (eqb n L)) 12 0)) (roomAnswer L b m h t)
+      go : (x : ℕ) → x ≢ 0 → x ≡ earlier (earlier x (contentAnswer L n)) (roomAnswer L b m h t)
       go zero q = absurd (q refl)
       go (suc x) q = refl
 
@@ -117,18 +118,22 @@ module _ (L c n k : ℕ) (ke : k ≡ countOf L) where
 
 -- ---- what an answer of 0 says
 
+all-true : (p q r s : Bool) → pick {A = ℕ} (p && q && r && s) 0 11 ≡ 0 → (p ≡ true) × (q ≡ true) × (r ≡ true) × (s ≡ true)
+all-true true true true true e = (refl, refl, refl, refl)
+all-true true true true false e = absurd (omega arith)
+all-true true true false s e = absurd (omega arith)
+all-true true false r s e = absurd (omega arith)
+all-true false q r s e = absurd (omega arith)
+
 pub room-facts : (L b m h t : ℕ) → roomAnswer L b m h t ≡ 0
-    → (L ≤ b) × (rowWords (countOf L) ≤ m) × (16 * leafPlaces (countOf L) ≤ h) × (rowWords (2 * leafPlaces (countOf L)) ≤ t)
+    → (L ≤ b) × (mapWords (countOf L) ≤ m) × (hashWords (countOf L) ≤ h) × (trustedWords (countOf L) ≤ t)
 unfolding roomAnswer
 room-facts L b m h t e =
-    let p = passed (ltb b L) 10 _ e in
-    let q = passed (ltb m (rowWords (countOf L))) 10 _ (p .1) in
-    let r = passed (ltb h (16 * leafPlaces (countOf L))) 10 _ (q .1) in
-    let s = passed (ltb t (rowWords (2 * leafPlaces (countOf L)))) 10 _ (r .1) in (
-      ltb-false b L (p .0),
-      ltb-false m (rowWords (countOf L)) (q .0),
-      ltb-false h (16 * leafPlaces (countOf L)) (r .0),
-      ltb-false t (rowWords (2 * leafPlaces (countOf L))) (s .0),
+    let p = all-true (leb L b) (leb (mapWords (countOf L)) m) (leb (hashWords (countOf L)) h) (leb (trustedWords (countOf L)) t) e in (
+      leb-true L b (p .0),
+      leb-true (mapWords (countOf L)) m (p .1),
+      leb-true (hashWords (countOf L)) h (p .2),
+      leb-true (trustedWords (countOf L)) t (p .3),
     )
 
 pub chunk-facts : (L c n : ℕ) → chunkAnswer L c n ≡ 0 → (c < countOf L) × (n ≡ size chunkSize L c)

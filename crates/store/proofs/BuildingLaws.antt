@@ -17,16 +17,17 @@ use Rattle.bits.proofs.Promise.{setBit, setRange}
 use Rattle.base.specs.Pick.{pick}
 use Rattle.tree.specs.Bin.{bin}
 use Rattle.tree.specs.Node.{above}
-use Rattle.tree.specs.Pack.{chunkSize, chunks, size, levels}
+use Rattle.tree.specs.Pack.{chunkSize, chunks, size, levels, leafPlaces}
 use Rattle.tree.specs.Tree.{tree, root, given, combined}
 use Rattle.tree.specs.Verdicts.{got}
 use Rattle.verdict.specs.Room.{filler, Digest, hashIn, putHash}
-use Rattle.verdict.specs.Rooms.{roomsOf, countOf, chunkIn, heldBy}
-use Rattle.store.specs.Steps.{Filled}
+use Rattle.verdict.specs.Rooms.{roomsOf, countOf, chunkIn}
+use Rattle.store.specs.Steps.{Filled, putLevel, putLevels}
 use Rattle.store.specs.Storing.{Put, mark, copied}
-use Rattle.store.specs.Building.{clearRow, treeOf, rootOf, putLevel, putLevels, buildRooms}
+use Rattle.store.specs.Building.{clearRow, treeOf, rootOf, buildRooms}
 use Rattle.verdict.proofs.RoomLaws.{digest-filler, digest-hash, length-putHash, hash-same, hash-other}
 use Rattle.store.proofs.WrittenLaws.{bin-eq}
+use Rattle.store.proofs.PutLaws.{built-each}
 use Rattle.tree.proofs.NodeLaws.{split, above-in, above-unique, aligned-left, aligned-right}
 use Rattle.tree.proofs.PackLaws.{high-bound}
 use Rattle.base.proofs.PickLaws.{both-true}
@@ -226,6 +227,10 @@ combined-is : (N : ℕ) (held : ℕ → ℕ → List ℕ) → given sha256 fille
 unfolding combined
 combined-is N held = refl
 
+-- the hash that a room holds for a node, by its height and first chunk
+abbrev heldBy : List ℕ → ℕ → ℕ → List ℕ
+heldBy hashes h a = hashIn hashes (bin h a)
+
 -- the root that a filled room gives
 pub root-filled : (s l : List ℕ) (N : ℕ) → N ≡ countOf (length s) → Filled l (treeOf s) N (suc (levels N)) → given sha256 filler N (heldBy l) (levels N) 0 ≡ rootOf s
 unfolding Filled treeOf rootOf
@@ -248,7 +253,7 @@ pub built-is : (chunks map hashes trusted s : List ℕ) (N top p : ℕ) {c′ m�
     → (h1 ≡ putLevels putHash (treeOf s) N (suc top) hashes) × (t2 ≡ putLevels mark (treeOf s) N (suc top) t1)
     → v ≡ given sha256 filler N (heldBy h1) top 0
     → (h2 ≡ putHash h1 (p - 1) v) × (t3 ≡ mark t2 (p - 1) v)
-    → (v ≡ rootOf s) × (roomsOf c′ m′ h2 t3 ≡ buildRooms (roomsOf chunks map hashes trusted) s)
+    → (v ≡ rootOf s) × (roomsOf c′ m′ h2 t3 ≡ buildRooms (roomsOf chunks map hashes trusted) (countOf (length s)) s)
 unfolding buildRooms
 built-is chunks map hashes trusted s N top p {h1 = h1} {v = v} n l q r ce me he ve te =
     let T : top ≡ levels (countOf (length s)) = l ∙ ap levels n in
@@ -260,8 +265,9 @@ built-is chunks map hashes trusted s N top p {h1 = h1} {v = v} n l q r ce me he 
       R,
       rooms-eq ce
           (me .0 ∙ ap (λ (x : ℕ). setRange (clearRow map x) 0 x) n)
-          (te .0 ∙ put3 H b R)
-          (te .1 ∙ ap₂ setBit (he .1 ∙ marks (me .1 ∙ ap (λ (x : ℕ). clearRow trusted (2 * x)) P) n T) b),
+          (te .0 ∙ put3 H b R ∙ sym (built-each putHash s hashes))
+          (te .1 ∙ ap₂ setBit (he .1 ∙ marks (me .1 ∙ ap (λ (x : ℕ). clearRow trusted (2 * x)) P) n T) b
+          ∙ sym (built-each mark s (clearRow trusted (2 * leafPlaces (countOf (length s)))))),
     )
   where
     put3 : {l l′ v v′ : List ℕ} {b b′ : ℕ} → l ≡ l′ → b ≡ b′ → v ≡ v′ → putHash l b v ≡ putHash l′ b′ v′

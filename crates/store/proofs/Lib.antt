@@ -1,7 +1,9 @@
 -- What the proofs of several functions cite.
+pub mod Running
 pub mod CopyLaws
-pub mod StoringLaws
 pub mod WrittenLaws
+pub mod PutLaws
+pub mod StoringLaws
 pub mod AgreeLaws
 pub mod BuildingLaws
 pub mod StartedLaws

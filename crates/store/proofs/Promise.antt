@@ -4,16 +4,16 @@ use mathlib.Core.Path.{_≡_}
 use mathlib.Core.Logic.{_≢_}
 use mathlib.Core.Bool.{Bool, true, false}
 use mathlib.Core.List.{List, [], _∷_}
-use Prim.Native.Nat.{ℕ, suc, _*_, _<_, _≤_}
+use Prim.Native.Nat.{ℕ, suc, _<_, _≤_}
 use lib.Dec.{eqb}
 use lib.ListN.{length, take}
 use Rattle.hash.proofs.Promise.{bytesOf}
 use Rattle.bits.proofs.Promise.{bitAt, rowWords}
 use Rattle.base.specs.Pick.{pick}
 use Rattle.base.specs.Among.{OneOf}
-use Rattle.tree.specs.Pack.{chunkSize, maxLength, size, leafPlaces}
+use Rattle.tree.specs.Pack.{chunkSize, maxLength, size}
 use Rattle.verdict.proofs.RoomLaws.{digest-words}
-use Rattle.store.proofs.BegunLaws.{start-running, start-not-same, start-same-sizes, start-empty, build-running, build-not-same, build-same-sizes, build-bytes, build-whole}
+use Rattle.store.proofs.BegunLaws.{enough-order, start-running, start-not-same, start-same-sizes, start-empty, build-running, build-not-same, build-same-sizes, build-bytes, build-whole}
 use Rattle.store.proofs.TakenLaws.{take-refused-same, take-means, take-sizes, take-running, take-map, take-bytes}
 use Rattle.store.proofs.AlikeLaws.{hangs, alike}
 use Rattle.store.proofs.NeededLaws.{take-same}
@@ -26,11 +26,13 @@ pub use Rattle.verdict.specs.Room.{filler, hashIn}
 unfoldable pub use Rattle.verdict.specs.Room.{Digest}
 pub use Rattle.verdict.proofs.RoomLaws.{hash-length}
 pub use Rattle.verdict.specs.Integrity.{Integrity, integrityOf}
-pub use Rattle.verdict.specs.Rooms.{Rooms, roomsOf, countOf, chunkIn, stateOf, SoundRooms}
+pub use Rattle.verdict.specs.Rooms.{Rooms, roomsOf, countOf, chunkIn, stateOf}
 pub use Rattle.store.specs.Building.{rootOf}
-pub use Rattle.store.specs.Answers.{refuse, earlier, lengthAnswer, roomAnswer, Enough, orderAnswer, chunkAnswer}
-pub use Rattle.store.specs.Calls.{Out, outOf, roomsAnswer, startSpec, buildAnswer, buildSpec, foundRoot, takeSpec}
-pub use Rattle.store.specs.Whole.{Roomy, SameSizes, Running, HangsIn, ByteStrings, Alike}
+pub use Rattle.store.specs.Answers.{earlier, lengthAnswer, mapWords, hashWords, trustedWords, Enough, roomAnswer, orderAnswer, chunkAnswer}
+pub use Rattle.store.specs.Calls.{roomsAnswer, startSpec, buildAnswer, buildSpec, takeSpec}
+pub use Rattle.store.specs.Steps.{foundRoot}
+pub use Rattle.store.specs.Whole.{HangsIn, Alike}
+pub use Rattle.store.proofs.Running.{SameSizes, SoundRooms, Running}
 unfoldable pub use Rattle.store.specs.Whole.{Whole}
 pub use Rattle.store.specs.Needed.{SameNeeded, HoldsTrue, BringsTrue}
 
@@ -45,7 +47,7 @@ content-root = accept.root-digest
 -- ---- what an answer of 0 says
 
 -- A test that would refuse failed, and so did those behind it.
-pub passed : (b : Bool) (n rest : ℕ) → refuse b (suc n) rest ≡ 0 → (b ≡ false) × (rest ≡ 0)
+pub passed : (b : Bool) (n rest : ℕ) → pick b (suc n) rest ≡ 0 → (b ≡ false) × (rest ≡ 0)
 passed = answers.passed
 
 -- Of two numbers the first counts if it refuses.
@@ -61,10 +63,11 @@ pub order-accepted : (L b m h t : ℕ) → orderAnswer L b m h t ≡ 0 → (leng
 order-accepted = accept.order-accepted
 
 -- Neither in rooms that are large enough,
-pub order-enough : (L b m h t : ℕ) → lengthAnswer L ≡ 0 → Enough L b m h t → orderAnswer L b m h t ≡ 0
+pub order-enough : (L : ℕ) (w : Rooms) → lengthAnswer L ≡ 0 → Enough L w → roomsAnswer L w ≡ 0
 order-enough = shorter.order-enough
 
-pub build-enough : (L b m h t n : ℕ) → lengthAnswer L ≡ 0 → n ≡ L → Enough L b m h t → buildAnswer L n b m h t ≡ 0
+pub build-enough : (L : ℕ) (w : Rooms) (n : ℕ) → lengthAnswer L ≡ 0 → n ≡ L → Enough L w
+    → buildAnswer L n (length (w .bytes)) (length (w .map)) (length (w .hashes)) (length (w .trusted)) ≡ 0
 build-enough = shorter.build-enough
 
 -- nor for a shorter order.
@@ -85,10 +88,9 @@ length-accepted = accept.length-accepted
 pub length-within : (L : ℕ) → L ≢ 0 → L ≤ maxLength → 0 ≡ lengthAnswer L
 length-within = answers.length-right
 
--- Not 11: the rooms are large enough.
-pub rooms-accepted : (L b m h t : ℕ) → roomAnswer L b m h t ≡ 0
-    → (L ≤ b) × (rowWords (countOf L) ≤ m) × (16 * leafPlaces (countOf L) ≤ h) × (rowWords (2 * leafPlaces (countOf L)) ≤ t)
-rooms-accepted = answers.room-facts
+-- Neither 12 nor 11: the rooms are large enough.
+pub rooms-accepted : (L : ℕ) (w : Rooms) → roomsAnswer L w ≡ 0 → Enough L w
+rooms-accepted = enough-order
 
 -- Neither, and the content has the order's length.
 pub build-accepted : (L n b m h t : ℕ) → buildAnswer L n b m h t ≡ 0 → (lengthAnswer L ≡ 0) × (n ≡ L) × (roomAnswer L b m h t ≡ 0)
@@ -117,19 +119,19 @@ pub start-zero : (w : Rooms) (r : List ℕ) (L : ℕ) → roomsAnswer L w ≡ 0 
 start-zero = accept.start-zero
 
 -- A start that answers 0 leaves a running store under its order,
-pub started-running : (w : Rooms) (r : List ℕ) (L : ℕ) → Digest r → startSpec w r L .answer ≡ 0 → Running L r (startSpec w r L .rooms)
+pub started-running : (w : Rooms) (r : List ℕ) (L : ℕ) → Digest r → startSpec w r L .answer ≡ 0 → Running L r (startSpec w r L .after)
 started-running = start-running
 
 -- in rooms of the same sizes,
-pub started-sizes : (w : Rooms) (r : List ℕ) (L : ℕ) → SameSizes w (startSpec w r L .rooms)
+pub started-sizes : (w : Rooms) (r : List ℕ) (L : ℕ) → SameSizes w (startSpec w r L .after)
 started-sizes = start-same-sizes
 
 -- with no chunk in its map.
-pub started-empty : (w : Rooms) (r : List ℕ) (L : ℕ) → startSpec w r L .answer ≡ 0 → (x : ℕ) → x < countOf L → bitAt (startSpec w r L .rooms .map) x ≡ false
+pub started-empty : (w : Rooms) (r : List ℕ) (L : ℕ) → startSpec w r L .answer ≡ 0 → (x : ℕ) → x < countOf L → bitAt (startSpec w r L .after .map) x ≡ false
 started-empty = start-empty
 
 -- A refused start changes nothing.
-pub start-refused-same : (w : Rooms) (r : List ℕ) (L : ℕ) → startSpec w r L .answer ≢ 0 → startSpec w r L .rooms ≡ w
+pub start-refused-same : (w : Rooms) (r : List ℕ) (L : ℕ) → startSpec w r L .answer ≢ 0 → startSpec w r L .after ≡ w
 start-refused-same = start-not-same
 
 -- ---- building
@@ -140,38 +142,38 @@ pub build-zero : (w : Rooms) (L : ℕ) (s : List ℕ)
 build-zero = accept.build-zero
 
 -- A building that answers 0 leaves a running store under the root that it found; its content has the order's length,
-pub built-running : (w : Rooms) (L : ℕ) (s : List ℕ) → buildSpec w L s .answer ≡ 0 → (length s ≡ L) × Running L (rootOf s) (buildSpec w L s .rooms)
+pub built-running : (w : Rooms) (L : ℕ) (s : List ℕ) → buildSpec w L s .answer ≡ 0 → (length s ≡ L) × Running L (rootOf s) (buildSpec w L s .after)
 built-running = build-running
 
 -- its bytes are the content's,
-pub built-bytes : (w : Rooms) (L : ℕ) (s : List ℕ) → buildSpec w L s .answer ≡ 0 → take L (buildSpec w L s .rooms .bytes) ≡ s
+pub built-bytes : (w : Rooms) (L : ℕ) (s : List ℕ) → buildSpec w L s .answer ≡ 0 → take L (buildSpec w L s .after .bytes) ≡ s
 built-bytes = build-bytes
 
 -- its rooms have the sizes they had,
-pub built-sizes : (w : Rooms) (L : ℕ) (s : List ℕ) → SameSizes w (buildSpec w L s .rooms)
+pub built-sizes : (w : Rooms) (L : ℕ) (s : List ℕ) → SameSizes w (buildSpec w L s .after)
 built-sizes = build-same-sizes
 
 -- and all chunks are in its map.
-pub built-whole : (w : Rooms) (L : ℕ) (s : List ℕ) → buildSpec w L s .answer ≡ 0 → Whole L (buildSpec w L s .rooms)
+pub built-whole : (w : Rooms) (L : ℕ) (s : List ℕ) → buildSpec w L s .answer ≡ 0 → Whole L (buildSpec w L s .after)
 built-whole = build-whole
 
 -- A refused building changes nothing.
-pub build-refused-same : (w : Rooms) (L : ℕ) (s : List ℕ) → buildSpec w L s .answer ≢ 0 → buildSpec w L s .rooms ≡ w
+pub build-refused-same : (w : Rooms) (L : ℕ) (s : List ℕ) → buildSpec w L s .answer ≢ 0 → buildSpec w L s .after ≡ w
 build-refused-same = build-not-same
 
 -- ---- taking
 
 module _ (w : Rooms) (r : List ℕ) (L c : ℕ) (d : List ℕ) (o : Integrity) where
   -- A refused chunk changes nothing.
-  pub refused-same : takeSpec w r L c d o .answer ≢ 0 → takeSpec w r L c d o .rooms ≡ w
+  pub refused-same : takeSpec w r L c d o .answer ≢ 0 → takeSpec w r L c d o .after ≡ w
   refused-same = take-refused-same w r L c d o
 
   -- Whatever comes, a running store keeps running,
-  pub taken-running : Running L r w → Running L r (takeSpec w r L c d o .rooms)
+  pub taken-running : Running L r w → Running L r (takeSpec w r L c d o .after)
   taken-running = take-running w r L c d o
 
   -- in rooms of the same sizes.
-  pub taken-sizes : SameSizes w (takeSpec w r L c d o .rooms)
+  pub taken-sizes : SameSizes w (takeSpec w r L c d o .after)
   taken-sizes = take-sizes w r L c d o
 
   -- A chunk taken with 0 is one of the pack and has its length;
@@ -180,12 +182,12 @@ module _ (w : Rooms) (r : List ℕ) (L c : ℕ) (d : List ℕ) (o : Integrity) w
 
   -- the map afterwards is the map before, and the chunk;
   pub taken-map : takeSpec w r L c d o .answer ≡ 0 → (x : ℕ) → x < countOf L
-      → bitAt (takeSpec w r L c d o .rooms .map) x ≡ pick (eqb x c) true (bitAt (w .map) x)
+      → bitAt (takeSpec w r L c d o .after .map) x ≡ pick (eqb x c) true (bitAt (w .map) x)
   taken-map = take-map w r L c d o
 
   -- its bytes are those that came unless it was held before, and all other chunks have the bytes they had.
   pub taken-bytes : takeSpec w r L c d o .answer ≡ 0 → (x : ℕ) → x < countOf L
-      → chunkIn L (takeSpec w r L c d o .rooms .bytes) x ≡ pick (bitAt (w .map) c) (chunkIn L (w .bytes) x) (pick (eqb x c) d (chunkIn L (w .bytes) x))
+      → chunkIn L (takeSpec w r L c d o .after .bytes) x ≡ pick (bitAt (w .map) c) (chunkIn L (w .bytes) x) (pick (eqb x c) d (chunkIn L (w .bytes) x))
   taken-bytes = take-bytes w r L c d o
 
 -- Two sets of hashes that agree on those that are needed give the same answer and the same rooms: hashes not needed aren't
@@ -194,7 +196,7 @@ pub needed-only : (w : Rooms) (r : List ℕ) (L c : ℕ) (d : List ℕ) (o p : I
 needed-only w r L c d o p A = take-same w L c o p A r d
 
 -- A store that was started under the order of a content s holds its hashes.
-pub started-true : (w : Rooms) (s : List ℕ) → startSpec w (rootOf s) (length s) .answer ≡ 0 → HoldsTrue (startSpec w (rootOf s) (length s) .rooms) s
+pub started-true : (w : Rooms) (s : List ℕ) → startSpec w (rootOf s) (length s) .answer ≡ 0 → HoldsTrue (startSpec w (rootOf s) (length s) .after) s
 started-true = start-true
 
 module _ (w : Rooms) (s : List ℕ) (c : ℕ) (o : Integrity) (T : HoldsTrue w s) (B : BringsTrue s c o) where
@@ -204,7 +206,7 @@ module _ (w : Rooms) (s : List ℕ) (c : ℕ) (o : Integrity) (T : HoldsTrue w s
 
   -- and the store still holds the hashes of s.
   pub stays-true : takeSpec w (rootOf s) (length s) c (chunkIn (length s) s c) o .answer ≡ 0
-      → HoldsTrue (takeSpec w (rootOf s) (length s) c (chunkIn (length s) s c) o .rooms) s
+      → HoldsTrue (takeSpec w (rootOf s) (length s) c (chunkIn (length s) s c) o .after) s
   stays-true = keep-true w s c o T B
 
 -- ---- what a running store holds

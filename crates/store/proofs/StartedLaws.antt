@@ -16,9 +16,11 @@ use Rattle.base.specs.Pick.{pick}
 use Rattle.tree.specs.Bin.{bin}
 use Rattle.tree.specs.Node.{above}
 use Rattle.tree.specs.Pack.{chunkSize, chunks, size, levels, leafPlaces, rootNode}
-use Rattle.tree.specs.State.{State, started}
+use Rattle.tree.specs.State.{State}
+use Rattle.tree.proofs.Sound.{started}
 use Rattle.verdict.specs.Room.{filler, Digest, hashIn, putHash}
-use Rattle.verdict.specs.Rooms.{Rooms, roomsOf, stateOf, SoundRooms}
+use Rattle.verdict.specs.Rooms.{Rooms, roomsOf, stateOf}
+use Rattle.store.proofs.Running.{SoundRooms}
 use Rattle.store.specs.Storing.{mark}
 use Rattle.store.specs.Building.{clearRow, startRooms}
 use Rattle.verdict.proofs.RoomLaws.{hash-same, hash-other}

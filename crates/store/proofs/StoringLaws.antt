@@ -1,5 +1,5 @@
 -- The loops of storing a chunk, turn by turn. Assumes nothing.
-use mathlib.Core.Path.{_≡_, refl, ap, ap₂, _∙_}
+use mathlib.Core.Path.{_≡_, refl, sym, ap, ap₂, _∙_}
 use mathlib.Core.Logic.{_≢_}
 use mathlib.Core.Bool.{Bool, true, false}
 use mathlib.Core.List.{List, map}
@@ -14,16 +14,18 @@ use Rattle.hash.proofs.Promise.{sha256}
 use Rattle.bits.proofs.Promise.{bitAt, setBit, length-setBit}
 use Rattle.base.specs.Pick.{pick}
 use Rattle.tree.specs.Bin.{bin}
-use Rattle.tree.specs.Node.{other, above}
+use Rattle.tree.specs.Node.{siblingFrom, above}
 use Rattle.tree.specs.Pack.{chunkSize, chunks, levels}
-use Rattle.tree.specs.Peaks.{peaks, peakBit}
-use Rattle.tree.specs.Tree.{climb}
-use Rattle.tree.specs.Verdicts.{got, every}
+use Rattle.tree.specs.Peaks.{peaks}
+use Rattle.tree.specs.Steps.{peakBit}
+use Rattle.tree.specs.Verdicts.{got, every, peaksTrusted}
 use Rattle.verdict.specs.Room.{hashIn, putHash}
 use Rattle.verdict.specs.Integrity.{Integrity}
-use Rattle.verdict.specs.Rooms.{Rooms, roomsOf, trustedIn, gotBy}
-use Rattle.store.specs.Steps.{Climbed}
-use Rattle.store.specs.Storing.{Put, mark, putIf, putPeaks, putPath, putAll, copied, stored, storeSpec}
+use Rattle.verdict.specs.Rooms.{Rooms, roomsOf}
+use Rattle.verdict.specs.Steps.{trustedIn, gotBy}
+use Rattle.store.specs.Steps.{Climbed, putIf, putPeaks, putPath}
+use Rattle.store.specs.Storing.{Put, mark, putAll, copied, stored, storeSpec}
+use Rattle.store.proofs.PutLaws.{all-is}
 use Rattle.tree.proofs.NodeLaws.{above-in, above-right, above-inside}
 
 -- one peak
@@ -48,12 +50,12 @@ module _ (put : Put) (own : ℕ → List ℕ) (got : ℕ → ℕ → List ℕ) (
   unfolding putPath
   path-none = refl
 
-  pub path-more : (h : ℕ) {m m′ v : List ℕ} → m′ ≡ put (put m (bin h (above h c)) v) (bin h (other c h (above (suc h) c))) (got h (other c h (above (suc h) c)))
+  pub path-more : (h : ℕ) {m m′ v : List ℕ} → m′ ≡ put (put m (bin h (above h c)) v) (bin h (siblingFrom h c)) (got h (siblingFrom h c))
       → v ≡ own h → m ≡ putPath put own got c h l → m′ ≡ putPath put own got c (h + 1) l
   unfolding putPath
   path-more h e g f =
       rw (add-one h)
-      (e ∙ ap₂ (λ (x y : List ℕ). put (put x (bin h (above h c)) y) (bin h (other c h (above (suc h) c))) (got h (other c h (above (suc h) c)))) f g)
+      (e ∙ ap₂ (λ (x y : List ℕ). put (put x (bin h (above h c)) y) (bin h (siblingFrom h c)) (got h (siblingFrom h c))) f g)
 
 -- lengths
 module _ (put : Put) (len : (l : List ℕ) (b : ℕ) (v : List ℕ) → length (put l b v) ≡ length l) where
@@ -71,7 +73,7 @@ module _ (put : Put) (len : (l : List ℕ) (b : ℕ) (v : List ℕ) → length (
   unfolding putPath
   length-path own got c zero l = refl
   length-path own got c (suc h) l =
-      len (put (putPath put own got c h l) (bin h (above h c)) (own h)) (bin h (other c h (above (suc h) c))) (got h (other c h (above (suc h) c)))
+      len (put (putPath put own got c h l) (bin h (above h c)) (own h)) (bin h (siblingFrom h c)) (got h (siblingFrom h c))
       ∙ len (putPath put own got c h l) (bin h (above h c)) (own h) ∙ length-path own got c h l
 
   pub length-open : (t : Bool) (got : ℕ → ℕ → List ℕ) (N k : ℕ) (l : List ℕ) → length (pick t l (putPeaks put got N k l)) ≡ length l
@@ -115,7 +117,7 @@ module _ (put : Put) (x y : ℕ → ℕ → List ℕ) where
       go false q ih = ih
 
   pub path-alike : (u v : ℕ → List ℕ) (c t : ℕ) {l m : List ℕ} → l ≡ m → ((h : ℕ) → h < t → u h ≡ v h)
-      → ((h : ℕ) → h < t → x h (other c h (above (suc h) c)) ≡ y h (other c h (above (suc h) c)))
+      → ((h : ℕ) → h < t → x h (siblingFrom h c) ≡ y h (siblingFrom h c))
       → putPath put u x c t l ≡ putPath put v y c t m
   unfolding putPath
   path-alike u v c zero e p q = e
@@ -135,16 +137,17 @@ pub stored-is : (chunks map hashes trusted : List ℕ) (N c t : ℕ) (d : List �
     × (t1 ≡ pick (every (trustedIn trusted) (peaks N)) trusted (putPeaks mark (gotBy o) N (suc top) trusted))
     → (h2 ≡ putPath putHash (hashIn s) (gotBy o) c t h1) × (t2 ≡ putPath mark (hashIn s) (gotBy o) c t t1)
     → roomsOf chunks′ map′ h2 t2 ≡ stored (roomsOf chunks map hashes trusted) N c t d o
-unfolding stored putAll Climbed
+unfolding stored Climbed peaksTrusted
 stored-is chunks map hashes trusted N c t d o s e f g K p q =
     let b = every (trustedIn trusted) (peaks N) in
     rooms-eq e f (q .0 ∙ climbed putHash hashes b (p .0) g) (q .1 ∙ climbed mark trusted b (p .1) g)
   where
     climbed : (put : Put) (l : List ℕ) (b : Bool) {m : List ℕ} {top : ℕ} → m ≡ pick b l (putPeaks put (gotBy o) N (suc top) l) → top ≡ levels N
         → putPath put (hashIn s) (gotBy o) c t m
-        ≡ putPath put (λ h. climb sha256 (gotBy o) (sha256 d) c h (above h c)) (gotBy o) c t (pick b l (putPeaks put (gotBy o) N (suc (levels N)) l))
+        ≡ putAll put b N c t d (gotBy o) l
     climbed put l b i j =
         path-alike put (gotBy o) (gotBy o) (hashIn s) _ c t (i ∙ ap (λ (x : ℕ). pick b l (putPeaks put (gotBy o) N (suc x) l)) j) K (λ h u. refl)
+        ∙ sym (all-is put b N c t d (gotBy o) l)
 
 module _ (w : Rooms) (N c t : ℕ) (d : List ℕ) (o : Integrity) where
   pub store-new : {x : Rooms} {q : Bool} → q ≡ bitAt (w .map) c → q ≡ false → x ≡ stored w N c t d o → x ≡ storeSpec w N c t d o

@@ -3,7 +3,7 @@ use mathlib.Core.Path.{_≡_, refl, sym, ap, _∙_}
 use mathlib.Core.Logic.{_≢_}
 use mathlib.Core.Bool.{Bool, true, false}
 use mathlib.Core.List.{List}
-use Prim.Native.Nat.{ℕ, zero, suc, _+_, _*_, _≤_, _<_}
+use Prim.Native.Nat.{ℕ, suc, _+_, _*_, _≤_, _<_}
 use native.Mathlib.Omega.{arith}
 use native.Mathlib.Decide.{ℕ-discrete}
 use borrow.Author.Tests.{eqb-true}
@@ -11,79 +11,81 @@ use lib.Dec.{eqb}
 use lib.ListN.{length}
 use lib.Seq.{length-paste}
 use Rattle.bits.proofs.Promise.{bitAt, length-setBit, row-room}
+use Rattle.hash.proofs.Promise.{sha256}
 use Rattle.base.specs.Pick.{pick}
 use Rattle.tree.specs.Pack.{chunkSize, size, levels, leafPlaces}
 use Rattle.tree.specs.Peaks.{peaks}
-use Rattle.tree.specs.State.{State, adopted}
-use Rattle.tree.specs.Verdicts.{every, number}
+use Rattle.tree.specs.State.{State}
+use Rattle.tree.proofs.Sound.{adopted}
+use Rattle.tree.specs.Verdicts.{every, number, peaksTrusted, reached, verdict}
 use Rattle.tree.specs.declared.verdict.Verdict.{Verdict}
 use Rattle.tree.specs.declared.verdict.Verdict.the-variants.{Fits, Missing, WrongPeaks, WrongClimb}
-use Rattle.verdict.specs.Room.{putHash}
-use Rattle.verdict.specs.Integrity.{Integrity}
-use Rattle.verdict.specs.Rooms.{Rooms, countOf, chunkIn, stateOf, SoundRooms, trustedIn, gotBy}
-use Rattle.verdict.specs.Verdict.{roomVerdict}
-use Rattle.store.specs.Storing.{mark, putAll, copied, stored, storeSpec, roomsBy}
-use Rattle.store.specs.Whole.{Roomy, SameSizes, Running}
-use Rattle.store.specs.Answers.{earlier, chunkAnswer}
-use Rattle.store.specs.Calls.{outOf, unless, roomsAnswer, storeIfFits, takeSpec}
+use Rattle.verdict.specs.Room.{filler, putHash}
+use Rattle.verdict.specs.Integrity.{Integrity, cameFrom}
+use Rattle.verdict.specs.Rooms.{Rooms, countOf, chunkIn, stateOf}
+use Rattle.store.proofs.Running.{SoundRooms, SameSizes, Running}
+use Rattle.store.specs.Answers.{Enough, earlier, chunkAnswer}
+use Rattle.verdict.specs.Steps.{trustedIn, gotBy, roomVerdict}
+use Rattle.store.specs.Storing.{mark, copied, stored, storeSpec}
+use Rattle.store.specs.Calls.{roomsAnswer, takeSpec}
 use Rattle.verdict.proofs.RoomLaws.{length-putHash}
-use Rattle.verdict.proofs.VerdictLaws.{fits-within}
+use Rattle.verdict.proofs.VerdictLaws.{verdict-sees, fits-within}
+use Rattle.store.proofs.PutLaws.{all-is}
 use Rattle.store.proofs.StoringLaws.{length-path, length-open, length-mark}
 use Rattle.store.proofs.AgreeLaws.{Fitting, stored-agrees, taken-sound}
 use Rattle.store.proofs.AnswerLaws.{both-zero, chunk-facts}
-use Rattle.store.proofs.BegunLaws.{roomy-order, roomy-sizes, same-sizes}
+use Rattle.store.proofs.CallLaws.{unless-same, unless-new, fits-at}
+use Rattle.store.proofs.BegunLaws.{enough-order, enough-sizes, same-sizes}
 use Rattle.tree.proofs.ChunkLaws.{chunk-inside}
 
 -- ---- a refused chunk changes nothing, a taken one is stored
 
 module _ (w : Rooms) (r : List ℕ) (L c : ℕ) (d : List ℕ) (o : Integrity) where
   abbrev told : Verdict
-  told = roomVerdict (countOf L) r (w .hashes) (w .trusted) c d o
+  told = verdict sha256 filler (countOf L) r (stateOf L w) c d (cameFrom o)
 
   abbrev left : Rooms
-  left = takeSpec w r L c d o .rooms
+  left = takeSpec w r L c d o .after
+
+  abbrev number-given : ℕ
+  number-given = earlier (earlier (roomsAnswer L w) (chunkAnswer L c (length d))) (number told)
+
+  abbrev height-reached : ℕ
+  height-reached = reached (countOf L) (stateOf L w) c
 
   pub take-refused-same : takeSpec w r L c d o .answer ≢ 0 → left ≡ w
-  unfolding takeSpec storeIfFits
-  take-refused-same = go (earlier (roomsAnswer L w) (chunkAnswer L c (length d))) told
-    where
-      go : (n : ℕ) (v : Verdict) → unless n w (outOf (number v) (roomsBy v w (λ t. storeSpec w (countOf L) c t d o))) .answer ≢ 0
-          → unless n w (outOf (number v) (roomsBy v w (λ t. storeSpec w (countOf L) c t d o))) .rooms ≡ w
-      go zero (Fits t) q = absurd (q refl)
-      go zero Missing q = refl
-      go zero WrongPeaks q = refl
-      go zero WrongClimb q = refl
-      go (suc n) v q = refl
+  unfolding takeSpec
+  take-refused-same = unless-same number-given w (storeSpec w (countOf L) c height-reached d o)
 
   -- the chunk fits below a node of height t, and the rooms are those that storing leaves
   pub record Taken : Type 0 where
     pub answers-right : earlier (roomsAnswer L w) (chunkAnswer L c (length d)) ≡ 0
     pub height : ℕ
-    pub fits-there : told ≡ Fits height
+    pub fits-there : roomVerdict (countOf L) r (w .hashes) (w .trusted) c d o ≡ Fits height
     pub stored-so : left ≡ storeSpec w (countOf L) c height d o
 
-  left-is : earlier (roomsAnswer L w) (chunkAnswer L c (length d)) ≡ 0 → left ≡ roomsBy told w (λ t. storeSpec w (countOf L) c t d o)
-  unfolding takeSpec storeIfFits
-  left-is e = ap (λ (n : ℕ). unless n w (outOf (number told) (roomsBy told w (λ t. storeSpec w (countOf L) c t d o))) .rooms) e
+  told-is : roomVerdict (countOf L) r (w .hashes) (w .trusted) c d o ≡ told
+  told-is = verdict-sees (countOf L) r (w .hashes) (w .trusted) c d o L (w .bytes) (w .map)
+
+  fits-zero : (v : Verdict) → told ≡ v → number v ≡ 0 → roomVerdict (countOf L) r (w .hashes) (w .trusted) c d o ≡ Fits height-reached
+  fits-zero (Fits t) e z = told-is ∙ e ∙ ap Fits (fits-at w r L (countOf L) c d o t (told-is ∙ e))
+  fits-zero Missing e z = absurd (omega arith)
+  fits-zero WrongPeaks e z = absurd (omega arith)
+  fits-zero WrongClimb e z = absurd (omega arith)
 
   pub taken : takeSpec w r L c d o .answer ≡ 0 → Taken
-  unfolding takeSpec storeIfFits
-  taken = go (earlier (roomsAnswer L w) (chunkAnswer L c (length d))) told refl refl
-    where
-      go : (n : ℕ) (v : Verdict) → earlier (roomsAnswer L w) (chunkAnswer L c (length d)) ≡ n → told ≡ v
-          → unless n w (outOf (number v) (roomsBy v w (λ t. storeSpec w (countOf L) c t d o))) .answer ≡ 0 → Taken
-      go zero (Fits t) e f q = record { answers-right = e; height = t; fits-there = f; stored-so = left-is e ∙ ap (λ (v : Verdict). roomsBy v w (λ k. storeSpec w (countOf L) c k d o)) f }
-      go zero Missing e f q = absurd (omega arith)
-      go zero WrongPeaks e f q = absurd (omega arith)
-      go zero WrongClimb e f q = absurd (omega arith)
-      go (suc n) v e f q = absurd (omega arith)
+  unfolding takeSpec
+  taken e =
+      let u = unless-new number-given w (storeSpec w (countOf L) c height-reached d o) e in
+      let p = both-zero (earlier (roomsAnswer L w) (chunkAnswer L c (length d))) (number told) (u .0) in
+      record { answers-right = p .0; height = height-reached; fits-there = fits-zero told refl (p .1); stored-so = u .1 }
 
   -- what the answer 0 says of the order, the rooms and the chunk
-  pub take-means : takeSpec w r L c d o .answer ≡ 0 → Roomy L w × (c < countOf L) × (length d ≡ size chunkSize L c)
+  pub take-means : takeSpec w r L c d o .answer ≡ 0 → Enough L w × (c < countOf L) × (length d ≡ size chunkSize L c)
   take-means e =
       let p = both-zero (roomsAnswer L w) (chunkAnswer L c (length d)) (taken e .answers-right) in
       let g = chunk-facts L c (length d) (p .1) in
-      (roomy-order L w (p .0), g .0, g .1)
+      (enough-order L w (p .0), g .0, g .1)
 
   pub fitting : takeSpec w r L c d o .answer ≡ 0 → Fitting L w (countOf L) c d
   fitting e =
@@ -108,17 +110,17 @@ module _ (w : Rooms) (r : List ℕ) (L c : ℕ) (d : List ℕ) (o : Integrity) w
       go (no q) = rw (take-refused-same q) S
       go (yes e) =
           let t = taken e in
-          rw (t .stored-so) (taken-sound L w (countOf L) c d r o (fitting e) (Fits (t .height)) (t .fits-there) S)
+          rw (t .stored-so) (taken-sound L w (countOf L) c d r o (fitting e) (t .height) (t .fits-there) S)
 
   -- ---- sizes
 
   stored-sizes : (t : ℕ) → chunkSize * c + length d ≤ length (w .bytes) → SameSizes w (stored w (countOf L) c t d o)
-  unfolding stored putAll copied
+  unfolding stored copied peaksTrusted
   stored-sizes t l = record {
     bytes-long = length-paste (w .bytes) (chunkSize * c) d (length d) l (omega arith);
     map-long = length-setBit (w .map) c;
-    hashes-long = length-path putHash length-putHash _ (gotBy o) c t _ ∙ length-open putHash length-putHash (every (trustedIn (w .trusted)) (peaks (countOf L))) (gotBy o) (countOf L) (suc (levels (countOf L))) (w .hashes);
-    trusted-long = length-path mark length-mark _ (gotBy o) c t _ ∙ length-open mark length-mark (every (trustedIn (w .trusted)) (peaks (countOf L))) (gotBy o) (countOf L) (suc (levels (countOf L))) (w .trusted);
+    hashes-long = ap length (all-is putHash _ (countOf L) c t d (gotBy o) (w .hashes)) ∙ length-path putHash length-putHash _ (gotBy o) c t _ ∙ length-open putHash length-putHash (every (trustedIn (w .trusted)) (peaks (countOf L))) (gotBy o) (countOf L) (suc (levels (countOf L))) (w .hashes);
+    trusted-long = ap length (all-is mark _ (countOf L) c t d (gotBy o) (w .trusted)) ∙ length-path mark length-mark _ (gotBy o) c t _ ∙ length-open mark length-mark (every (trustedIn (w .trusted)) (peaks (countOf L))) (gotBy o) (countOf L) (suc (levels (countOf L))) (w .trusted);
   }
 
   store-sizes : (t : ℕ) → chunkSize * c + length d ≤ length (w .bytes) → SameSizes w (storeSpec w (countOf L) c t d o)
@@ -137,7 +139,7 @@ module _ (w : Rooms) (r : List ℕ) (L c : ℕ) (d : List ℕ) (o : Integrity) w
       go (yes e) = let t = taken e in rw (t .stored-so) (store-sizes (t .height) (fitting e .bytes-in))
 
   pub take-running : Running L r w → Running L r left
-  take-running R = record { roomy = roomy-sizes L w left take-sizes (R .roomy); sound = take-sound (R .sound) }
+  take-running R = record { enough = enough-sizes L w left take-sizes (R .enough); sound = take-sound (R .sound) }
 
   -- ---- the map and the bytes
 

@@ -16,7 +16,8 @@ use Rattle.base.proofs.PickLaws.{both-true}
 use Rattle.tree.specs.Bin.{bin}
 use Rattle.tree.specs.Pack.{chunkSize, size, levels, leafPlaces}
 use Rattle.tree.specs.Tree.{root}
-use Rattle.tree.specs.Verdicts.{number, peaksTrusted, counted, reached}
+use Rattle.tree.specs.Verdicts.{peaksTrusted, reached}
+use Rattle.tree.proofs.Sound.{counted}
 use Rattle.tree.proofs.ChunkLaws.{chunk-inside}
 use Rattle.tree.proofs.TakeLaws.{fits-means}
 use Rattle.tree.proofs.TrueLaws as theory
@@ -27,12 +28,12 @@ use Rattle.verdict.proofs.VerdictLaws.{verdict-sees, fits-within}
 use Rattle.store.specs.Storing.{stored, storeSpec}
 use Rattle.store.specs.Building.{startRooms, treeOf, rootOf}
 use Rattle.store.specs.Answers.{chunkAnswer}
-use Rattle.store.specs.Calls.{roomsAnswer, startSpec, storeIfFits, takeSpec}
+use Rattle.store.specs.Calls.{roomsAnswer, startSpec, takeSpec}
 use Rattle.store.specs.Needed.{HoldsTrue, BringsTrue}
 use Rattle.store.proofs.AcceptLaws.{root-digest}
 use Rattle.store.proofs.AgreeLaws.{Fitting, stored-agrees}
 use Rattle.store.proofs.StartedLaws.{start-agrees}
-use Rattle.store.proofs.BegunLaws.{roomy-order, starts}
+use Rattle.store.proofs.BegunLaws.{enough-order, starts}
 use Rattle.store.proofs.TakenLaws.{taken, fitting}
 
 -- ---- a store that was started
@@ -48,11 +49,11 @@ module _ (w : Rooms) (s : List ℕ) where
   unfolding rootOf treeOf root
   root-held h a q = rw (q .0, q .1)
 
-  pub start-true : startSpec w (rootOf s) L .answer ≡ 0 → HoldsTrue (startSpec w (rootOf s) L .rooms) s
+  pub start-true : startSpec w (rootOf s) L .answer ≡ 0 → HoldsTrue (startSpec w (rootOf s) L .after) s
   unfolding HoldsTrue
   start-true e h a al i f =
       let S = starts w (rootOf s) L e in
-      let R = roomy-order L w (S .0) in
+      let R = enough-order L w (S .0) in
       let g = start-agrees L w N (rootOf s) refl (root-digest s) (omega (arith, R .hashes-in)) (omega (arith, row-room (w .trusted) (2 * leafPlaces N) (R .trusted-in))) (row-room (w .map) N (R .map-in)) .nodes h a al i in
       let b : bitAt (startRooms w N (rootOf s) .trusted) (bin h a) ≡ true = sym (ap (λ (v : Rooms). bitAt (v .trusted) (bin h a)) (S .1)) ∙ f in
       let q = both-true (eqb h (levels N)) (eqb a 0) (g .1 ∙ b) in
@@ -76,12 +77,13 @@ chunk-long s c l =
 
 pub take-true : (w : Rooms) (s : List ℕ) (c : ℕ) (o : Integrity) → roomsAnswer (length s) w ≡ 0 → c < countOf (length s) → HoldsTrue w s → BringsTrue s c o
     → takeSpec w (rootOf s) (length s) c (chunkIn (length s) s c) o .answer ≡ 0
-unfolding takeSpec storeIfFits HoldsTrue BringsTrue treeOf rootOf
+unfolding takeSpec HoldsTrue BringsTrue treeOf rootOf
 take-true w s c o e l T B =
-    rw (e, chunk-right (length s) c _ l (chunk-long s c l))
-    (ap number
-    (verdict-sees (countOf (length s)) (rootOf s) (w .hashes) (w .trusted) c (chunkIn (length s) s c) o (length s) (w .bytes) (w .map)
-    ∙ theory.true-fits sha256 filler (countOf (length s)) (chunkIn (length s) s) (stateOf (length s) w) T c l (cameFrom o) B))
+    rw (
+      e,
+      chunk-right (length s) c _ l (chunk-long s c l),
+      theory.true-fits sha256 filler (countOf (length s)) (chunkIn (length s) s) (stateOf (length s) w) T c l (cameFrom o) B,
+    )
 
 -- ---- what storing it writes
 
@@ -103,7 +105,7 @@ module _ (w : Rooms) (s : List ℕ) (c : ℕ) (o : Integrity) (T : HoldsTrue w s
       go false = stored-true t F u q
 
   pub keep-true : takeSpec w (rootOf s) (length s) c (chunkIn (length s) s c) o .answer ≡ 0
-      → HoldsTrue (takeSpec w (rootOf s) (length s) c (chunkIn (length s) s c) o .rooms) s
+      → HoldsTrue (takeSpec w (rootOf s) (length s) c (chunkIn (length s) s c) o .after) s
   keep-true e =
       let d = chunkIn (length s) s c in
       let N = countOf (length s) in

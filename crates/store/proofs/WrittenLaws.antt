@@ -11,14 +11,16 @@ use lib.Dec.{leb, ltb, eqb}
 use lib.Pow.{pow-pos}
 use Rattle.base.specs.Pick.{pick}
 use Rattle.tree.specs.Bin.{bin}
-use Rattle.tree.specs.Node.{other, above}
+use Rattle.tree.specs.Node.{siblingFrom, above}
 use Rattle.tree.specs.Pack.{levels}
-use Rattle.tree.specs.State.{isPeak, onPath}
+use Rattle.tree.specs.State.{isPeak}
+use Rattle.tree.proofs.Sound.{onPath}
 use Rattle.tree.specs.Verdicts.{got}
 use Rattle.verdict.specs.Room.{Digest}
-use Rattle.store.specs.Storing.{Put, putIf, putPeaks, putPath}
+use Rattle.store.specs.Storing.{Put}
+use Rattle.store.specs.Steps.{putPeaks, putPath, putIf}
 use Rattle.tree.proofs.BinLaws.{bin-inj}
-use Rattle.tree.proofs.NodeLaws.{split, above-left, above-right, other-left, other-right, above-aligned, parent-right, parent-above, aligned-left, aligned-right, child-cases}
+use Rattle.tree.proofs.NodeLaws.{split, above-left, above-right, beside-left, beside-right, above-aligned, parent-right, parent-above, aligned-left, aligned-right, child-cases}
 use Rattle.tree.proofs.PackLaws.{high-bound}
 use Rattle.base.proofs.PickLaws.{both-true, either}
 use Rattle.tree.proofs.PeakTests.{peak-bit, bit-peak}
@@ -30,34 +32,34 @@ bin-eq h a h′ a′ e f q =
     let r = bin-inj h (a / 2 ^ h) h′ (a′ / 2 ^ h′) (ap (bin h) e ∙ q ∙ sym (ap (bin h′) f)) in
     (r .0, sym e ∙ r .1 ∙ f)
 
-other-aligned : (h c : ℕ) → above h (other c h (above (suc h) c)) ≡ other c h (above (suc h) c)
-other-aligned h c = go (ltb c (above (suc h) c + 2 ^ h))
+beside-aligned : (h c : ℕ) → above h (siblingFrom h c) ≡ siblingFrom h c
+beside-aligned h c = go (ltb c (above (suc h) c + 2 ^ h))
   where
     go : (b : Bool) → above h (pick b (above (suc h) c + 2 ^ h) (above (suc h) c)) ≡ pick b (above (suc h) c + 2 ^ h) (above (suc h) c)
     go true = aligned-right h (above (suc h) c) (above-aligned (suc h) c)
     go false = aligned-left h (above (suc h) c) (above-aligned (suc h) c)
 
-other-parent : (h c : ℕ) → above (suc h) (other c h (above (suc h) c)) ≡ above (suc h) c
-other-parent h c = go (ltb c (above (suc h) c + 2 ^ h))
+beside-parent : (h c : ℕ) → above (suc h) (siblingFrom h c) ≡ above (suc h) c
+beside-parent h c = go (ltb c (above (suc h) c + 2 ^ h))
   where
     go : (b : Bool) → above (suc h) (pick b (above (suc h) c + 2 ^ h) (above (suc h) c)) ≡ above (suc h) c
     go true = parent-right h (above (suc h) c) (above-aligned (suc h) c)
     go false = above-aligned (suc h) c
 
-own-not-other : (h c : ℕ) → above h c ≢ other c h (above (suc h) c)
-own-not-other h c q = go (c / 2 ^ h % 2) refl
+pub own-not-beside : (h c : ℕ) → above h c ≢ siblingFrom h c
+own-not-beside h c q = go (c / 2 ^ h % 2) refl
   where
     go : (r : ℕ) → c / 2 ^ h % 2 ≡ r → ⊥
-    go zero e = omega (arith, other-left h c e, pow-pos h, q)
-    go (suc r) e = omega (arith, other-right h c (omega arith), pow-pos h, q)
+    go zero e = omega (arith, beside-left h c e, pow-pos h, q)
+    go (suc r) e = omega (arith, beside-right h c (omega arith), pow-pos h, q)
 
-other-kid : (h c a : ℕ) → above h a ≡ a → above (suc h) a ≡ above (suc h) c → a ≢ above h c → a ≡ other c h (above (suc h) c)
-other-kid h c a e p d = go (c / 2 ^ h % 2) refl (child-cases h a e)
+beside-kid : (h c a : ℕ) → above h a ≡ a → above (suc h) a ≡ above (suc h) c → a ≢ above h c → a ≡ siblingFrom h c
+beside-kid h c a e p d = go (c / 2 ^ h % 2) refl (child-cases h a e)
   where
-    go : (r : ℕ) → c / 2 ^ h % 2 ≡ r → (a ≡ above (suc h) a) ⊎ (a ≡ above (suc h) a + 2 ^ h) → a ≡ other c h (above (suc h) c)
+    go : (r : ℕ) → c / 2 ^ h % 2 ≡ r → (a ≡ above (suc h) a) ⊎ (a ≡ above (suc h) a + 2 ^ h) → a ≡ siblingFrom h c
     go zero f (inl q) = absurd (d (q ∙ p ∙ above-left h c f))
-    go zero f (inr q) = omega (arith, q, p, other-left h c f, above-left h c f)
-    go (suc r) f (inl q) = omega (arith, q, p, other-right h c (omega arith), above-right h c (omega arith))
+    go zero f (inr q) = omega (arith, q, p, beside-left h c f, above-left h c f)
+    go (suc r) f (inl q) = omega (arith, q, p, beside-right h c (omega arith), above-right h c (omega arith))
     go (suc r) f (inr q) = absurd (d (omega (arith, q, p, above-right h c (omega arith))))
 
 -- ---- tests on heights
@@ -87,7 +89,7 @@ module _ (A : Type 0) (put : Put) (look : List ℕ → ℕ → A) (shows : List 
     room-path (suc t) l R = keeps _ _ _ (keeps _ _ _ (room-path t l R))
 
     pub path-shows : (t : ℕ) (l : List ℕ) → Room l
-        → ((h : ℕ) → h < t → (bin h (above h c) < M) × (bin h (other c h (above (suc h) c)) < M))
+        → ((h : ℕ) → h < t → (bin h (above h c) < M) × (bin h (siblingFrom h c) < M))
         → (k a : ℕ) → above k a ≡ a
         → look (putPath put own got c t l) (bin k a) ≡ pick (onPath c t k a) (pick (eqb a (above k c)) (shows (own k)) (shows (got k a))) (look l (bin k a))
     unfolding putPath
@@ -101,14 +103,14 @@ module _ (A : Type 0) (put : Put) (look : List ℕ → ℕ → A) (shows : List 
         b1 = bin t (above t c)
 
         b2 : ℕ
-        b2 = bin t (other c t (above (suc t) c))
+        b2 = bin t (siblingFrom t c)
 
         Goal : ℕ → Type 0
-        Goal j = look (put (put P b1 (own t)) b2 (got t (other c t (above (suc t) c)))) (bin j a)
+        Goal j = look (put (put P b1 (own t)) b2 (got t (siblingFrom t c))) (bin j a)
             ≡ pick (onPath c (suc t) j a) (pick (eqb a (above j c)) (shows (own j)) (shows (got j a))) (look l (bin j a))
 
-        skip : (b : ℕ) → b ≢ b1 → b ≢ b2 → look (put (put P b1 (own t)) b2 (got t (other c t (above (suc t) c)))) b ≡ look P b
-        skip b x y = at-other (put P b1 (own t)) b2 b (got t (other c t (above (suc t) c))) y ∙ at-other P b1 b (own t) x
+        skip : (b : ℕ) → b ≢ b1 → b ≢ b2 → look (put (put P b1 (own t)) b2 (got t (siblingFrom t c))) b ≡ look P b
+        skip b x y = at-other (put P b1 (own t)) b2 b (got t (siblingFrom t c)) y ∙ at-other P b1 b (own t) x
 
         level : above t a ≡ a → look P (bin t a) ≡ look l (bin t a) → Goal t
         level al ih = cases (ℕ-discrete (above (suc t) a) (above (suc t) c)) (ℕ-discrete a (above t c))
@@ -118,24 +120,24 @@ module _ (A : Type 0) (put : Put) (look : List ℕ → ℕ → A) (shows : List 
                 rw (ltb-last t, ne-eqb (above (suc t) a) (above (suc t) c) p)
                 (skip (bin t a)
                 (λ z. p (ap (above (suc t)) (bin-eq t a t (above t c) al (above-aligned t c) z .1) ∙ parent-above t c))
-                (λ z. p (ap (above (suc t)) (bin-eq t a t (other c t (above (suc t) c)) al (other-aligned t c) z .1) ∙ other-parent t c))
+                (λ z. p (ap (above (suc t)) (bin-eq t a t (siblingFrom t c) al (beside-aligned t c) z .1) ∙ beside-parent t c))
                 ∙ ih)
             cases (yes p) (yes q) =
                 rw (ltb-last t, eq-eqb (above (suc t) a) (above (suc t) c) p, eq-eqb a (above t c) q)
-                (ap (look (put (put P b1 (own t)) b2 (got t (other c t (above (suc t) c))))) (ap (bin t) q)
-                ∙ at-other (put P b1 (own t)) b2 b1 (got t (other c t (above (suc t) c))) (λ z. own-not-other t c (bin-eq t (above t c) t (other c t (above (suc t) c)) (above-aligned t c) (other-aligned t c) z .1))
+                (ap (look (put (put P b1 (own t)) b2 (got t (siblingFrom t c)))) (ap (bin t) q)
+                ∙ at-other (put P b1 (own t)) b2 b1 (got t (siblingFrom t c)) (λ z. own-not-beside t c (bin-eq t (above t c) t (siblingFrom t c) (above-aligned t c) (beside-aligned t c) z .1))
                 ∙ at-same P b1 (own t) (room-path t l R) (i t (omega arith) .0) (own-digest t))
             cases (yes p) (no q) =
-                let o = other-kid t c a al p q in
+                let o = beside-kid t c a al p q in
                 rw (ltb-last t, eq-eqb (above (suc t) a) (above (suc t) c) p, ne-eqb a (above t c) q)
-                (ap (look (put (put P b1 (own t)) b2 (got t (other c t (above (suc t) c))))) (ap (bin t) o)
-                ∙ at-same (put P b1 (own t)) b2 (got t (other c t (above (suc t) c))) (keeps P b1 (own t) (room-path t l R)) (i t (omega arith) .1) (got-digest t (other c t (above (suc t) c)))
+                (ap (look (put (put P b1 (own t)) b2 (got t (siblingFrom t c)))) (ap (bin t) o)
+                ∙ at-same (put P b1 (own t)) b2 (got t (siblingFrom t c)) (keeps P b1 (own t) (room-path t l R)) (i t (omega arith) .1) (got-digest t (siblingFrom t c))
                 ∙ ap (λ (x : ℕ). shows (got t x)) (sym o))
 
         go : Dec (k ≡ t) → look P (bin k a) ≡ pick (onPath c t k a) (pick (eqb a (above k c)) (shows (own k)) (shows (got k a))) (look l (bin k a)) → Goal k
         go (no d) ih =
             rw (ltb-more k t d)
-            (skip (bin k a) (λ z. d (bin-eq k a t (above t c) e (above-aligned t c) z .0)) (λ z. d (bin-eq k a t (other c t (above (suc t) c)) e (other-aligned t c) z .0)) ∙ ih)
+            (skip (bin k a) (λ z. d (bin-eq k a t (above t c) e (above-aligned t c) z .0)) (λ z. d (bin-eq k a t (siblingFrom t c) e (beside-aligned t c) z .0)) ∙ ih)
         go (yes q) ih = subst Goal (sym q) (level (rw q at e) (rw (q, ltb-none t) at ih))
 
   -- ---- the peaks of N

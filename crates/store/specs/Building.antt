@@ -1,15 +1,16 @@
--- Starting a store in its rooms, and building a whole one from its content (01, "What a store works under"). Assumes nothing.
+-- Starting a store in its rooms, and building a whole one from its content (01, "What a store works under"). Assumes
+-- nothing.
 use Prim.Native.Nat.{ℕ, zero, suc, _*_, _/_, _^_}
-use mathlib.Core.List.{List}
+use mathlib.Core.List.{List, [], _∷_, _++_}
 use lib.ListN.{length}
 use Rattle.bits.proofs.Promise.{setBit, setRange, clearWords, rowWords}
 use Rattle.hash.proofs.Promise.{sha256}
-use Rattle.tree.specs.Bin.{bin}
+use Rattle.tree.specs.Node.{Node, node}
 use Rattle.tree.specs.Pack.{levels, leafPlaces, rootNode}
 use Rattle.tree.specs.Tree.{tree, root}
 use Rattle.verdict.specs.Room.{filler, putHash}
 use Rattle.verdict.specs.Rooms.{Rooms, countOf, chunkIn}
-use Rattle.store.specs.Storing.{Put, mark, copied}
+use Rattle.store.specs.Storing.{mark, putEach, copied}
 
 -- A row of n bits cleared, in whole words.
 abbrev pub clearRow : List ℕ → ℕ → List ℕ
@@ -33,25 +34,26 @@ treeOf s = tree sha256 filler (countOf (length s)) (chunkIn (length s) s)
 unfoldable pub rootOf : List ℕ → List ℕ
 rootOf s = root sha256 filler (countOf (length s)) (chunkIn (length s) s)
 
--- The first k nodes of height h.
-unfoldable pub putLevel : Put → (ℕ → ℕ → List ℕ) → ℕ → ℕ → List ℕ → List ℕ
-putLevel put got h zero l = l
-putLevel put got h (suc k) l = put (putLevel put got h k l) (bin h (k * 2 ^ h)) (got h (k * 2 ^ h))
+-- The first k nodes of height h,
+unfoldable pub level : ℕ → ℕ → List Node
+level h zero = []
+level h (suc k) = node h (k * 2 ^ h) ∷ level h k
 
--- Every node wholly inside 0..N-1, of heights below k.
-unfoldable pub putLevels : Put → (ℕ → ℕ → List ℕ) → ℕ → ℕ → List ℕ → List ℕ
-putLevels put got N zero l = l
-putLevels put got N (suc h) l = putLevel put got h (N / 2 ^ h) (putLevels put got N h l)
+-- and every node wholly inside 0..N-1, of heights below k.
+unfoldable pub inside : ℕ → ℕ → List Node
+inside N zero = []
+inside N (suc h) = level h (N / 2 ^ h) ++ inside N h
+
+-- The root, and every node wholly inside the pack.
+abbrev pub builtNodes : ℕ → List Node
+builtNodes N = node (levels N) 0 ∷ inside N (suc (levels N))
 
 -- Built: the content is copied, the N map bits are set, and the hashes of the root and of every node wholly inside the
 -- pack are written and trusted, no others; the rest is as after starting.
-abbrev pub builtOf : ℕ → Rooms → List ℕ → Rooms
-builtOf N w s = record {
+unfoldable pub buildRooms : Rooms → ℕ → List ℕ → Rooms
+buildRooms w N s = record {
   bytes = copied (w .bytes) 0 s;
   map = setRange (clearRow (w .map) N) 0 N;
-  hashes = putHash (putLevels putHash (treeOf s) N (suc (levels N)) (w .hashes)) (rootNode N) (rootOf s);
-  trusted = setBit (putLevels mark (treeOf s) N (suc (levels N)) (clearRow (w .trusted) (2 * leafPlaces N))) (rootNode N);
+  hashes = putEach putHash (treeOf s) (builtNodes N) (w .hashes);
+  trusted = putEach mark (treeOf s) (builtNodes N) (clearRow (w .trusted) (2 * leafPlaces N));
 }
-
-unfoldable pub buildRooms : Rooms → List ℕ → Rooms
-buildRooms w s = builtOf (countOf (length s)) w s

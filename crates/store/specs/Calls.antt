@@ -1,61 +1,39 @@
--- The calls on the rooms: for every input the number given back and the rooms afterwards. Assumes nothing.
-use Prim.Native.Nat.{ℕ, zero, suc}
-use mathlib.Core.Bool.{not}
+-- The calls on the rooms: for every input the number given back and the rooms afterwards; none has a reply. Assumes
+-- nothing.
+use Prim.Native.Nat.{ℕ}
 use mathlib.Core.List.{List}
-use lib.Dec.{eqb}
 use lib.ListN.{length}
-use Rattle.tree.specs.Verdicts.{number}
+use Rattle.hash.proofs.Promise.{sha256}
+use Rattle.base.specs.Out.{Out, outOf, unless}
+use Rattle.tree.specs.Verdicts.{number, reached, verdict}
 use Rattle.verdict.specs.Room.{filler}
-use Rattle.verdict.specs.Integrity.{Integrity}
-use Rattle.verdict.specs.Rooms.{Rooms, countOf}
-use Rattle.verdict.specs.Verdict.{roomVerdict}
-use Rattle.store.specs.Storing.{storeSpec, roomsBy}
+use Rattle.verdict.specs.Integrity.{Integrity, cameFrom}
+use Rattle.verdict.specs.Rooms.{Rooms, countOf, stateOf}
+use Rattle.store.specs.Storing.{storeSpec}
 use Rattle.store.specs.Building.{startRooms, buildRooms}
-use Rattle.store.specs.Answers.{refuse, earlier, lengthAnswer, roomAnswer, orderAnswer, chunkAnswer}
-
--- What a call gives back, and the rooms that it leaves.
-pub record Out : Type 0 where
-  pub answer : ℕ
-  pub rooms : Rooms
-
-abbrev pub outOf : ℕ → Rooms → Out
-outOf n w = record { answer = n; rooms = w }
-
--- A call refused with a number alters nothing; with 0 it gives what follows.
-abbrev pub unless : ℕ → Rooms → Out → Out
-unless zero old out = out
-unless (suc n) old out = outOf (suc n) old
-
--- What follows where nothing else can refuse: the answer 0 and the new rooms.
-abbrev pub decide : ℕ → Rooms → Rooms → Out
-decide n old new = unless n old (outOf 0 new)
+use Rattle.store.specs.Answers.{earlier, lengthAnswer, contentAnswer, roomAnswer, orderAnswer, chunkAnswer}
 
 -- The rooms, by their lengths, for an order of length L.
 abbrev pub roomsAnswer : ℕ → Rooms → ℕ
 roomsAnswer L w = orderAnswer L (length (w .bytes)) (length (w .map)) (length (w .hashes)) (length (w .trusted))
 
 -- Starting a store under root r and length L.
-unfoldable pub startSpec : Rooms → List ℕ → ℕ → Out
-startSpec w r L = decide (roomsAnswer L w) w (startRooms w (countOf L) r)
+unfoldable pub startSpec : Rooms → List ℕ → ℕ → Out Rooms
+startSpec w r L = unless (roomsAnswer L w) w (outOf 0 0 (startRooms w (countOf L) r))
 
 -- Building a store of length L from content s: 12 also where the content has another length.
 unfoldable pub buildAnswer : ℕ → ℕ → ℕ → ℕ → ℕ → ℕ → ℕ
-buildAnswer L n b m h t = earlier (earlier (lengthAnswer L) (refuse (not (eqb n L)) 12 0)) (roomAnswer L b m h t)
+buildAnswer L n b m h t = earlier (earlier (lengthAnswer L) (contentAnswer L n)) (roomAnswer L b m h t)
 
-unfoldable pub buildSpec : Rooms → ℕ → List ℕ → Out
-buildSpec w L s = decide (buildAnswer L (length s) (length (w .bytes)) (length (w .map)) (length (w .hashes)) (length (w .trusted))) w (buildRooms w s)
+unfoldable pub buildSpec : Rooms → ℕ → List ℕ → Out Rooms
+buildSpec w L s =
+    unless (buildAnswer L (length s) (length (w .bytes)) (length (w .map)) (length (w .hashes)) (length (w .trusted))) w
+    (outOf 0 0 (buildRooms w (countOf (length s)) s))
 
--- The root that a built store is ordered under; a refused building finds none and gives the filler.
-abbrev pub foundRoot : ℕ → List ℕ → List ℕ
-foundRoot zero r = r
-foundRoot (suc n) r = filler
-
--- Taking chunk c of N with the bytes d and the hashes that came with it, by the verdict: 9, 10, or it is stored.
-unfoldable pub storeIfFits : Rooms → List ℕ → ℕ → ℕ → List ℕ → Integrity → Out
-storeIfFits w r N c d o =
-    outOf (number (roomVerdict N r (w .hashes) (w .trusted) c d o))
-    (roomsBy (roomVerdict N r (w .hashes) (w .trusted) c d o) w (λ t. storeSpec w N c t d o))
-
--- Before that 12, 11, 7 and 8.
-unfoldable pub takeSpec : Rooms → List ℕ → ℕ → ℕ → List ℕ → Integrity → Out
-takeSpec w r L c d o = unless (earlier (roomsAnswer L w) (chunkAnswer L c (length d))) w (storeIfFits w r (countOf L) c d o)
+-- Taking chunk c with the bytes d and the hashes that came with it: 12, 11, 7, 8, then by the verdict 9 or 10, or it
+-- is stored below the first node that counts as trusted.
+unfoldable pub takeSpec : Rooms → List ℕ → ℕ → ℕ → List ℕ → Integrity → Out Rooms
+takeSpec w r L c d o =
+    unless (earlier (earlier (roomsAnswer L w) (chunkAnswer L c (length d)))
+    (number (verdict sha256 filler (countOf L) r (stateOf L w) c d (cameFrom o)))) w
+    (outOf 0 0 (storeSpec w (countOf L) c (reached (countOf L) (stateOf L w) c) d o))

@@ -1,5 +1,5 @@
-pub mod Steps
 pub mod Storing
+pub mod Steps
 pub mod Building
 pub mod Answers
 pub mod Calls

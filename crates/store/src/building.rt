@@ -9,9 +9,9 @@ ghost use Rattle.tree.specs.Bin.{bin};
 ghost use Rattle.tree.specs.Pack.{chunkSize, levels, leafPlaces};
 ghost use Rattle.verdict.specs.Room.{putHash};
 ghost use Rattle.verdict.specs.Rooms.{roomsOf, countOf, chunkIn};
-ghost use Rattle.store.specs.Steps.{Filled};
+ghost use Rattle.store.specs.Steps.{Filled, putLevel, putLevels};
 ghost use Rattle.store.specs.Storing.{mark};
-ghost use Rattle.store.specs.Building.{clearRow, startRooms, treeOf, rootOf, putLevel, putLevels, buildRooms};
+ghost use Rattle.store.specs.Building.{clearRow, startRooms, treeOf, rootOf, buildRooms};
 use crate::storing;
 use hash::message;
 use hash::node;
@@ -154,7 +154,7 @@ pub fn build(
     ensures { λ r. ⌜ (bytesOf (r .words) ≡ rootOf (now (content .entry)))
         × (roomsOf (now (chunks .exit)) (now (map .exit)) (now (hashes .exit)) (now (trusted .exit))
         ≡ buildRooms (roomsOf (now (chunks .entry)) (now (map .entry)) (now (hashes .entry)) (now (trusted .entry)))
-        (now (content .entry))) ⌝ }
+        (countOf (length (now (content .entry)))) (now (content .entry))) ⌝ }
 {
     let top = tree::pack::levels(n);
     let w = tree::bin::pow2(top);

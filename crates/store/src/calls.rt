@@ -7,22 +7,19 @@ ghost use Rattle.hash.proofs.Promise.{bytesOf};
 ghost use Rattle.tree.specs.Pack.{chunkSize};
 ghost use Rattle.verdict.specs.Integrity.{integrityOf};
 ghost use Rattle.verdict.specs.Rooms.{roomsOf, countOf};
-ghost use Rattle.verdict.specs.Verdict.{roomVerdict};
+ghost use Rattle.verdict.specs.Steps.{roomVerdict};
 ghost use Rattle.store.specs.Building.{rootOf};
-ghost use Rattle.store.specs.Calls.{outOf, startSpec, buildSpec, foundRoot, storeIfFits, takeSpec};
+ghost use Rattle.store.specs.Calls.{startSpec, buildSpec, takeSpec};
+ghost use Rattle.store.specs.Steps.{foundRoot, storeIfFits};
+ghost use Rattle.base.specs.Out.{outOf};
 use crate::answers;
 use crate::building;
 use crate::storing;
 use hash::value;
 use hash::value::HashValue;
+use order::Order;
 use tree::verdict::Verdict;
 use verdict::verdicts;
-
-// What a store works under: the root's hash and the pack's length.
-pub struct Order {
-    pub root: HashValue,
-    pub length: u32,
-}
 
 // What building gives back: its answer and the root found; the filler where it was refused.
 pub struct Built {
@@ -38,7 +35,7 @@ pub fn start(
     hashes: &mut [u32],
     trusted: &mut [u32],
 ) -> u32
-    ensures { λ r. ⌜ outOf r
+    ensures { λ r. ⌜ outOf r 0
         (roomsOf (now (chunks .entry)) (now (map .exit)) (now (hashes .exit)) (now (trusted .exit)))
         ≡ startSpec (roomsOf (now (chunks .entry)) (now (map .entry)) (now (hashes .entry)) (now (trusted .entry)))
         (bytesOf (order .root .words)) (order .length) ⌝ }
@@ -68,7 +65,7 @@ pub fn build(
     trusted: &mut [u32],
     content: &[u8],
 ) -> Built
-    ensures { λ r. ⌜ (outOf (r .answer)
+    ensures { λ r. ⌜ (outOf (r .answer) 0
         (roomsOf (now (chunks .exit)) (now (map .exit)) (now (hashes .exit)) (now (trusted .exit)))
         ≡ buildSpec (roomsOf (now (chunks .entry)) (now (map .entry)) (now (hashes .entry)) (now (trusted .entry)))
         length (now (content .entry)))
@@ -139,7 +136,8 @@ fn store_if_fits(
     bytes: &[u8],
 ) -> u32
     requires { ⌜ (c < n) × (chunkSize * c + length (now chunk) ≤ length (now chunks)) ⌝ }
-    ensures { λ r. ⌜ outOf r (roomsOf (now (chunks .exit)) (now (map .exit)) (now (hashes .exit)) (now (trusted .exit)))
+    ensures { λ r. ⌜ outOf r 0
+        (roomsOf (now (chunks .exit)) (now (map .exit)) (now (hashes .exit)) (now (trusted .exit)))
         ≡ storeIfFits (roomsOf (now (chunks .entry)) (now (map .entry)) (now (hashes .entry)) (now (trusted .entry)))
         (bytesOf (root .words)) n c (now (chunk .entry)) (integrityOf (now (entries .entry)) (now (bytes .entry))) ⌝ }
 {
@@ -189,7 +187,8 @@ pub fn take(
     entries: &[u64],
     bytes: &[u8],
 ) -> u32
-    ensures { λ r. ⌜ outOf r (roomsOf (now (chunks .exit)) (now (map .exit)) (now (hashes .exit)) (now (trusted .exit)))
+    ensures { λ r. ⌜ outOf r 0
+        (roomsOf (now (chunks .exit)) (now (map .exit)) (now (hashes .exit)) (now (trusted .exit)))
         ≡ takeSpec (roomsOf (now (chunks .entry)) (now (map .entry)) (now (hashes .entry)) (now (trusted .entry)))
         (bytesOf (order .root .words)) (order .length) c (now (chunk .entry))
         (integrityOf (now (entries .entry)) (now (bytes .entry))) ⌝ }

@@ -6,15 +6,17 @@ ghost use Rattle.bits.proofs.Promise.{setBit};
 ghost use Rattle.hash.proofs.Promise.{bytesOf, sha256};
 ghost use Rattle.base.specs.Pick.{pick};
 ghost use Rattle.tree.specs.Bin.{bin};
-ghost use Rattle.tree.specs.Node.{above, other};
+ghost use Rattle.tree.specs.Node.{above, siblingFrom};
 ghost use Rattle.tree.specs.Pack.{chunkSize, levels};
-ghost use Rattle.tree.specs.Peaks.{peaks, peakBit};
+ghost use Rattle.tree.specs.Peaks.{peaks};
+ghost use Rattle.tree.specs.Steps.{peakBit};
 ghost use Rattle.tree.specs.Verdicts.{every};
 ghost use Rattle.verdict.specs.Room.{hashIn, putHash};
 ghost use Rattle.verdict.specs.Integrity.{integrityOf};
-ghost use Rattle.verdict.specs.Rooms.{roomsOf, trustedIn, gotBy};
-ghost use Rattle.store.specs.Steps.{Climbed};
-ghost use Rattle.store.specs.Storing.{mark, putIf, putPeaks, putPath, copied, stored, storeSpec};
+ghost use Rattle.verdict.specs.Rooms.{roomsOf};
+ghost use Rattle.verdict.specs.Steps.{trustedIn, gotBy};
+ghost use Rattle.store.specs.Steps.{Climbed, putIf, putPeaks, putPath};
+ghost use Rattle.store.specs.Storing.{mark, copied, stored, storeSpec};
 use hash::value::HashValue;
 use tree::pack::CHUNK_SIZE;
 use verdict::integrity;
@@ -122,10 +124,10 @@ fn put_pair(
     requires { ⌜ h < 59 ⌝ }
     ensures { λ _. ⌜ (now (hashes .exit)
         ≡ putHash (putHash (now (hashes .entry)) (bin h (above h c)) (bytesOf (own .words)))
-        (bin h (other c h (above (suc h) c)))
-        (gotBy (integrityOf (now (entries .entry)) (now (bytes .entry))) h (other c h (above (suc h) c))))
+        (bin h (siblingFrom h c))
+        (gotBy (integrityOf (now (entries .entry)) (now (bytes .entry))) h (siblingFrom h c)))
         × (now (trusted .exit)
-        ≡ setBit (setBit (now (trusted .entry)) (bin h (above h c))) (bin h (other c h (above (suc h) c)))) ⌝ }
+        ≡ setBit (setBit (now (trusted .entry)) (bin h (above h c))) (bin h (siblingFrom h c))) ⌝ }
 {
     let b = tree::peaks::node(c, h);
     trust(hashes, trusted, b, own);

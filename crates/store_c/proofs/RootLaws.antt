@@ -6,21 +6,22 @@ use Prim.Native.Nat.{ℕ, zero, suc}
 use native.Mathlib.Omega.{arith}
 use borrow.Author.Tests.{eq-eqb, ne-eqb}
 use lib.ListN.{length}
+use Rattle.base.specs.Out.{Out, outOf}
 use Rattle.verdict.specs.Room.{putHash}
-use Rattle.store.proofs.Promise.{Rooms, Out, outOf, foundRoot}
-use Rattle.store_c.specs.Root.{rooted, rootIn, rootPut}
+use Rattle.store.proofs.Promise.{Rooms, hashIn, foundRoot}
+use Rattle.store_c.specs.Root.{rooted, rootPut}
 
-pub rooted-not : (root : List ℕ) (w : Rooms) (out : Out) → length root ≢ 8 → outOf 11 w ≡ rooted root w out
+pub rooted-not : (root : List ℕ) (w : Rooms) (out : Out Rooms) → length root ≢ 8 → outOf 11 0 w ≡ rooted root w out
 unfolding rooted
 rooted-not root w out d = rw (ne-eqb (length root) 8 d)
 
-pub rooted-done : (root : List ℕ) (w : Rooms) {got out : Out} → length root ≡ 8 → got ≡ out → got ≡ rooted root w out
+pub rooted-done : (root : List ℕ) (w : Rooms) {got out : Out Rooms} → length root ≡ 8 → got ≡ out → got ≡ rooted root w out
 unfolding rooted
 rooted-done root w e g = rw (eq-eqb (length root) 8 e, g)
 
 -- the same where the call f was given the bytes v of the root's words
-pub rooted-by : (f : List ℕ → Out) (root : List ℕ) (w : Rooms) {v : List ℕ} {got : Out}
-    → length root ≡ 8 → v ≡ rootIn root → got ≡ f v → got ≡ rooted root w (f (rootIn root))
+pub rooted-by : (f : List ℕ → Out Rooms) (root : List ℕ) (w : Rooms) {v : List ℕ} {got : Out Rooms}
+    → length root ≡ 8 → v ≡ hashIn root 0 → got ≡ f v → got ≡ rooted root w (f (hashIn root 0))
 rooted-by f root w e v g = rooted-done root w e (g ∙ ap f v)
 
 pub put-not : (n : ℕ) (root found : List ℕ) → n ≢ 0 → root ≡ rootPut n root found

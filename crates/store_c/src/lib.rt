@@ -1,13 +1,14 @@
 // The calls of the crate store for C and Rust, on numbers and slices alone: what the comparisons and the benchmark
 // link. An order's root is eight words; a call with another number of them is refused with 11, before all else.
 ghost use mathlib.Core.Path.{_≡_};
-ghost use Rattle.store.proofs.Promise.{roomsOf, integrityOf, rootOf, outOf, startSpec, buildSpec, takeSpec};
-ghost use Rattle.store_c.specs.Root.{rooted, rootIn, rootPut};
+ghost use Rattle.base.specs.Out.{outOf};
+ghost use Rattle.store.proofs.Promise.{hashIn, roomsOf, integrityOf, rootOf, startSpec, buildSpec, takeSpec};
+ghost use Rattle.store_c.specs.Root.{rooted, rootPut};
 
 pub mod nodes;
 
+use order::Order;
 use store::calls;
-use store::calls::Order;
 use verdict::room;
 
 // Starts a store under an order.
@@ -20,12 +21,12 @@ pub extern "C" fn store_start(
     hashes: &mut [u32],
     trusted: &mut [u32],
 ) -> u32
-    ensures { λ r. ⌜ outOf r
+    ensures { λ r. ⌜ outOf r 0
         (roomsOf (now (chunks .entry)) (now (map .exit)) (now (hashes .exit)) (now (trusted .exit)))
         ≡ rooted (now (root .entry))
         (roomsOf (now (chunks .entry)) (now (map .entry)) (now (hashes .entry)) (now (trusted .entry)))
         (startSpec (roomsOf (now (chunks .entry)) (now (map .entry)) (now (hashes .entry)) (now (trusted .entry)))
-        (rootIn (now (root .entry))) length) ⌝ }
+        (hashIn (now (root .entry)) 0) length) ⌝ }
 {
     if root.len() != 8 {
         return 11;
@@ -48,7 +49,7 @@ pub extern "C" fn store_build(
     trusted: &mut [u32],
     content: &[u8],
 ) -> u32
-    ensures { λ r. ⌜ (outOf r
+    ensures { λ r. ⌜ (outOf r 0
         (roomsOf (now (chunks .exit)) (now (map .exit)) (now (hashes .exit)) (now (trusted .exit)))
         ≡ rooted (now (root .entry))
         (roomsOf (now (chunks .entry)) (now (map .entry)) (now (hashes .entry)) (now (trusted .entry)))
@@ -83,11 +84,12 @@ pub extern "C" fn store_take(
     entries: &[u64],
     bytes: &[u8],
 ) -> u32
-    ensures { λ r. ⌜ outOf r (roomsOf (now (chunks .exit)) (now (map .exit)) (now (hashes .exit)) (now (trusted .exit)))
+    ensures { λ r. ⌜ outOf r 0
+        (roomsOf (now (chunks .exit)) (now (map .exit)) (now (hashes .exit)) (now (trusted .exit)))
         ≡ rooted (now (root .entry))
         (roomsOf (now (chunks .entry)) (now (map .entry)) (now (hashes .entry)) (now (trusted .entry)))
         (takeSpec (roomsOf (now (chunks .entry)) (now (map .entry)) (now (hashes .entry)) (now (trusted .entry)))
-        (rootIn (now (root .entry))) length c (now (chunk .entry))
+        (hashIn (now (root .entry)) 0) length c (now (chunk .entry))
         (integrityOf (now (entries .entry)) (now (bytes .entry)))) ⌝ }
 {
     if root.len() != 8 {

@@ -2,7 +2,7 @@
 ghost use mathlib.Core.Path.{_≡_};
 ghost use lib.ListN.{length};
 ghost use Rattle.tree.specs.Bin.{height, first, last};
-ghost use Rattle.tree.specs.Node.{parent, sibling};
+ghost use Rattle.tree.specs.Steps.{parent, sibling};
 ghost use Rattle.tree.specs.Pack.{chunkSize, chunks, size, leafPlaces, rootNode};
 ghost use Rattle.tree.specs.Peaks.{peaks, sent};
 ghost use Rattle.tree.specs.Steps.{listed};

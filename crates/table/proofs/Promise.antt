@@ -1,33 +1,24 @@
--- What the crates above know of this one: of its definitions the names passed on here, that a row put back changes nothing,
--- that a table keeps its number of rows, and which numbers it can give. Assumes nothing.
+-- What the crates above know of this one: of its definitions the names passed on here, what is read from words after a row
+-- or an order was put, and which numbers the table can give. Assumes nothing.
 use Prim.Native.Nat.{ℕ}
-use mathlib.Core.Path.{_≡_, refl, ap}
+use mathlib.Core.Path.{_≡_, refl}
 use mathlib.Core.Logic.{_≢_, _⊎_}
 use mathlib.Core.Bool.{Bool, true}
 use mathlib.Core.List.{List, [], _∷_}
-use lib.ListN.{length, getD, length-set}
-use lib.Seq.{set-getD}
+use lib.ListN.{getD}
 use Rattle.base.specs.Among.{OneOf}
 use Rattle.table.specs.declared.rows.Row.{Row}
-use Rattle.table.specs.declared.rows.Table.{Table}
 use Rattle.table.proofs.NumberLaws as numbers
-pub use Rattle.table.specs.Rows.{rowCount, freeRow, freeTable, lowestFree, rowOf, openRowOf, rowAt, withRow, rowAfter}
+pub use Rattle.table.specs.Rows.{rowCount, freeRow, lowestFree, rowOf, openRowOf, rowAt, rowAfter}
 pub use Rattle.table.specs.Answers.{openAnswer, messagesAnswer, handshakeAnswer, writeAnswer}
+pub use Rattle.table.specs.Words.{layoutVersion, stateWords, flag, rowsIn, putRow, orderIn, freshWords}
+pub use Rattle.table.proofs.RowWordLaws.{rows-length, peer-fits, flag-same, put-row-same, put-row-rows, put-row-order, put-row-length}
+pub use Rattle.table.proofs.OrderLaws.{root-eight, fresh-order, fresh-rows, fresh-length}
 
 -- The row at a place; past the table a free one.
 pub row-at : (rs : List Row) (i : ℕ) → rowAt rs i ≡ getD rs i freeRow
 unfolding rowAt
 row-at rs i = refl
-
--- A table with its own row at a place is that table.
-pub row-put-back : (t : Table) (i : ℕ) → withRow t i (rowAt (t .rows) i) ≡ t
-unfolding withRow rowAt
-row-put-back t i = ap (λ (rs : List Row). record { rows = rs }) (set-getD (t .rows) i freeRow)
-
--- A table with another row at a place has as many rows.
-pub with-row-length : (t : Table) (i : ℕ) (r : Row) → length (withRow t i r .rows) ≡ length (t .rows)
-unfolding withRow
-with-row-length t i r = length-set (t .rows) i r
 
 -- ---- the numbers that it can give
 

@@ -3,13 +3,12 @@
 use Prim.Native.Nat.{ℕ, suc}
 use mathlib.Core.List.{List, [], _∷_}
 use mathlib.Core.Bool.{Bool, true, false}
-use lib.ListN.{getD, set, replicate}
+use lib.ListN.{getD}
 use lib.Dec.{eqb}
 use Rattle.base.specs.Pick.{pick}
 use Rattle.table.specs.declared.rows.Phase.{Phase}
 use Rattle.table.specs.declared.rows.Phase.the-variants.{Free, Calling, Open}
 use Rattle.table.specs.declared.rows.Row.{Row}
-use Rattle.table.specs.declared.rows.Table.{Table}
 use Rattle.table.specs.declared.rows.Search.{Search}
 use Rattle.table.specs.declared.rows.Search.the-variants.{InUse}
 use Rattle.table.specs.declared.rows.Search.the-variants as Search
@@ -32,10 +31,6 @@ isOpen Open = true
 -- A row's record as after starting.
 abbrev pub freeRow : Row
 freeRow = record { phase = Free; id = 0; peer = 0; choked = false }
-
--- The table after starting.
-abbrev pub freeTable : Table
-freeTable = record { rows = replicate rowCount freeRow }
 
 -- The place of the first row that passes a test; how many rows there are where none does.
 unfoldable pub firstRow : (Row → Bool) → List Row → ℕ
@@ -61,10 +56,6 @@ openRowOf rs id = firstRow (passes (Search.Open id)) rs
 -- The row at a place; past the table a free one.
 unfoldable pub rowAt : List Row → ℕ → Row
 rowAt rs i = getD rs i freeRow
-
--- The table with a row at a place.
-unfoldable pub withRow : Table → ℕ → Row → Table
-withRow t i r = record { rows = set (t .rows) i r }
 
 -- A row in use after a HANDSHAKE from the source a: to a calling channel it opens it; to an open one it changes nothing,
 -- unless it closes, which its source 0 says: the row is freed.

@@ -5,29 +5,29 @@ use mathlib.Core.Path.{_≡_, refl, sym, ap, _∙_}
 use mathlib.Core.List.{List, [], _∷_}
 use mathlib.Core.Bool.{Bool, true, false, true≢false}
 use lib.Dec.{ltb}
-use lib.ListN.{length, take, drop, length-drop}
+use lib.ListN.{length}
 use borrow.Author.Tests.{lt-ltb, le-ltb, ltb-true}
 use Rattle.base.specs.Pick.{pick}
 use Rattle.script.proofs.Promise.{Filled, filled, lineSize, fits, bound-fits}
 use Rattle.trace.specs.Session.{Replay}
-use Rattle.trace.specs.Stream.{Stream, streamOf, advanced, goesOn, hasMore, readFrom, readOn, linesOn, answerLines}
-use Rattle.trace.proofs.SessionLaws.{part}
+use Rattle.trace.specs.Stream.{Stream, streamOf, advanced, hasMore, linesOn, answerLines}
 use Rattle.trace.proofs.StreamLaws.{how-far, out-within}
 
 -- ---- whether it goes on
 
 module _ (block read room used reply : ℕ) where
-  pub goes-on : read < block → fits room used reply ≡ goesOn block read room used reply
-  unfolding goesOn
+  -- The test, by numbers.
+  abbrev goesOn : Bool
+  goesOn = pick (ltb read block) (fits room used reply) false
+
+  pub goes-on : read < block → fits room used reply ≡ goesOn
   goes-on h = rw (lt-ltb read block h)
 
-  pub goes-not : block ≤ read → false ≡ goesOn block read room used reply
-  unfolding goesOn
+  pub goes-not : block ≤ read → false ≡ goesOn
   goes-not h = rw (le-ltb read block h)
 
   -- Where it does, something is left, and an answer's line fits.
-  pub more-means : goesOn block read room used reply ≡ true → (read < block) × (fits room used reply ≡ true)
-  unfolding goesOn
+  pub more-means : goesOn ≡ true → (read < block) × (fits room used reply ≡ true)
   more-means = go (ltb read block) refl
     where
       go : (b : Bool) → ltb read block ≡ b → pick b (fits room used reply) false ≡ true → (read < block) × (fits room used reply ≡ true)
@@ -43,26 +43,18 @@ module _ (block : List ℕ) (s : Stream) where
   no-more : length block ≤ s .read → false ≡ hasMore block s
   no-more h = goes-not (length block) (s .read) (length (s .out .room)) (s .out .used) (length (s .replay .world .channels .reply)) h
 
-  -- A step reads at least a byte, and not past the block.
-  step-far : s .read < length block → (s .read < readOn block s .read) × (readOn block s .read ≤ length block)
-  step-far h =
-      let far = how-far (s .replay) (s .line) (drop (s .read) block) (s .out) in
-      let left = length-drop (s .read) block in
-      let some = far .1 (omega arith) in
-      (omega arith, omega (arith, far .0))
-
 -- More steps than there are bytes left change nothing.
 lines-enough : (m n : ℕ) (block : List ℕ) (s : Stream) → length block ≤ s .read + m → length block ≤ s .read + n → linesOn m block s ≡ linesOn n block s
 unfolding linesOn
 lines-enough zero zero block s h k = refl
 lines-enough zero (suc n) block s h k = rw (← no-more block s (omega arith))
 lines-enough (suc m) zero block s h k = rw (← no-more block s (omega arith))
-lines-enough (suc m) (suc n) block s h k = go (hasMore block s) refl (λ f g. lines-enough m n block (readOn block s) f g)
+lines-enough (suc m) (suc n) block s h k = go (hasMore block s) refl (λ f g. lines-enough m n block (advanced block s) f g)
   where
     go : (b : Bool) → hasMore block s ≡ b
-        → (length block ≤ readOn block s .read + m → length block ≤ readOn block s .read + n → linesOn m block (readOn block s) ≡ linesOn n block (readOn block s))
-        → pick b (linesOn m block (readOn block s)) s ≡ pick b (linesOn n block (readOn block s)) s
-    go true e next = let far = step-far block s (more-left block s e) .0 in next (omega arith) (omega arith)
+        → (length block ≤ advanced block s .read + m → length block ≤ advanced block s .read + n → linesOn m block (advanced block s) ≡ linesOn n block (advanced block s))
+        → pick b (linesOn m block (advanced block s)) s ≡ pick b (linesOn n block (advanced block s)) s
+    go true e next = let far = how-far block s (more-left block s e) .0 in next (omega arith) (omega arith)
     go false e next = refl
 
 lines-stop : (n : ℕ) (block : List ℕ) (s : Stream) → hasMore block s ≡ false → s ≡ linesOn n block s
@@ -70,7 +62,7 @@ unfolding linesOn
 lines-stop zero block s e = refl
 lines-stop (suc n) block s e = rw e
 
-lines-step : (n : ℕ) (block : List ℕ) (s : Stream) → hasMore block s ≡ true → linesOn (suc n) block s ≡ linesOn n block (readOn block s)
+lines-step : (n : ℕ) (block : List ℕ) (s : Stream) → hasMore block s ≡ true → linesOn (suc n) block s ≡ linesOn n block (advanced block s)
 unfolding linesOn
 lines-step n block s e = rw e
 
@@ -82,28 +74,19 @@ module _ (block : List ℕ) (s : Stream) where
   pub lines-end : hasMore block s ≡ false → s ≡ rest-done
   lines-end e = lines-stop (length block - s .read) block s e
 
-  -- A step, as the code has the rest of a block.
-  abbrev pub rest-read : Stream
-  rest-read = advanced (s .replay) (s .line) (take (length block - s .read) (drop (s .read) block)) (s .out)
+  pub step-reads : hasMore block s ≡ true → {a : Stream} → a ≡ advanced block s → (s .read < a .read) × (a .read ≤ length block)
+  step-reads e f = rw f (how-far block s (more-left block s e))
 
-  pub step-reads : hasMore block s ≡ true → {a : Stream} → a ≡ rest-read → (0 < a .read) × (s .read + a .read ≤ length block)
-  step-reads e {a} f =
-      let far = step-far block s (more-left block s e) in
-      let g = ap (λ (t : Stream). t .read) (rw (part (s .read) block) at f) in
-      (omega arith, omega (arith, far .1))
-
-  pub lines-again : hasMore block s ≡ true → {a : Stream} → a ≡ rest-read → {n : ℕ} → n ≡ s .read + a .read
-      → linesOn (length block - n) block (streamOf (a .replay) (a .line) n (a .out)) ≡ rest-done
-  lines-again e {a} f g =
-      rw g (ap (λ (t : Stream). linesOn (length block - t .read) block t) (ap (readFrom (s .read)) (rw (part (s .read) block) at f)))
-      ∙ lines-enough (length block - readOn block s .read) fewer block (readOn block s) (omega arith) (omega (arith, far, left))
+  pub lines-again : hasMore block s ≡ true → {a : Stream} → a ≡ advanced block s → linesOn (length block - a .read) block a ≡ rest-done
+  lines-again e f =
+      rw f (lines-enough (length block - advanced block s .read) fewer block (advanced block s) (omega arith) (omega (arith, far, left)))
       ∙ sym (ap (λ (n : ℕ). linesOn n block s) one-more ∙ lines-step fewer block s e)
     where
       left : s .read < length block
       left = more-left block s e
 
-      far : s .read < readOn block s .read
-      far = step-far block s left .0
+      far : s .read < advanced block s .read
+      far = how-far block s left .0
 
       fewer : ℕ
       fewer = length block - s .read - 1
@@ -116,13 +99,13 @@ module _ (block : List ℕ) (s : Stream) where
 lines-far : (n : ℕ) (block : List ℕ) (s : Stream) → s .read ≤ length block → (s .read ≤ linesOn n block s .read) × (linesOn n block s .read ≤ length block)
 unfolding linesOn
 lines-far zero block s h = (omega arith, h)
-lines-far (suc n) block s h = go (hasMore block s) refl (λ k. lines-far n block (readOn block s) k)
+lines-far (suc n) block s h = go (hasMore block s) refl (λ k. lines-far n block (advanced block s) k)
   where
     go : (b : Bool) → hasMore block s ≡ b
-        → (readOn block s .read ≤ length block → (readOn block s .read ≤ linesOn n block (readOn block s) .read) × (linesOn n block (readOn block s) .read ≤ length block))
-        → (s .read ≤ pick b (linesOn n block (readOn block s)) s .read) × (pick b (linesOn n block (readOn block s)) s .read ≤ length block)
+        → (advanced block s .read ≤ length block → (advanced block s .read ≤ linesOn n block (advanced block s) .read) × (linesOn n block (advanced block s) .read ≤ length block))
+        → (s .read ≤ pick b (linesOn n block (advanced block s)) s .read) × (pick b (linesOn n block (advanced block s)) s .read ≤ length block)
     go true e next =
-        let far = step-far block s (more-left block s e) in
+        let far = how-far block s (more-left block s e) in
         let more = next (far .1) in
         (omega arith, more .1)
     go false e next = (omega arith, h)
@@ -130,10 +113,10 @@ lines-far (suc n) block s h = go (hasMore block s) refl (λ k. lines-far n block
 lines-out : (n : ℕ) (block : List ℕ) (s : Stream) → s .out .used ≤ length (s .out .room) → linesOn n block s .out .used ≤ length (linesOn n block s .out .room)
 unfolding linesOn
 lines-out zero block s h = h
-lines-out (suc n) block s h = go (hasMore block s) (lines-out n block (readOn block s) (out-within (s .replay) (s .line) (drop (s .read) block) (s .out) h))
+lines-out (suc n) block s h = go (hasMore block s) (lines-out n block (advanced block s) (out-within block s h))
   where
-    go : (b : Bool) → linesOn n block (readOn block s) .out .used ≤ length (linesOn n block (readOn block s) .out .room)
-        → pick b (linesOn n block (readOn block s)) s .out .used ≤ length (pick b (linesOn n block (readOn block s)) s .out .room)
+    go : (b : Bool) → linesOn n block (advanced block s) .out .used ≤ length (linesOn n block (advanced block s) .out .room)
+        → pick b (linesOn n block (advanced block s)) s .out .used ≤ length (pick b (linesOn n block (advanced block s)) s .out .room)
     go true k = k
     go false k = h
 
@@ -162,8 +145,8 @@ module _ (r : Replay) (line : Filled) (block out : List ℕ) where
       go [] h = absurd (omega arith)
       go (c ∷ s) h =
           let e = sym (goes-on (suc (length s)) 0 (length out) 0 (length (r .world .channels .reply)) h) ∙ bound-fits (length out) 0 (length (r .world .channels .reply)) (omega arith) in
-          let far = step-far (c ∷ s) begun h in
-          rw (lines-step (length s) (c ∷ s) begun e) (omega (arith, lines-far (length s) (c ∷ s) (readOn (c ∷ s) begun) (far .1) .0))
+          let far = how-far (c ∷ s) begun h in
+          rw (lines-step (length s) (c ∷ s) begun e) (omega (arith, lines-far (length s) (c ∷ s) (advanced (c ∷ s) begun) (far .1) .0))
 
   -- The output room is large enough for what is in use of it.
   pub used-within : answerLines r line block out .out .used ≤ length (answerLines r line block out .out .room)

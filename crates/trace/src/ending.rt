@@ -1,7 +1,9 @@
 // The end of the input: the line that has begun, and what stands at the end of the output.
 ghost use mathlib.Core.Path.{_≡_};
+ghost use mathlib.Core.List.{[]};
+ghost use Rattle.channel.proofs.Promise.{worldOf};
 ghost use Rattle.script.proofs.Promise.{filled, appended};
-ghost use Rattle.trace.specs.Session.{replayIn, endAt};
+ghost use Rattle.trace.specs.Session.{replayOf, endAt};
 ghost use Rattle.trace.specs.Stream.{streamOf, inputDone, finished};
 use crate::limits::BAD_FIRST;
 use crate::session::Session;
@@ -9,12 +11,12 @@ use crate::session::Stage;
 use crate::stream;
 use crate::stream::Progress;
 use channel::asking;
-use channel::state::State;
 use script::answers;
 
 // Answers the line that has begun, if one has.
 fn end_input(
     session: Session,
+    state: &mut [u32],
     chunks: &mut [u8],
     map: &mut [u32],
     hashes: &mut [u32],
@@ -27,13 +29,15 @@ fn end_input(
     out: &mut [u8],
 ) -> Progress
     ensures { λ r. ⌜ streamOf
-        (replayIn (r .session) (now (chunks .exit)) (now (map .exit)) (now (hashes .exit)) (now (trusted .exit))
-        (now (has .exit)) (now (wants .exit)) (now (reply .exit)))
+        (replayOf (worldOf (now (state .exit)) (now (chunks .exit)) (now (map .exit)) (now (hashes .exit))
+        (now (trusted .exit)) (now (has .exit)) (now (wants .exit)) (now (reply .exit)))
+        (r .session .id) (r .session .stage))
         (filled (now (line .entry)) (r .len)) (r .read) (filled (now (out .exit)) (r .used))
-        ≡ inputDone
-        (replayIn session (now (chunks .entry)) (now (map .entry)) (now (hashes .entry)) (now (trusted .entry))
-        (now (has .entry)) (now (wants .entry)) (now (reply .entry)))
-        (filled (now (line .entry)) len) (now (out .entry)) ⌝ }
+        ≡ inputDone (streamOf
+        (replayOf (worldOf (now (state .entry)) (now (chunks .entry)) (now (map .entry)) (now (hashes .entry))
+        (now (trusted .entry)) (now (has .entry)) (now (wants .entry)) (now (reply .entry)))
+        (session .id) (session .stage))
+        (filled (now (line .entry)) len) 0 (filled (now (out .entry)) 0)) ⌝ }
 {
     if len == 0 {
         return Progress {
@@ -45,6 +49,7 @@ fn end_input(
     }
     stream::end_line(
         session,
+        state,
         chunks,
         map,
         hashes,
@@ -61,9 +66,10 @@ fn end_input(
 }
 
 // Adds what stands at the end of the output.
-fn put_end(out: &mut [u8], used: usize, stage: Stage, state: State, map: &[u32]) -> usize
+fn put_end(out: &mut [u8], used: usize, stage: Stage, state: &[u32], map: &[u32]) -> usize
     ensures { λ r. ⌜ filled (now (out .exit)) r
-        ≡ appended (now (out .entry)) used (endAt stage state (now (map .entry))) ⌝ }
+        ≡ appended (now (out .entry)) used
+        (endAt stage (worldOf (now (state .entry)) [] (now (map .entry)) [] [] [] [] [])) ⌝ }
 {
     match stage {
         Stage::First => {
@@ -82,6 +88,7 @@ fn put_end(out: &mut [u8], used: usize, stage: Stage, state: State, map: &[u32])
 // room on.
 pub fn finish(
     session: Session,
+    state: &mut [u32],
     chunks: &mut [u8],
     map: &mut [u32],
     hashes: &mut [u32],
@@ -94,16 +101,19 @@ pub fn finish(
     out: &mut [u8],
 ) -> Progress
     ensures { λ r. ⌜ streamOf
-        (replayIn (r .session) (now (chunks .exit)) (now (map .exit)) (now (hashes .exit)) (now (trusted .exit))
-        (now (has .exit)) (now (wants .exit)) (now (reply .exit)))
+        (replayOf (worldOf (now (state .exit)) (now (chunks .exit)) (now (map .exit)) (now (hashes .exit))
+        (now (trusted .exit)) (now (has .exit)) (now (wants .exit)) (now (reply .exit)))
+        (r .session .id) (r .session .stage))
         (filled (now (line .entry)) (r .len)) (r .read) (filled (now (out .exit)) (r .used))
         ≡ finished
-        (replayIn session (now (chunks .entry)) (now (map .entry)) (now (hashes .entry)) (now (trusted .entry))
-        (now (has .entry)) (now (wants .entry)) (now (reply .entry)))
+        (replayOf (worldOf (now (state .entry)) (now (chunks .entry)) (now (map .entry)) (now (hashes .entry))
+        (now (trusted .entry)) (now (has .entry)) (now (wants .entry)) (now (reply .entry)))
+        (session .id) (session .stage))
         (filled (now (line .entry)) len) (now (out .entry)) ⌝ }
 {
     let p = end_input(
         session,
+        state,
         chunks,
         map,
         hashes,
@@ -117,7 +127,6 @@ pub fn finish(
     );
     let after = p.session;
     let stage = after.stage;
-    let state = after.state;
     Progress {
         session: after,
         len: p.len,

@@ -1,8 +1,12 @@
 // Line one: the order that the store is started under.
 ghost use mathlib.Core.Path.{_≡_};
 ghost use Prim.Native.Nat.{_≤_};
-ghost use lib.ListN.{length};
-ghost use Rattle.trace.specs.Session.{replayIn, answerOf, orderIn, limited, orderOf, firstLine};
+ghost use lib.ListN.{length, take, replicate};
+ghost use Rattle.base.specs.Pick.{pick};
+ghost use Rattle.wire.proofs.Promise.{be32};
+ghost use Rattle.channel.proofs.Promise.{worldOf, orderOf};
+ghost use Rattle.trace.specs.Session.{replayOf, answerOf, takesLength, lineOrder, firstLine};
+ghost use Rattle.trace.specs.Steps.{spoken};
 use crate::limits::BAD_FIRST;
 use crate::limits::LENGTH_MAX;
 use crate::limits::ORDER_DIGITS;
@@ -12,41 +16,57 @@ use crate::session::Session;
 use crate::session::Stage;
 use channel::starting;
 use hash::value;
+use order::Order;
 use script::frames;
 use script::frames::Frame;
-use store::calls::Order;
 use wire::bytes;
 
-// The order of line one's bytes: a root, then a length. One that is too long counts as 0.
-fn order_in(frame: &[u8]) -> Order
-    requires { ⌜ 36 ≤ length (now frame) ⌝ }
-    ensures { λ r. ⌜ r ≡ limited (orderIn (now (frame .entry))) ⌝ }
+// The order of a bad line.
+fn no_order() -> Order
+    ensures { λ r. ⌜ r ≡ orderOf (replicate 32 0) 0 ⌝ }
 {
-    let root = value::load(frame, 0);
-    let length = bytes::load32(frame, 32);
-    if length <= LENGTH_MAX {
-        return Order { root, length };
+    Order {
+        root: value::load(&[0u8; 32], 0),
+        length: 0,
     }
-    Order { root, length: 0 }
 }
 
-// The order of line one; a bad line has none, and so a length of 0.
+// The order of line one's bytes: a root, then a length.
+fn order_in(frame: &[u8]) -> Order
+    requires { ⌜ 36 ≤ length (now frame) ⌝ }
+    ensures { λ r. ⌜ r
+        ≡ pick (takesLength (be32 (now (frame .entry)) 32))
+        (orderOf (now (frame .entry)) (be32 (now (frame .entry)) 32))
+        (orderOf (replicate 32 0) 0) ⌝ }
+{
+    let length = bytes::load32(frame, 32);
+    if length == 0 {
+        return no_order();
+    }
+    if LENGTH_MAX < length {
+        return no_order();
+    }
+    Order {
+        root: value::load(frame, 0),
+        length,
+    }
+}
+
+// The order of line one.
 fn order_of(line: &[u8]) -> Order
-    ensures { λ r. ⌜ r ≡ orderOf (now (line .entry)) ⌝ }
+    ensures { λ r. ⌜ r ≡ lineOrder (now (line .entry)) ⌝ }
 {
     let mut frame = [0u8; ORDER_SIZE];
     match frames::read(line, ORDER_DIGITS, ORDER_DIGITS, &mut frame) {
         Frame::Bytes { .. } => order_in(&frame),
-        Frame::Bad => Order {
-            root: value::load(&frame, 0),
-            length: 0,
-        },
+        Frame::Bad => no_order(),
     }
 }
 
 // Starts the store.
 pub(crate) fn first_line(
     session: Session,
+    state: &mut [u32],
     chunks: &[u8],
     map: &mut [u32],
     hashes: &mut [u32],
@@ -57,17 +77,18 @@ pub(crate) fn first_line(
     line: &[u8],
 ) -> Answered
     ensures { λ r. ⌜ answerOf
-        (replayIn (r .session) (now (chunks .entry)) (now (map .exit)) (now (hashes .exit)) (now (trusted .exit))
-        (now (has .exit)) (now (wants .exit)) (now (reply .entry)))
-        (r .silent) (r .number) (r .len)
+        (replayOf (worldOf (now (state .exit)) (now (chunks .entry)) (now (map .exit)) (now (hashes .exit))
+        (now (trusted .exit)) (now (has .exit)) (now (wants .exit)) (now (reply .entry)))
+        (r .session .id) (r .session .stage))
+        (spoken (r .silent) (r .number) (take (r .len) (now (reply .entry))))
         ≡ firstLine
-        (replayIn session (now (chunks .entry)) (now (map .entry)) (now (hashes .entry)) (now (trusted .entry))
-        (now (has .entry)) (now (wants .entry)) (now (reply .entry)))
+        (replayOf (worldOf (now (state .entry)) (now (chunks .entry)) (now (map .entry)) (now (hashes .entry))
+        (now (trusted .entry)) (now (has .entry)) (now (wants .entry)) (now (reply .entry)))
+        (session .id) (session .stage))
         (now (line .entry)) ⌝ }
 {
     let order = order_of(line);
-    let state = session.state;
-    let out = starting::start(
+    let answer = starting::start(
         state,
         chunks,
         map,
@@ -78,11 +99,9 @@ pub(crate) fn first_line(
         reply,
         order,
     );
-    let after = out.state;
-    if out.answer == 0 {
+    if answer == 0 {
         return Answered {
             session: Session {
-                state: after,
                 id: session.id,
                 stage: Stage::Later,
             },
@@ -93,7 +112,6 @@ pub(crate) fn first_line(
     }
     Answered {
         session: Session {
-            state: after,
             id: session.id,
             stage: Stage::Over,
         },

@@ -1,8 +1,10 @@
 // Later lines: each is a clock and a datagram, which is taken in.
 ghost use mathlib.Core.Path.{_≡_};
 ghost use Prim.Native.Nat.{_≤_};
-ghost use lib.ListN.{length};
-ghost use Rattle.trace.specs.Session.{replayIn, answerOf, nextId, frameTaken, laterLine};
+ghost use lib.ListN.{length, take};
+ghost use Rattle.channel.proofs.Promise.{worldOf};
+ghost use Rattle.trace.specs.Session.{replayOf, answerOf, nextId, frameTaken, laterLine};
+ghost use Rattle.trace.specs.Steps.{spoken};
 use crate::limits::BAD_LINE;
 use crate::limits::DIGITS_MAX;
 use crate::limits::DIGITS_MIN;
@@ -34,6 +36,7 @@ fn next_id(id: u32, answer: u32, datagram: &[u8]) -> u32
 // Takes in the frame of a line: a clock, then a datagram.
 fn take(
     session: Session,
+    state: &mut [u32],
     chunks: &mut [u8],
     map: &mut [u32],
     hashes: &mut [u32],
@@ -45,17 +48,18 @@ fn take(
 ) -> Answered
     requires { ⌜ 8 ≤ length (now frame) ⌝ }
     ensures { λ r. ⌜ answerOf
-        (replayIn (r .session) (now (chunks .exit)) (now (map .exit)) (now (hashes .exit)) (now (trusted .exit))
-        (now (has .exit)) (now (wants .exit)) (now (reply .exit)))
-        (r .silent) (r .number) (r .len)
+        (replayOf (worldOf (now (state .exit)) (now (chunks .exit)) (now (map .exit)) (now (hashes .exit))
+        (now (trusted .exit)) (now (has .exit)) (now (wants .exit)) (now (reply .exit)))
+        (r .session .id) (r .session .stage))
+        (spoken (r .silent) (r .number) (take (r .len) (now (reply .exit))))
         ≡ frameTaken
-        (replayIn session (now (chunks .entry)) (now (map .entry)) (now (hashes .entry)) (now (trusted .entry))
-        (now (has .entry)) (now (wants .entry)) (now (reply .entry)))
+        (replayOf (worldOf (now (state .entry)) (now (chunks .entry)) (now (map .entry)) (now (hashes .entry))
+        (now (trusted .entry)) (now (has .entry)) (now (wants .entry)) (now (reply .entry)))
+        (session .id) (session .stage))
         (now (frame .entry)) ⌝ }
 {
     let clock = bytes::load64(frame, 0);
     let id = session.id;
-    let state = session.state;
     let datagram = &frame[8..];
     let out = taking::take(
         state,
@@ -71,10 +75,8 @@ fn take(
         datagram,
     );
     let number = out.answer as u8;
-    let after = out.state;
     Answered {
         session: Session {
-            state: after,
             id: next_id(id, out.answer, datagram),
             stage: Stage::Later,
         },
@@ -87,6 +89,7 @@ fn take(
 // Takes in the datagram of a line.
 pub(crate) fn later_line(
     session: Session,
+    state: &mut [u32],
     chunks: &mut [u8],
     map: &mut [u32],
     hashes: &mut [u32],
@@ -97,18 +100,21 @@ pub(crate) fn later_line(
     line: &[u8],
 ) -> Answered
     ensures { λ r. ⌜ answerOf
-        (replayIn (r .session) (now (chunks .exit)) (now (map .exit)) (now (hashes .exit)) (now (trusted .exit))
-        (now (has .exit)) (now (wants .exit)) (now (reply .exit)))
-        (r .silent) (r .number) (r .len)
+        (replayOf (worldOf (now (state .exit)) (now (chunks .exit)) (now (map .exit)) (now (hashes .exit))
+        (now (trusted .exit)) (now (has .exit)) (now (wants .exit)) (now (reply .exit)))
+        (r .session .id) (r .session .stage))
+        (spoken (r .silent) (r .number) (take (r .len) (now (reply .exit))))
         ≡ laterLine
-        (replayIn session (now (chunks .entry)) (now (map .entry)) (now (hashes .entry)) (now (trusted .entry))
-        (now (has .entry)) (now (wants .entry)) (now (reply .entry)))
+        (replayOf (worldOf (now (state .entry)) (now (chunks .entry)) (now (map .entry)) (now (hashes .entry))
+        (now (trusted .entry)) (now (has .entry)) (now (wants .entry)) (now (reply .entry)))
+        (session .id) (session .stage))
         (now (line .entry)) ⌝ }
 {
     let mut frame = [0u8; FRAME_MAX];
     match frames::read(line, DIGITS_MIN, DIGITS_MAX, &mut frame) {
         Frame::Bytes { len } => take(
             session,
+            state,
             chunks,
             map,
             hashes,

@@ -1,14 +1,12 @@
 // A store under replay, line after line: line one is its order, each later one a datagram.
 ghost use mathlib.Core.Path.{_≡_};
-ghost use lib.ListN.{replicate};
-ghost use Rattle.hash.proofs.Promise.{bytesOf};
-ghost use Rattle.table.proofs.Promise.{freeTable};
+ghost use lib.ListN.{take};
+ghost use Rattle.channel.proofs.Promise.{worldOf};
 ghost use Rattle.trace.specs.declared.session.Stage.the-variants.{First};
-ghost use Rattle.trace.specs.Session.{replayIn, answerOf, lineAnswer};
+ghost use Rattle.trace.specs.Session.{replayOf, answerOf, lineAnswer};
+ghost use Rattle.trace.specs.Steps.{spoken};
 use crate::first;
 use crate::later;
-use channel::state;
-use channel::state::State;
 
 pub enum Stage {
     // Line one is to come.
@@ -19,9 +17,8 @@ pub enum Stage {
     Over,
 }
 
-// The store's state, the ID for the next channel, and which line is to come.
+// The ID for the next channel, and which line is to come.
 pub struct Session {
-    pub state: State,
     pub id: u32,
     pub stage: Stage,
 }
@@ -37,11 +34,9 @@ pub struct Answered {
 
 // Before line one.
 pub fn fresh() -> Session
-    ensures { λ r. ⌜ (bytesOf (r .state .order .root .words) ≡ replicate 32 0) × (r .state .order .length ≡ 0)
-        × (r .state .table ≡ freeTable) × (r .id ≡ 1) × (r .stage ≡ First) ⌝ }
+    ensures { λ r. ⌜ (r .id ≡ 1) × (r .stage ≡ First) ⌝ }
 {
     Session {
-        state: state::unstarted(),
         id: 1,
         stage: Stage::First,
     }
@@ -50,6 +45,7 @@ pub fn fresh() -> Session
 // Answers a line.
 pub(crate) fn answer(
     session: Session,
+    state: &mut [u32],
     chunks: &mut [u8],
     map: &mut [u32],
     hashes: &mut [u32],
@@ -60,18 +56,21 @@ pub(crate) fn answer(
     line: &[u8],
 ) -> Answered
     ensures { λ r. ⌜ answerOf
-        (replayIn (r .session) (now (chunks .exit)) (now (map .exit)) (now (hashes .exit)) (now (trusted .exit))
-        (now (has .exit)) (now (wants .exit)) (now (reply .exit)))
-        (r .silent) (r .number) (r .len)
+        (replayOf (worldOf (now (state .exit)) (now (chunks .exit)) (now (map .exit)) (now (hashes .exit))
+        (now (trusted .exit)) (now (has .exit)) (now (wants .exit)) (now (reply .exit)))
+        (r .session .id) (r .session .stage))
+        (spoken (r .silent) (r .number) (take (r .len) (now (reply .exit))))
         ≡ lineAnswer
-        (replayIn session (now (chunks .entry)) (now (map .entry)) (now (hashes .entry)) (now (trusted .entry))
-        (now (has .entry)) (now (wants .entry)) (now (reply .entry)))
+        (replayOf (worldOf (now (state .entry)) (now (chunks .entry)) (now (map .entry)) (now (hashes .entry))
+        (now (trusted .entry)) (now (has .entry)) (now (wants .entry)) (now (reply .entry)))
+        (session .id) (session .stage))
         (now (line .entry)) ⌝ }
 {
     let stage = session.stage;
     match stage {
         Stage::First => first::first_line(
             session,
+            state,
             chunks,
             map,
             hashes,
@@ -83,6 +82,7 @@ pub(crate) fn answer(
         ),
         Stage::Later => later::later_line(
             session,
+            state,
             chunks,
             map,
             hashes,

@@ -1,10 +1,15 @@
 // The lines of the blocks that input comes in, and what is written for them.
 ghost use mathlib.Core.Path.{_≡_};
 ghost use Prim.Native.Nat.{_+_, _≤_};
+ghost use mathlib.Core.Bool.{false};
+ghost use lib.Dec.{ltb};
 ghost use lib.ListN.{length, take};
-ghost use Rattle.script.proofs.Promise.{filled, appended};
-ghost use Rattle.trace.specs.Session.{replayIn, spoken};
-ghost use Rattle.trace.specs.Stream.{streamOf, lineDone, advanced, goesOn, answerLines};
+ghost use Rattle.base.specs.Pick.{pick};
+ghost use Rattle.channel.proofs.Promise.{worldOf};
+ghost use Rattle.script.proofs.Promise.{filled, fits, appended};
+ghost use Rattle.trace.specs.Session.{replayOf};
+ghost use Rattle.trace.specs.Steps.{spoken};
+ghost use Rattle.trace.specs.Stream.{streamOf, lineDone, advanced, answerLines};
 use crate::session;
 use crate::session::Session;
 use script::answers;
@@ -42,6 +47,7 @@ fn put_answer(
 // Answers the line in a room.
 pub(crate) fn end_line(
     session: Session,
+    state: &mut [u32],
     chunks: &mut [u8],
     map: &mut [u32],
     hashes: &mut [u32],
@@ -56,17 +62,20 @@ pub(crate) fn end_line(
     read: usize,
 ) -> Progress
     ensures { λ r. ⌜ streamOf
-        (replayIn (r .session) (now (chunks .exit)) (now (map .exit)) (now (hashes .exit)) (now (trusted .exit))
-        (now (has .exit)) (now (wants .exit)) (now (reply .exit)))
+        (replayOf (worldOf (now (state .exit)) (now (chunks .exit)) (now (map .exit)) (now (hashes .exit))
+        (now (trusted .exit)) (now (has .exit)) (now (wants .exit)) (now (reply .exit)))
+        (r .session .id) (r .session .stage))
         (filled (now (line .entry)) (r .len)) (r .read) (filled (now (out .exit)) (r .used))
-        ≡ lineDone
-        (replayIn session (now (chunks .entry)) (now (map .entry)) (now (hashes .entry)) (now (trusted .entry))
-        (now (has .entry)) (now (wants .entry)) (now (reply .entry)))
-        (filled (now (line .entry)) len) read (filled (now (out .entry)) used) ⌝ }
+        ≡ lineDone (streamOf
+        (replayOf (worldOf (now (state .entry)) (now (chunks .entry)) (now (map .entry)) (now (hashes .entry))
+        (now (trusted .entry)) (now (has .entry)) (now (wants .entry)) (now (reply .entry)))
+        (session .id) (session .stage))
+        (filled (now (line .entry)) len) read (filled (now (out .entry)) used)) ⌝ }
 {
     let n = lines::least(len, line.len());
     let answered = session::answer(
         session,
+        state,
         chunks,
         map,
         hashes,
@@ -103,6 +112,7 @@ fn behind(at: usize, n: usize, block: &[u8]) -> usize
 // Reads what is left of a block, up to and with its first line feed, and answers the line that ends there.
 fn advance(
     session: Session,
+    state: &mut [u32],
     chunks: &mut [u8],
     map: &mut [u32],
     hashes: &mut [u32],
@@ -112,32 +122,38 @@ fn advance(
     reply: &mut [u8],
     line: &mut [u8],
     len: usize,
-    rest: &[u8],
+    block: &[u8],
+    read: usize,
     out: &mut [u8],
     used: usize,
 ) -> Progress
+    requires { ⌜ read ≤ length (now block) ⌝ }
     ensures { λ r. ⌜ streamOf
-        (replayIn (r .session) (now (chunks .exit)) (now (map .exit)) (now (hashes .exit)) (now (trusted .exit))
-        (now (has .exit)) (now (wants .exit)) (now (reply .exit)))
+        (replayOf (worldOf (now (state .exit)) (now (chunks .exit)) (now (map .exit)) (now (hashes .exit))
+        (now (trusted .exit)) (now (has .exit)) (now (wants .exit)) (now (reply .exit)))
+        (r .session .id) (r .session .stage))
         (filled (now (line .exit)) (r .len)) (r .read) (filled (now (out .exit)) (r .used))
-        ≡ advanced
-        (replayIn session (now (chunks .entry)) (now (map .entry)) (now (hashes .entry)) (now (trusted .entry))
-        (now (has .entry)) (now (wants .entry)) (now (reply .entry)))
-        (filled (now (line .entry)) len) (now (rest .entry)) (filled (now (out .entry)) used) ⌝ }
+        ≡ advanced (now (block .entry)) (streamOf
+        (replayOf (worldOf (now (state .entry)) (now (chunks .entry)) (now (map .entry)) (now (hashes .entry))
+        (now (trusted .entry)) (now (has .entry)) (now (wants .entry)) (now (reply .entry)))
+        (session .id) (session .stage))
+        (filled (now (line .entry)) len) read (filled (now (out .entry)) used)) ⌝ }
 {
+    let rest = &block[read..];
     let n = lines::before_feed(rest);
     let kept = lines::keep(line, len, &rest[..n]);
+    let next = behind(read, n, block);
     if n == rest.len() {
         return Progress {
             session,
             len: kept,
-            read: n,
+            read: next,
             used,
         };
     }
-    let next = behind(n, 1, rest);
     end_line(
         session,
+        state,
         chunks,
         map,
         hashes,
@@ -149,7 +165,7 @@ fn advance(
         kept,
         out,
         used,
-        next,
+        behind(next, 1, block),
     )
 }
 
@@ -158,7 +174,7 @@ fn advance(
 // Whether it goes on in a block of this length: something is left of it, and the line of an answer with any reply fits
 // behind what is to be written.
 fn goes_on(block: usize, read: usize, room: usize, used: usize, reply: usize) -> bool
-    ensures { λ r. ⌜ r ≡ goesOn block read room used reply ⌝ }
+    ensures { λ r. ⌜ r ≡ pick (ltb read block) (fits room used reply) false ⌝ }
 {
     if read < block {
         return answers::fits(room, used, reply);
@@ -169,6 +185,7 @@ fn goes_on(block: usize, read: usize, room: usize, used: usize, reply: usize) ->
 // Answers the lines of a block from the front of an output room on, as many as fit there.
 pub fn answer_lines(
     session: Session,
+    state: &mut [u32],
     chunks: &mut [u8],
     map: &mut [u32],
     hashes: &mut [u32],
@@ -182,12 +199,14 @@ pub fn answer_lines(
     out: &mut [u8],
 ) -> Progress
     ensures { λ r. ⌜ streamOf
-        (replayIn (r .session) (now (chunks .exit)) (now (map .exit)) (now (hashes .exit)) (now (trusted .exit))
-        (now (has .exit)) (now (wants .exit)) (now (reply .exit)))
+        (replayOf (worldOf (now (state .exit)) (now (chunks .exit)) (now (map .exit)) (now (hashes .exit))
+        (now (trusted .exit)) (now (has .exit)) (now (wants .exit)) (now (reply .exit)))
+        (r .session .id) (r .session .stage))
         (filled (now (line .exit)) (r .len)) (r .read) (filled (now (out .exit)) (r .used))
         ≡ answerLines
-        (replayIn session (now (chunks .entry)) (now (map .entry)) (now (hashes .entry)) (now (trusted .entry))
-        (now (has .entry)) (now (wants .entry)) (now (reply .entry)))
+        (replayOf (worldOf (now (state .entry)) (now (chunks .entry)) (now (map .entry)) (now (hashes .entry))
+        (now (trusted .entry)) (now (has .entry)) (now (wants .entry)) (now (reply .entry)))
+        (session .id) (session .stage))
         (filled (now (line .entry)) len) (now (block .entry)) (now (out .entry)) ⌝ }
 {
     let mut current = session;
@@ -197,6 +216,7 @@ pub fn answer_lines(
     while goes_on(block.len(), read, out.len(), used, reply.len()) {
         let p = advance(
             current,
+            state,
             chunks,
             map,
             hashes,
@@ -206,13 +226,14 @@ pub fn answer_lines(
             reply,
             line,
             kept,
-            &block[read..],
+            block,
+            read,
             out,
             used,
         );
         current = p.session;
         kept = p.len;
-        read = behind(read, p.read, block);
+        read = p.read;
         used = p.used;
     }
     Progress {

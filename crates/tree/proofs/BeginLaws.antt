@@ -12,7 +12,8 @@ use Rattle.base.specs.Pick.{pick}
 use Rattle.tree.specs.Node.{above}
 use Rattle.tree.specs.Pack.{levels}
 use Rattle.tree.specs.Tree.{root, combined}
-use Rattle.tree.specs.State.{isPeak, started, built, Sound}
+use Rattle.tree.specs.State.{isPeak}
+use Rattle.tree.proofs.Sound.{started, built, Sound}
 use Rattle.tree.proofs.NodeLaws.{split, above-inside}
 use Rattle.tree.proofs.PackLaws.{levels-holds, high-bound}
 use Rattle.tree.proofs.TreeLaws.{tree-leaf, tree-step, given-whole, combined-root}

@@ -1,6 +1,7 @@
 -- Bin numbers: the height by trailing zeros, and a node by its height and its first chunk. Assumes nothing.
 use mathlib.Core.Path.{_≡_, refl, sym, ap, _∙_}
 use mathlib.Core.Logic.{_⊎_, inl, inr}
+use mathlib.Core.Bool.{false}
 use Prim.Native.Nat.{ℕ, zero, suc, _+_, _-_, _*_, _/_, _%_, _^_, _≤_, _<_}
 use native.Mathlib.Nat.{pow-suc, zero-lt-suc, not-suc-le-zero}
 use native.Mathlib.Numerals.{add-one}
@@ -8,9 +9,15 @@ use native.Mathlib.Omega.{arith}
 use native.Mathlib.Decide.{le-ind}
 use lib.Count.{trailingZeros, under}
 use lib.Arith.{lt-one}
+use borrow.Author.Tests.{ne-eqb}
+use lib.Dec.{eqb}
 use lib.Pow.{pow-pos, pow-mono, field, mod-mod-pow}
-use Rattle.tree.specs.Bin.{over, lowOnes, height, first, last, bin}
+use Rattle.base.specs.Pick.{pick}
+use Rattle.tree.specs.Bin.{lowOnes, height, first, last, bin}
 use Rattle.tree.proofs.NodeLaws.{split}
+
+odd : (r : ℕ) → eqb (suc r) 0 ≡ false
+odd r = ne-eqb (suc r) 0 (λ e. omega arith)
 
 -- the ones at the low end of b are the zeros at the low end of b + 1
 pub ones-are-zeros : (d b : ℕ) → lowOnes d b ≡ trailingZeros d (b + 1)
@@ -19,17 +26,17 @@ ones-are-zeros zero b = refl
 ones-are-zeros (suc d) b = go (b % 2) ((b + 1) % 2) refl refl (ones-are-zeros d (b / 2))
   where
     go : (r s : ℕ) → b % 2 ≡ r → (b + 1) % 2 ≡ s → lowOnes d (b / 2) ≡ trailingZeros d (b / 2 + 1)
-        → over r (lowOnes d (b / 2)) ≡ under s (trailingZeros d ((b + 1) / 2))
+        → pick (eqb r 0) 0 (suc (lowOnes d (b / 2))) ≡ under s (trailingZeros d ((b + 1) / 2))
     go zero zero e f ih = absurd (omega arith)
     go zero (suc s) e f ih = refl
-    go (suc r) zero e f ih = let h : (b + 1) / 2 ≡ b / 2 + 1 = omega arith in rw h (ap suc ih)
+    go (suc r) zero e f ih = let h : (b + 1) / 2 ≡ b / 2 + 1 = omega arith in rw (odd r, h) (ap suc ih)
     go (suc r) (suc s) e f ih = absurd (omega arith)
 
 -- digits above the number's own add no ones
 more : (d b : ℕ) → b < 2 ^ d → lowOnes (suc d) b ≡ lowOnes d b
 unfolding lowOnes
 more zero b h = rw (lt-one h)
-more (suc d) b h = ap (over (b % 2)) (more d (b / 2) (omega arith))
+more (suc d) b h = ap (λ (x : ℕ). pick (eqb (b % 2) 0) 0 (suc x)) (more d (b / 2) (omega arith))
 
 enough : (d b : ℕ) → b < 2 ^ d → (e : ℕ) → d ≤ e → lowOnes e b ≡ lowOnes d b
 enough d b h e l =
@@ -92,9 +99,9 @@ unfolding lowOnes
 pow-low zero b = omega arith
 pow-low (suc d) b = go (b % 2) refl (pow-low d (b / 2))
   where
-    go : (r : ℕ) → b % 2 ≡ r → 2 ^ lowOnes d (b / 2) ≤ b / 2 + 1 → 2 ^ over r (lowOnes d (b / 2)) ≤ b + 1
+    go : (r : ℕ) → b % 2 ≡ r → 2 ^ lowOnes d (b / 2) ≤ b / 2 + 1 → 2 ^ pick (eqb r 0) 0 (suc (lowOnes d (b / 2))) ≤ b + 1
     go zero e ih = omega arith
-    go (suc r) e ih = let h : 2 ^ suc (lowOnes d (b / 2)) ≤ b + 1 = omega arith in h
+    go (suc r) e ih = let h : 2 ^ suc (lowOnes d (b / 2)) ≤ b + 1 = omega arith in rw (odd r) h
 
 pub pow-height : (b : ℕ) → 2 ^ height b ≤ b + 1
 unfolding height
@@ -115,13 +122,13 @@ above-ones zero b l = (0, omega arith)
 above-ones (suc d) b l = go (b % 2) refl (above-ones d (b / 2) (omega arith))
   where
     go : (r : ℕ) → b % 2 ≡ r → (j : ℕ) × (b / 2 ≡ bin (lowOnes d (b / 2)) (j * 2 ^ lowOnes d (b / 2)))
-        → (j : ℕ) × (b ≡ bin (over r (lowOnes d (b / 2))) (j * 2 ^ over r (lowOnes d (b / 2))))
+        → (j : ℕ) × (b ≡ bin (pick (eqb r 0) 0 (suc (lowOnes d (b / 2)))) (j * 2 ^ pick (eqb r 0) 0 (suc (lowOnes d (b / 2)))))
     go zero e ih = (b / 2, omega arith)
     go (suc r) e ih =
         let k = lowOnes d (b / 2) in
         let p : ih .0 * 2 ^ suc k ≡ 2 * (ih .0 * 2 ^ k) = rw pow-suc (omega arith) in
         let f : b ≡ bin (suc k) (ih .0 * 2 ^ suc k) = omega (arith, ih .1, p, pow-pos k) in
-        (ih .0, f)
+        rw (odd r) (ih .0, f)
 
 pub node-of : (b : ℕ) → (j : ℕ) × (b ≡ bin (height b) (j * 2 ^ height b))
 unfolding height

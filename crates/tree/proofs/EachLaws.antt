@@ -7,11 +7,11 @@ use Prim.Native.Nat.{ℕ, zero, suc, _≤_, _<_}
 use native.Mathlib.Omega.{arith}
 use Rattle.base.specs.Pick.{pick}
 use Rattle.base.proofs.PickLaws.{both-true}
-use Rattle.tree.specs.Node.{Node, above}
+use Rattle.tree.specs.Node.{Node}
 use Rattle.tree.specs.Peaks.{siblings, before, insert, sort}
 use Rattle.tree.specs.Verdicts.{every, Each}
 use Rattle.tree.specs.Steps.{siblingAt}
-use Rattle.tree.proofs.NodeLaws.{split, down-above}
+use Rattle.tree.proofs.NodeLaws.{split}
 
 -- ---- every and each
 
@@ -74,16 +74,16 @@ module _ (P : Node → Type 0) where
   each-sort [] p = tt
   each-sort (n ∷ ns) p = let q = each-insert n (sort ns) p in (q .0, each-sort ns (q .1))
 
-  pub siblings-at : (c t : ℕ) → Each P (siblings c t (above t c)) → (h : ℕ) → h < t → P (siblingAt c h)
+  pub siblings-at : (c t : ℕ) → Each P (siblings c t) → (h : ℕ) → h < t → P (siblingAt c h)
   unfolding siblings
   siblings-at c zero p h l = absurd (omega arith)
-  siblings-at c (suc t) p h l = go (split t h) (siblings-at c t (rw (down-above t c) at (p .1)) h)
+  siblings-at c (suc t) p h l = go (split t h) (siblings-at c t (p .1) h)
     where
       go : (t ≤ h) ⊎ (h < t) → (h < t → P (siblingAt c h)) → P (siblingAt c h)
       go (inl u) ih = let e : h ≡ t = omega arith in rw e (p .0)
       go (inr u) ih = ih u
 
-  pub siblings-each : (c t : ℕ) → ((h : ℕ) → h < t → P (siblingAt c h)) → Each P (siblings c t (above t c))
+  pub siblings-each : (c t : ℕ) → ((h : ℕ) → h < t → P (siblingAt c h)) → Each P (siblings c t)
   unfolding siblings
   siblings-each c zero p = tt
-  siblings-each c (suc t) p = (p t (omega arith), rw (down-above t c) (siblings-each c t (λ h l. p h (omega arith))))
+  siblings-each c (suc t) p = (p t (omega arith), siblings-each c t (λ h l. p h (omega arith)))

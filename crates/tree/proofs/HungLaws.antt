@@ -9,24 +9,25 @@ use borrow.Author.Tests.{lt-ltb, le-ltb, eq-eqb, ne-eqb, eqb-true, ltb-true}
 use lib.Dec.{leb, ltb, eqb}
 use lib.Pow.{pow-pos}
 use Rattle.base.specs.Pick.{pick}
-use Rattle.tree.specs.Node.{other, above}
+use Rattle.tree.specs.Node.{siblingFrom, above}
 use Rattle.tree.specs.Tree.{root, combined, joined, climb}
-use Rattle.tree.specs.State.{State, isPeak, onPath, adopted, hung, Sound}
-use Rattle.tree.proofs.NodeLaws.{split, above-left, above-right, other-left, other-right, whole-below, above-aligned, parent-right, parent-above, aligned-left, aligned-right, above-zero, child-cases}
+use Rattle.tree.specs.State.{State, isPeak}
+use Rattle.tree.proofs.Sound.{onPath, adopted, hung, Sound}
+use Rattle.tree.proofs.NodeLaws.{split, above-left, above-right, beside-left, beside-right, whole-below, above-aligned, parent-right, parent-above, aligned-left, aligned-right, above-zero, child-cases}
 use Rattle.tree.proofs.TreeLaws.{joined-left, joined-right, climb-suc}
 use Rattle.base.proofs.PickLaws.{both-true, either}
 use Rattle.tree.proofs.SoundLaws.{combined-peaks}
 
-climb-zero : (H : List ℕ → List ℕ) (sib : ℕ → ℕ → List ℕ) (v : List ℕ) (c a : ℕ) → climb H sib v c zero a ≡ v
+climb-zero : (H : List ℕ → List ℕ) (sib : ℕ → ℕ → List ℕ) (v : List ℕ) (c : ℕ) → climb H sib v c zero ≡ v
 unfolding climb
-climb-zero H sib v c a = refl
+climb-zero H sib v c = refl
 
 -- ---- hanging a chunk
 
 module _ (H : List ℕ → List ℕ) (Z : List ℕ) (N : ℕ) (r : List ℕ) (s : State) (S : Sound H Z N r s)
     (c t : ℕ) (d : List ℕ) (msg : ℕ → ℕ → List ℕ)
     (inside : above t c + 2 ^ t ≤ N) (reach : s .trust t (above t c) ≡ true) (below : (k : ℕ) → k < t → s .trust k (above k c) ≡ false)
-    (hit : climb H msg (H d) c t (above t c) ≡ s .hash t (above t c)) where
+    (hit : climb H msg (H d) c t ≡ s .hash t (above t c)) where
   -- the children of a node above c below the trusted one are not trusted
   kids : (k : ℕ) → k < t → (s .trust k (above (suc k) c) ≡ false) × (s .trust k (above (suc k) c + 2 ^ k) ≡ false)
   kids k l = go (c / 2 ^ k % 2) refl (S .pair k (above (suc k) c) (above-aligned (suc k) c) (whole-below N c (suc k) t l inside))
@@ -80,27 +81,27 @@ module _ (H : List ℕ → List ℕ) (Z : List ℕ) (N : ℕ) (r : List ℕ) (s 
   onPath-off h a l = rw (le-ltb h t l)
 
   -- what is held on the way, and beside it
-  pub held-on : (k : ℕ) → k ≤ t → hung H c t d msg s .hash k (above k c) ≡ climb H msg (H d) c k (above k c)
+  pub held-on : (k : ℕ) → k ≤ t → hung H c t d msg s .hash k (above k c) ≡ climb H msg (H d) c k
   held-on k l = go (split (suc k) t)
     where
-      go : (k < t) ⊎ (t < suc k) → hung H c t d msg s .hash k (above k c) ≡ climb H msg (H d) c k (above k c)
+      go : (k < t) ⊎ (t < suc k) → hung H c t d msg s .hash k (above k c) ≡ climb H msg (H d) c k
       go (inl u) = rw (onPath-on k u, eq-eqb (above k c) (above k c) refl)
       go (inr u) = let e : t ≡ k = omega arith in rw (onPath-off k (above k c) (omega arith)) (rw e at (sym hit))
 
-  other-is-right : (k : ℕ) → c / 2 ^ k % 2 ≡ 0 → other c k (above (suc k) c) ≡ above (suc k) c + 2 ^ k
-  other-is-right k e = other-left k c e ∙ ap (λ (x : ℕ). x + 2 ^ k) (sym (above-left k c e))
+  beside-is-right : (k : ℕ) → c / 2 ^ k % 2 ≡ 0 → siblingFrom k c ≡ above (suc k) c + 2 ^ k
+  beside-is-right k e = beside-left k c e ∙ ap (λ (x : ℕ). x + 2 ^ k) (sym (above-left k c e))
 
-  other-is-left : (k : ℕ) → c / 2 ^ k % 2 ≡ 1 → other c k (above (suc k) c) ≡ above (suc k) c
-  other-is-left k e = omega (arith, other-right k c e, above-right k c e)
+  beside-is-left : (k : ℕ) → c / 2 ^ k % 2 ≡ 1 → siblingFrom k c ≡ above (suc k) c
+  beside-is-left k e = omega (arith, beside-right k c e, above-right k c e)
 
-  held-beside : (k : ℕ) → k < t → hung H c t d msg s .hash k (other c k (above (suc k) c)) ≡ msg k (other c k (above (suc k) c))
+  held-beside : (k : ℕ) → k < t → hung H c t d msg s .hash k (siblingFrom k c) ≡ msg k (siblingFrom k c)
   held-beside k l = go (c / 2 ^ k % 2) refl
     where
-      go : (x : ℕ) → c / 2 ^ k % 2 ≡ x → hung H c t d msg s .hash k (other c k (above (suc k) c)) ≡ msg k (other c k (above (suc k) c))
+      go : (x : ℕ) → c / 2 ^ k % 2 ≡ x → hung H c t d msg s .hash k (siblingFrom k c) ≡ msg k (siblingFrom k c)
       go zero e =
-          rw (ap (onPath c t k) (other-is-right k e) ∙ onPath-kids k l .1, ne-eqb (other c k (above (suc k) c)) (above k c) (λ f. omega (arith, other-left k c e, pow-pos k)))
+          rw (ap (onPath c t k) (beside-is-right k e) ∙ onPath-kids k l .1, ne-eqb (siblingFrom k c) (above k c) (λ f. omega (arith, beside-left k c e, pow-pos k)))
       go (suc x) e =
-          rw (ap (onPath c t k) (other-is-left k (omega arith)) ∙ onPath-kids k l .0, ne-eqb (other c k (above (suc k) c)) (above k c) (λ f. omega (arith, other-right k c (omega arith), pow-pos k)))
+          rw (ap (onPath c t k) (beside-is-left k (omega arith)) ∙ onPath-kids k l .0, ne-eqb (siblingFrom k c) (above k c) (λ f. omega (arith, beside-right k c (omega arith), pow-pos k)))
 
   up-on : (k : ℕ) → k < t
       → hung H c t d msg s .hash (suc k) (above (suc k) c)
@@ -108,18 +109,18 @@ module _ (H : List ℕ → List ℕ) (Z : List ℕ) (N : ℕ) (r : List ℕ) (s 
   up-on k l = held-on (suc k) l ∙ climb-suc H msg (H d) c k ∙ go (c / 2 ^ k % 2) refl
     where
       go : (x : ℕ) → c / 2 ^ k % 2 ≡ x
-          → joined H c k (above (suc k) c) (climb H msg (H d) c k (above k c)) (msg k (other c k (above (suc k) c)))
+          → joined H c k (climb H msg (H d) c k) (msg k (siblingFrom k c))
           ≡ H (hung H c t d msg s .hash k (above (suc k) c) ++ hung H c t d msg s .hash k (above (suc k) c + 2 ^ k))
       go zero e =
-          joined-left H k c (climb H msg (H d) c k (above k c)) (msg k (other c k (above (suc k) c))) e
+          joined-left H k c (climb H msg (H d) c k) (msg k (siblingFrom k c)) e
           ∙ ap₂ (λ (x y : List ℕ). H (x ++ y))
           (sym (held-on k (omega arith)) ∙ ap (hung H c t d msg s .hash k) (sym (above-left k c e)))
-          (sym (held-beside k l) ∙ ap (hung H c t d msg s .hash k) (other-is-right k e))
+          (sym (held-beside k l) ∙ ap (hung H c t d msg s .hash k) (beside-is-right k e))
       go (suc x) e =
           let f : c / 2 ^ k % 2 ≡ 1 = omega arith in
-          joined-right H k c (climb H msg (H d) c k (above k c)) (msg k (other c k (above (suc k) c))) f
+          joined-right H k c (climb H msg (H d) c k) (msg k (siblingFrom k c)) f
           ∙ ap₂ (λ (x y : List ℕ). H (x ++ y))
-          (sym (held-beside k l) ∙ ap (hung H c t d msg s .hash k) (other-is-left k f))
+          (sym (held-beside k l) ∙ ap (hung H c t d msg s .hash k) (beside-is-left k f))
           (sym (held-on k (omega arith)) ∙ ap (hung H c t d msg s .hash k) (sym (above-right k c f)))
 
   trust-on : (k : ℕ) → k ≤ t → hung H c t d msg s .trust k (above k c) ≡ true
@@ -173,7 +174,7 @@ module _ (H : List ℕ → List ℕ) (Z : List ℕ) (N : ℕ) (r : List ℕ) (s 
           let n : hung H c t d msg s .chunk c ≡ d = rw (eq-eqb c c refl) in
           subst Goal (sym (eqb-true x c b)) (
             ap (hung H c t d msg s .trust zero) (sym z) ∙ trust-on zero (omega arith),
-            ap (hung H c t d msg s .hash zero) (sym z) ∙ held-on zero (omega arith) ∙ climb-zero H msg (H d) c (above zero c) ∙ ap H (sym n),
+            ap (hung H c t d msg s .hash zero) (sym z) ∙ held-on zero (omega arith) ∙ climb-zero H msg (H d) c ∙ ap H (sym n),
           )
       go (inr b) =
           let o : s .inMap x ≡ true = rw b at f in

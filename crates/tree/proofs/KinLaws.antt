@@ -5,9 +5,10 @@ use native.Mathlib.Omega.{arith}
 use lib.Arith.{digits-div}
 use lib.Pow.{pow-pos, shl-shr}
 use Rattle.tree.specs.Bin.{height, first}
-use Rattle.tree.specs.Node.{above, parent, sibling}
+use Rattle.tree.specs.Node.{above}
+use Rattle.tree.specs.Steps.{parent, sibling}
 use Rattle.tree.proofs.BinLaws.{node-of, first-bin, bin-of}
-use Rattle.tree.proofs.NodeLaws.{above-left, above-right, other-left, other-right}
+use Rattle.tree.proofs.NodeLaws.{above-left, above-right, beside-left, beside-right}
 
 first-of : (b : ℕ) → first b ≡ node-of b .0 * 2 ^ height b
 first-of b = ap first (node-of b .1) ∙ first-bin (height b) (node-of b .0)
@@ -52,9 +53,9 @@ module _ (b h w : ℕ) (e : h ≡ height b) (g : w ≡ 2 ^ h) where
   pub sibling-of-left : b / (2 * w) % 2 ≡ 0 → sibling b ≡ b + 2 * w
   unfolding sibling
   sibling-of-left t =
-      omega (arith, width, other-left (height b) (first b) (bit-left t), aligned b, bin-of b, pow-pos (height b))
+      omega (arith, width, beside-left (height b) (first b) (bit-left t), aligned b, bin-of b, pow-pos (height b))
 
   pub sibling-of-right : (b / (2 * w) % 2 ≡ 0 → ⊥) → sibling b + 2 * w ≡ b
   unfolding sibling
   sibling-of-right t =
-      omega (arith, width, other-right (height b) (first b) (bit-right t), aligned b, bin-of b, pow-pos (height b))
+      omega (arith, width, beside-right (height b) (first b) (bit-right t), aligned b, bin-of b, pow-pos (height b))

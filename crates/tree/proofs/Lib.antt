@@ -1,14 +1,17 @@
 -- What the proofs of several functions cite.
+pub mod Below
 pub mod BinLaws
 pub mod RangeLaws
 pub mod NodeLaws
 pub mod KinLaws
+pub mod LeastLaws
 pub mod PackLaws
 pub mod ChunkLaws
 pub mod TreeLaws
 pub mod PeakLaws
 pub mod EachLaws
 pub mod PeakTests
+pub mod Sound
 pub mod SoundLaws
 pub mod HungLaws
 pub mod TakeLaws

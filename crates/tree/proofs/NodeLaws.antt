@@ -12,7 +12,7 @@ use lib.Dec.{ltb}
 use lib.Pow.{pow-pos, shr-shr, pow-add}
 use Rattle.base.specs.Pick.{pick}
 use Rattle.tree.specs.Bin.{bin}
-use Rattle.tree.specs.Node.{down, other, above}
+use Rattle.tree.specs.Node.{siblingFrom, above}
 
 pub split : (m n : ℕ) → (m ≤ n) ⊎ (n < m)
 split zero n = inl (omega arith)
@@ -44,25 +44,14 @@ above-right h c e =
     let f : c / 2 ^ h ≡ 2 * (c / 2 ^ h / 2) + 1 = omega arith in
     omega (arith, above-twice h c, ap (λ (x : ℕ). x * 2 ^ h) f)
 
-pub down-above : (h c : ℕ) → down c h (above (suc h) c) ≡ above h c
-down-above h c = go (c / 2 ^ h % 2) refl
-  where
-    go : (r : ℕ) → c / 2 ^ h % 2 ≡ r → down c h (above (suc h) c) ≡ above h c
-    go zero e =
-        let f = above-left h c e in
-        rw (lt-ltb c (above (suc h) c + 2 ^ h) (omega (arith, above-in h c))) f
-    go (suc r) e =
-        let f = above-right h c (omega arith) in
-        rw (le-ltb c (above (suc h) c + 2 ^ h) (omega (arith, above-in h c))) f
-
--- the other child, by the bit of c that tells left from right
-pub other-left : (h c : ℕ) → c / 2 ^ h % 2 ≡ 0 → other c h (above (suc h) c) ≡ above h c + 2 ^ h
-other-left h c e =
+-- the sibling, by the bit of c that tells left from right
+pub beside-left : (h c : ℕ) → c / 2 ^ h % 2 ≡ 0 → siblingFrom h c ≡ above h c + 2 ^ h
+beside-left h c e =
     let f = above-left h c e in
     rw (lt-ltb c (above (suc h) c + 2 ^ h) (omega (arith, above-in h c))) (ap (λ (x : ℕ). x + 2 ^ h) f)
 
-pub other-right : (h c : ℕ) → c / 2 ^ h % 2 ≡ 1 → other c h (above (suc h) c) + 2 ^ h ≡ above h c
-other-right h c e =
+pub beside-right : (h c : ℕ) → c / 2 ^ h % 2 ≡ 1 → siblingFrom h c + 2 ^ h ≡ above h c
+beside-right h c e =
     let f = above-right h c e in
     rw (le-ltb c (above (suc h) c + 2 ^ h) (omega (arith, above-in h c))) f
 
@@ -73,8 +62,8 @@ above-inside t k c l u =
     let q : c / 2 ^ k < 2 ^ (t - k) = div-lt-iff-lt-mul (pow-pos k) .1 (omega (arith, e)) in
     omega (arith, e, mul-le-mul-right (2 ^ k) q)
 
-pub other-inside : (t h c : ℕ) → h < t → c < 2 ^ t → bin h (other c h (above (suc h) c)) < 2 ^ suc t
-other-inside t h c l u = go (ltb c (above (suc h) c + 2 ^ h)) (above-inside t (suc h) c l u)
+pub beside-inside : (t h c : ℕ) → h < t → c < 2 ^ t → bin h (siblingFrom h c) < 2 ^ suc t
+beside-inside t h c l u = go (ltb c (above (suc h) c + 2 ^ h)) (above-inside t (suc h) c l u)
   where
     go : (b : Bool) → above (suc h) c + 2 ^ suc h ≤ 2 ^ t → bin h (pick b (above (suc h) c + 2 ^ h) (above (suc h) c)) < 2 ^ suc t
     go true m = let r : bin h (above (suc h) c + 2 ^ h) < 2 ^ suc t = omega (arith, pow-pos h) in r

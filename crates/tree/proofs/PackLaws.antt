@@ -1,45 +1,29 @@
 -- The least tree with at least N leaves. Assumes nothing.
-use mathlib.Core.Path.{_≡_}
+use mathlib.Core.Path.{_≡_, _∙_}
 use mathlib.Core.Logic.{_⊎_, inl, inr}
-use Prim.Native.Nat.{ℕ, zero, suc, _^_, _≤_, _<_}
+use Prim.Native.Nat.{ℕ, _+_, _-_, _*_, _^_, _≤_, _<_}
+use native.Mathlib.Nat.{pow-suc}
 use native.Mathlib.Omega.{arith}
-use borrow.Author.Tests.{le-leb, lt-leb}
+use borrow.Author.Tests.{le-leb, leb-true, leb-false}
+use lib.Count.{leadingZeros, leading-length}
 use lib.Dec.{leb}
 use lib.Pow.{pow-pos, pow-mono}
-use Rattle.base.specs.Pick.{pick}
-use Rattle.tree.specs.Pack.{least, levels, leafPlaces}
+use Rattle.tree.specs.Pack.{levels, leafPlaces}
 use Rattle.tree.proofs.NodeLaws.{split}
+use Rattle.tree.proofs.LeastLaws.{Least, least-finds}
 use Rattle.tree.proofs.BinLaws.{below-pow}
 
 -- ---- the least tree
 
-pub least-holds : (N d : ℕ) → N ≤ 2 ^ d → N ≤ 2 ^ least N d
-unfolding least
-least-holds N zero h = h
-least-holds N (suc d) h = go (split N (2 ^ d)) (least-holds N d)
-  where
-    go : (N ≤ 2 ^ d) ⊎ (2 ^ d < N) → (N ≤ 2 ^ d → N ≤ 2 ^ least N d) → N ≤ 2 ^ pick (leb N (2 ^ d)) (least N d) (suc d)
-    go (inl l) ih = rw (le-leb N (2 ^ d) l) (ih l)
-    go (inr l) ih = rw (lt-leb N (2 ^ d) l) h
-
-pub least-least : (N d h : ℕ) → h < least N d → 2 ^ h < N
-unfolding least
-least-least N zero h l = absurd (omega arith)
-least-least N (suc d) h l = go (split N (2 ^ d)) (least-least N d h) l
-  where
-    go : (N ≤ 2 ^ d) ⊎ (2 ^ d < N) → (h < least N d → 2 ^ h < N) → h < pick (leb N (2 ^ d)) (least N d) (suc d) → 2 ^ h < N
-    go (inl k) ih l = ih (rw (le-leb N (2 ^ d) k) at l)
-    go (inr k) ih l =
-        let m : h < suc d = rw (lt-leb N (2 ^ d) k) at l in
-        omega (arith, pow-mono {i = h} {j = d} (omega arith))
+levels-found : (N : ℕ) → Least (λ h. leb N (2 ^ h)) 0 N (levels N)
+unfolding levels
+levels-found N = least-finds (λ h. leb N (2 ^ h)) N (le-leb N (2 ^ N) (omega (arith, below-pow N))) N 0 (omega arith) (omega arith)
 
 pub levels-holds : (N : ℕ) → N ≤ 2 ^ levels N
-unfolding levels
-levels-holds N = least-holds N N (omega (arith, below-pow N))
+levels-holds N = leb-true N (2 ^ levels N) (levels-found N .passes)
 
 pub levels-least : (N h : ℕ) → h < levels N → 2 ^ h < N
-unfolding levels
-levels-least N h l = least-least N N h l
+levels-least N h l = leb-false N (2 ^ h) (levels-found N .before h (omega arith) l)
 
 -- fewer chunks have no higher tree
 pub levels-mono : (M N : ℕ) → M ≤ N → levels M ≤ levels N
@@ -58,8 +42,19 @@ levels-unique N h e l = go (split h (levels N)) (split (levels N) h)
     go (inl p) (inr q) = absurd (omega (arith, levels-least N h q))
     go (inr p) q = absurd (omega (arith, l (levels N) p, levels-holds N))
 
-pub lower-power : (N h k : ℕ) → 2 ^ h < N → k ≤ h → 2 ^ k < N
-lower-power N h k e l = omega (arith, pow-mono l)
+-- One leaf, or none, needs no height,
+pub levels-none : (N : ℕ) → N < 2 → 0 ≡ levels N
+levels-none N h = levels-unique N 0 (omega arith) (λ k l. absurd (omega arith))
+
+-- and the height for more is the length of N - 1 in binary digits.
+pub levels-leading : (N : ℕ) → 2 ≤ N → N < 2 ^ 32 → 32 - leadingZeros 32 (N - 1) ≡ levels N
+levels-leading N l h =
+    let s = leading-length 32 (N - 1) (omega arith) in
+    let e : 32 - leadingZeros 32 (N - 1) ≡ s .0 = omega (arith, s .1) in
+    e ∙ levels-unique N (s .0) (omega (arith, s .2)) (λ k b. lower (s .0) k b (s .3))
+  where
+    lower : (m k : ℕ) → k < m → 2 ^ m ≤ 2 * (N - 1) + 1 → 2 ^ k < N
+    lower m k b t = let p = pow-mono b in omega (arith, p, t, pow-suc 2 k)
 
 -- no whole node is higher than the tree
 pub high-bound : (N p : ℕ) → 2 ^ p ≤ N → p ≤ levels N

@@ -1,20 +1,23 @@
 -- The peaks of N: they tile 0..N-1, there is one for each one bit of N, each chunk is below one; and combining them. Assumes nothing.
 use mathlib.Core.Path.{_≡_, refl, sym, ap, ap₂, _∙_}
 use mathlib.Core.Logic.{_⊎_, inl, inr, _≢_}
+use mathlib.Core.Bool.{false}
 use mathlib.Core.List.{List, [], _∷_, _++_}
-use Prim.Native.Nat.{ℕ, zero, suc, _+_, _*_, _/_, _%_, _^_, _≤_, _<_}
-use native.Mathlib.Nat.{eq-or-lt-of-le}
+use Prim.Native.Nat.{ℕ, zero, suc, _+_, _/_, _%_, _^_, _≤_, _<_}
+use native.Mathlib.Nat.{eq-or-lt-of-le, pow-suc}
 use native.Mathlib.Omega.{arith}
-use borrow.Author.Tests.{lt-ltb, le-ltb, le-leb, lt-leb, eq-eqb, ne-eqb}
+use borrow.Author.Tests.{lt-ltb, ltb-true, ltb-false, le-leb, lt-leb, eq-eqb, ne-eqb}
 use lib.Dec.{leb, ltb, eqb}
 use lib.Pow.{pow-pos}
 use Rattle.base.specs.Pick.{pick}
 use Rattle.tree.specs.Node.{Node, node, above}
 use Rattle.tree.specs.Pack.{levels}
-use Rattle.tree.specs.Peaks.{peaksFrom, peaks, peakFrom, peakOf}
+use Rattle.tree.specs.Peaks.{peaksFrom, peaks, peakHeight}
 use Rattle.tree.specs.Tree.{given}
-use Rattle.tree.specs.Steps.{folded, peaksBelow}
-use Rattle.tree.proofs.NodeLaws.{split, above-in, above-twice, above-left, above-right, above-top, above-unique}
+use Rattle.tree.specs.Steps.{folded}
+use Rattle.tree.proofs.Below.{peaksBelow}
+use Rattle.tree.proofs.NodeLaws.{split, above-in, above-left, above-right, above-top, above-zero}
+use Rattle.tree.proofs.LeastLaws.{Least, least-finds}
 use Rattle.tree.proofs.PackLaws.{levels-holds}
 use Rattle.tree.proofs.TreeLaws.{given-empty, given-whole, given-mixed}
 
@@ -65,64 +68,28 @@ peaks-bits N =
 
 -- ---- the peak above a chunk
 
-pub record Peak (N c : ℕ) (n : Node) : Type 0 where
-  pub on-way : n .from ≡ above (n .high) c
-  pub whole : n .from + 2 ^ n .high ≤ N
-  pub highest : N < above (suc (n .high)) c + 2 ^ suc (n .high)
+-- the node of height p above chunk c lies within 0..N-1, and its parent does not
+pub record Peak (N c p : ℕ) : Type 0 where
+  pub whole : above p c + 2 ^ p ≤ N
+  pub highest : N < above (suc p) c + 2 ^ suc p
 
--- at c < N, between above h N and N, both nodes of height h are the same
-near : (N c h : ℕ) → above h N ≤ c → c < N → above h c ≡ above h N
-near N c h l m = above-unique h (N / 2 ^ h) c l (omega (arith, above-in h N))
+height-found : (N c : ℕ) (p : ℕ) → p ≤ levels N → N < above (suc p) c + 2 ^ suc p → Least (λ h. ltb N (above (suc h) c + 2 ^ suc h)) 0 p (peakHeight N c)
+unfolding peakHeight
+height-found N c p l u =
+    least-finds (λ h. ltb N (above (suc h) c + 2 ^ suc h)) p (lt-ltb N (above (suc p) c + 2 ^ suc p) u) (levels N) 0 (omega arith) (omega arith)
 
--- and a chunk below above h N, from above (h + 1) N on, has the left child above it
-left-of : (N c h : ℕ) → above (suc h) N ≤ c → c < above (suc h) N + 2 ^ h → above h c ≡ above (suc h) N
-left-of N c h l m =
-    let t = above-twice h N in
-    above-unique h (2 * (N / 2 ^ h / 2)) c (omega arith) (omega arith) ∙ omega arith
-
-peak-from : (N c h : ℕ) → above h N ≤ c → c < N → Peak N c (peakFrom N c h (above h N))
-unfolding peakFrom
-peak-from N c zero l m = absurd (omega (arith, above-in zero N))
-peak-from N c (suc h) l m = go (N / 2 ^ h % 2) refl (split (suc c) (above (suc h) N + 2 ^ h)) (peak-from N c h)
-  where
-    go : (r : ℕ) → N / 2 ^ h % 2 ≡ r → (c < above (suc h) N + 2 ^ h) ⊎ (above (suc h) N + 2 ^ h < suc c)
-        → (above h N ≤ c → c < N → Peak N c (peakFrom N c h (above h N)))
-        → Peak N c (peakFrom N c (suc h) (above (suc h) N))
-    go zero e v ih =
-        let f = above-left h N e in
-        rw (lt-leb (above (suc h) N + 2 ^ h) N (omega (arith, above-in h N)), f) (ih (omega arith) m)
-    go (suc r) e (inl v) ih =
-        let f = above-right h N (omega arith) in
-        rw (le-leb (above (suc h) N + 2 ^ h) N (omega (arith, above-in h N)), lt-ltb c (above (suc h) N + 2 ^ h) v)
-        (record {
-          on-way = sym (left-of N c h l v);
-          whole = omega (arith, above-in h N);
-          highest = rw (near N c (suc h) l m) (above-in (suc h) N .1);
-        })
-    go (suc r) e (inr v) ih =
-        let f = above-right h N (omega arith) in
-        rw (le-leb (above (suc h) N + 2 ^ h) N (omega (arith, above-in h N)), le-ltb c (above (suc h) N + 2 ^ h) (omega arith), f) (ih (omega arith) m)
-
-pub peak-of : (N c : ℕ) → c < N → Peak N c (peakOf N c)
-unfolding peakOf
+pub peak-of : (N c : ℕ) → c < N → Peak N c (peakHeight N c)
 peak-of N c l =
-    let t : above (suc (levels N)) N ≡ 0 = above-top (suc (levels N)) N (omega (arith, levels-holds N, pow-pos (levels N))) in
-    rw t at (peak-from N c (suc (levels N)) (rw t (omega arith)) l)
+    let R = height-found N c (levels N) (omega arith) (omega (arith, levels-holds N, pow-suc 2 (levels N), pow-pos (levels N))) in
+    record { whole = go (peakHeight N c) (R .before); highest = ltb-true N (above (suc (peakHeight N c)) c + 2 ^ suc (peakHeight N c)) (R .passes) }
+  where
+    go : (p : ℕ) → ((k : ℕ) → 0 ≤ k → k < p → ltb N (above (suc k) c + 2 ^ suc k) ≡ false) → above p c + 2 ^ p ≤ N
+    go zero b = omega (arith, above-zero c)
+    go (suc k) b = ltb-false N (above (suc k) c + 2 ^ suc k) (b k (omega arith) (omega arith))
 
 -- a chunk past the pack is below none
-past-from : (N c h a : ℕ) → N ≤ c → peakFrom N c h a .high ≡ 0
-unfolding peakFrom
-past-from N c zero a l = refl
-past-from N c (suc h) a l = go (split (a + 2 ^ h) N) (past-from N c h (a + 2 ^ h) l) (past-from N c h a l)
-  where
-    go : (a + 2 ^ h ≤ N) ⊎ (N < a + 2 ^ h) → peakFrom N c h (a + 2 ^ h) .high ≡ 0 → peakFrom N c h a .high ≡ 0
-        → pick (leb (a + 2 ^ h) N) (pick (ltb c (a + 2 ^ h)) (node h a) (peakFrom N c h (a + 2 ^ h))) (peakFrom N c h a) .high ≡ 0
-    go (inl w) x y = rw (le-leb (a + 2 ^ h) N w, le-ltb c (a + 2 ^ h) (omega arith)) x
-    go (inr w) x y = rw (lt-leb (a + 2 ^ h) N w) y
-
-pub peak-past : (N c : ℕ) → N ≤ c → peakOf N c .high ≡ 0
-unfolding peakOf
-peak-past N c l = past-from N c (suc (levels N)) 0 l
+pub peak-past : (N c : ℕ) → N ≤ c → peakHeight N c ≡ 0
+peak-past N c l = omega (arith, height-found N c 0 (omega arith) (omega (arith, above-in 1 c)) .within)
 
 -- ---- the same by N's bits, as a loop combines them: start at height 0 with the filler
 

@@ -10,10 +10,11 @@ use lib.Dec.{leb, ltb, eqb}
 use Rattle.base.specs.Pick.{pick}
 use Rattle.tree.specs.Node.{Node, node, above}
 use Rattle.tree.specs.Pack.{levels}
-use Rattle.tree.specs.Peaks.{peaks, peakOf}
+use Rattle.tree.specs.Peaks.{peaks, peakHeight}
 use Rattle.tree.specs.State.{isPeak}
 use Rattle.tree.specs.Verdicts.{every, Each}
-use Rattle.tree.specs.Steps.{peakAt, peaksBelow}
+use Rattle.tree.specs.Steps.{peakAt}
+use Rattle.tree.proofs.Below.{peaksBelow}
 use Rattle.base.proofs.PickLaws.{both-true}
 use Rattle.tree.proofs.NodeLaws.{split, above-in, above-left, above-right, unique, above-aligned, parent-above, aligned-left, child-cases}
 use Rattle.tree.proofs.EachLaws.{every-each}
@@ -88,9 +89,9 @@ each-peak P N e h b g p =
 pub all-peaks : (f : Node → Bool) (N : ℕ) → every f (peaks N) ≡ true → (h b : ℕ) → above h b ≡ b → isPeak N h b ≡ true → f (node h b) ≡ true
 all-peaks f N e = each-peak (λ n. f n ≡ true) N (every-each f (peaks N) e)
 
-pub peak-test : (N c : ℕ) → c < N → isPeak N (peakOf N c .high) (above (peakOf N c .high) c) ≡ true
+pub peak-test : (N c : ℕ) → c < N → isPeak N (peakHeight N c) (above (peakHeight N c) c) ≡ true
 peak-test N c l =
     let k = peak-of N c l in
-    let p = peakOf N c .high in
-    let w : above p c + 2 ^ p ≤ N = rw (k .on-way) at (k .whole) in
+    let p = peakHeight N c in
+    let w : above p c + 2 ^ p ≤ N = k .whole in
     rw (le-leb (above p c + 2 ^ p) N w, parent-above p c, lt-ltb N (above (suc p) c + 2 ^ suc p) (k .highest))

@@ -11,12 +11,13 @@ use borrow.Author.Tests.{lt-ltb, le-ltb, le-leb, lt-leb, eq-eqb, ne-eqb, leb-tru
 use lib.Dec.{leb, ltb}
 use lib.Pow.{pow-pos}
 use Rattle.base.specs.Pick.{pick}
-use Rattle.tree.specs.Node.{Node, node, other, above}
+use Rattle.tree.specs.Node.{Node, node, siblingFrom, above}
 use Rattle.tree.specs.Pack.{levels}
-use Rattle.tree.specs.Peaks.{peaks, peakOf, siblings, before, insert, sort, sent, peakBit}
+use Rattle.tree.specs.Peaks.{peaks, peakHeight, siblings, before, insert, sort, sent}
+use Rattle.tree.specs.Steps.{peakBit, peakAt, siblingAt, peakTurn}
+use Rattle.tree.proofs.Below.{peaksBelow, sentBelow}
 use Rattle.tree.specs.Verdicts.{Each}
-use Rattle.tree.specs.Steps.{peakAt, siblingAt, peakTurn, peaksBelow, sentBelow}
-use Rattle.tree.proofs.NodeLaws.{split, above-in, down-above, whole-below}
+use Rattle.tree.proofs.NodeLaws.{split, above-in, whole-below}
 use Rattle.tree.proofs.EachLaws.{each-map}
 use Rattle.tree.proofs.PackLaws.{high-bound}
 use Rattle.tree.proofs.PeakLaws.{peaks-bits, peak-of, peak-past}
@@ -61,18 +62,18 @@ into-back n [] l b = refl
 into-back n (p ∷ ps) l b = ap (insert p) (into-back n ps l (b .1)) ∙ insert-back p n (into ps l) (b .0)
 
 abbrev sibs : ℕ → ℕ → List Node
-sibs c h = siblings c h (above h c)
+sibs c h = siblings c h
 
 sibs-below : (c h : ℕ) → Below h (sibs c h)
 unfolding siblings
 sibs-below c zero = tt
-sibs-below c (suc h) = rw (down-above h c) (omega arith, raise h (sibs c h) (sibs-below c h))
+sibs-below c (suc h) = (omega arith, raise h (sibs c h) (sibs-below c h))
 
 sort-sibs : (c h : ℕ) → sort (sibs c h) ≡ sibs c h
 unfolding sort siblings
 sort-sibs c zero = refl
 sort-sibs c (suc h) =
-    rw (down-above h c) (rw (sort-sibs c h) (insert-front h (other c h (above (suc h) c)) (sibs c h) (sibs-below c h)))
+    rw (sort-sibs c h) (insert-front h (siblingFrom h c) (sibs c h) (sibs-below c h))
 
 turn-below : (h : ℕ) (t : Bool) (n : Node) (ns : List Node) → n .high < h → Below h ns → Below h (pick t (n ∷ []) [] ++ ns)
 turn-below h true n ns l b = (l, b)
@@ -93,7 +94,7 @@ sent-below N c (suc h) =
 
 -- ---- a sibling within 0..N-1 stands left of the peak of its height
 
-sibling-left : (N c h : ℕ) → above (suc h) c + 2 ^ suc h ≤ N → other c h (above (suc h) c) < above (suc h) N
+sibling-left : (N c h : ℕ) → above (suc h) c + 2 ^ suc h ≤ N → siblingFrom h c < above (suc h) N
 sibling-left N c h w =
     let q : c / 2 ^ suc h + 1 ≤ N / 2 ^ suc h = le-div-iff-mul-le (pow-pos (suc h)) .1 (omega arith) in
     let m = mul-le-mul-right (2 ^ suc h) q in
@@ -109,13 +110,13 @@ lower : (N c p h : ℕ) → above p c + 2 ^ p ≤ N → h ≤ p → into (peaksB
 unfolding sentBelow peaksBelow into siblings
 lower N c p zero w l = refl
 lower N c p (suc h) w l =
-    rw (le-leb (above (suc h) c + 2 ^ suc h) N (whole-below N c (suc h) p l w), down-above h c) (go (peakBit N h) (lower N c p h w (omega arith)))
+    rw (le-leb (above (suc h) c + 2 ^ suc h) N (whole-below N c (suc h) p l w)) (go (peakBit N h) (lower N c p h w (omega arith)))
   where
     go : (t : Bool) → into (peaksBelow N h) (sibs c h) ≡ sentBelow N c h
         → into (pick t (peakAt N h ∷ []) [] ++ peaksBelow N h) (siblingAt c h ∷ sibs c h) ≡ siblingAt c h ∷ (pick t (peakAt N h ∷ []) [] ++ sentBelow N c h)
     go true ih =
         ap (insert (peakAt N h)) (into-back (siblingAt c h) (peaksBelow N h) (sibs c h) (bits-below N h))
-        ∙ insert-same h (above (suc h) N) (other c h (above (suc h) c)) (into (peaksBelow N h) (sibs c h)) (sibling-left N c h (whole-below N c (suc h) p l w))
+        ∙ insert-same h (above (suc h) N) (siblingFrom h c) (into (peaksBelow N h) (sibs c h)) (sibling-left N c h (whole-below N c (suc h) p l w))
         ∙ ap (λ (ns : List Node). siblingAt c h ∷ ns) (ap (insert (peakAt N h)) ih ∙ insert-front h (above (suc h) N) (sentBelow N c h) (sent-below N c h))
     go false ih = into-back (siblingAt c h) (peaksBelow N h) (sibs c h) (bits-below N h) ∙ ap (λ (ns : List Node). siblingAt c h ∷ ns) ih
 
@@ -144,19 +145,14 @@ start : (N c : ℕ) → into (peaksBelow N 0) (sibs c 0) ≡ sentBelow N c 0
 unfolding sentBelow peaksBelow into siblings
 start N c = refl
 
-sibs-none : (c a : ℕ) → siblings c 0 a ≡ sibs c 0
-unfolding siblings
-sibs-none c a = refl
-
 -- a chunk below the peak of height p, and one past the pack
 sent-inside : (N c : ℕ) → c < N → sent N c ≡ sentBelow N c (suc (levels N))
 unfolding sent
 sent-inside N c l =
     let k = peak-of N c l in
-    let p = peakOf N c .high in
-    let w : above p c + 2 ^ p ≤ N = rw (k .on-way) at (k .whole) in
-    ap (λ (a : ℕ). sort (peaks N ++ siblings c p a)) (k .on-way)
-    ∙ sorted N c p (lower N c p p w (omega arith)) (λ m u. beyond p m (k .highest) u (split (above (suc m) c + 2 ^ suc m) N)) (high-bound N p (omega arith))
+    let p = peakHeight N c in
+    let w : above p c + 2 ^ p ≤ N = k .whole in
+    sorted N c p (lower N c p p w (omega arith)) (λ m u. beyond p m (k .highest) u (split (above (suc m) c + 2 ^ suc m) N)) (high-bound N p (omega arith))
   where
     beyond : (p m : ℕ) → N < above (suc p) c + 2 ^ suc p → p ≤ m → (above (suc m) c + 2 ^ suc m ≤ N) ⊎ (N < above (suc m) c + 2 ^ suc m) → N < above (suc m) c + 2 ^ suc m
     beyond p m b u (inl w) = absurd (omega (arith, whole-below N c (suc p) (suc m) (omega arith) w))
@@ -165,8 +161,7 @@ sent-inside N c l =
 sent-outside : (N c : ℕ) → N ≤ c → sent N c ≡ sentBelow N c (suc (levels N))
 unfolding sent
 sent-outside N c l =
-    ap (λ (p : ℕ). sort (peaks N ++ siblings c p (peakOf N c .from))) (peak-past N c l)
-    ∙ ap (λ (x : List Node). sort (peaks N ++ x)) (sibs-none c (peakOf N c .from))
+    ap (λ (p : ℕ). sort (peaks N ++ siblings c p)) (peak-past N c l)
     ∙ sorted N c 0 (start N c) (λ m u. omega (arith, above-in (suc m) c)) (omega arith)
 
 pub sent-is : (N c : ℕ) → sent N c ≡ sentBelow N c (suc (levels N))

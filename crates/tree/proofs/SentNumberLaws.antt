@@ -1,9 +1,9 @@
 -- What goes out with a chunk: how many nodes, how large their numbers are, and that none comes twice. Assumes nothing.
-use Prim.Native.Nat.{ℕ, zero, suc, _+_, _-_, _*_, _/_, _%_, _^_, _<_, _≤_}
+use Prim.Native.Nat.{ℕ, zero, suc, _+_, _-_, _*_, _/_, _%_, _^_, _≤_}
 use native.Mathlib.Omega.{arith}
 use native.Mathlib.Nat.{mul-assoc, mul-comm, pow-suc}
 use mathlib.Core.Path.{_≡_, refl, sym, ap, _∙_}
-use mathlib.Core.Logic.{_≢_, _⊎_, inl, inr}
+use mathlib.Core.Logic.{_≢_, inl, inr}
 use mathlib.Core.Bool.{Bool, true, false}
 use mathlib.Core.List.{List, [], _∷_, _++_, map}
 use borrow.Author.Tests.{leb-true, eqb-true}
@@ -13,8 +13,9 @@ use Rattle.base.specs.Pick.{pick}
 use Rattle.tree.specs.Bin.{bin}
 use Rattle.tree.specs.Node.{Node, num, above}
 use Rattle.tree.specs.Pack.{levels}
-use Rattle.tree.specs.Peaks.{sent, peakBit}
-use Rattle.tree.specs.Steps.{peakAt, siblingAt, peakTurn, sentBelow}
+use Rattle.tree.specs.Peaks.{sent}
+use Rattle.tree.specs.Steps.{peakBit, peakAt, siblingAt, peakTurn}
+use Rattle.tree.proofs.Below.{sentBelow}
 use Rattle.tree.specs.Verdicts.{Each}
 use Rattle.tree.proofs.BinLaws.{bin-inj}
 use Rattle.tree.proofs.NodeLaws.{above-in, above-right}

@@ -12,7 +12,8 @@ use Rattle.base.specs.Same.{same}
 use Rattle.tree.specs.Node.{above}
 use Rattle.tree.specs.Pack.{levels}
 use Rattle.tree.specs.Tree.{given, combined}
-use Rattle.tree.specs.State.{State, isPeak, Sound}
+use Rattle.tree.specs.State.{State, isPeak}
+use Rattle.tree.proofs.Sound.{Sound}
 use Rattle.tree.specs.Walk.{Hangs}
 use Rattle.tree.proofs.NodeLaws.{split, above-left, above-right, above-top, whole-down, above-aligned, parent-right, aligned-left, aligned-right, above-zero}
 use Rattle.tree.proofs.PackLaws.{levels-holds}

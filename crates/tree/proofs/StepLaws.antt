@@ -12,8 +12,8 @@ use lib.Seq.{sets}
 use Rattle.base.specs.Pick.{pick}
 use Rattle.tree.specs.Node.{Node, num, above}
 use Rattle.tree.specs.State.{isPeak}
-use Rattle.tree.specs.Peaks.{peakBit}
-use Rattle.tree.specs.Steps.{peakAt, siblingAt, peakTurn, siblingTurn, peaksBelow, sentBelow, listed}
+use Rattle.tree.specs.Steps.{peakBit, peakAt, siblingAt, peakTurn, siblingTurn, listed}
+use Rattle.tree.proofs.Below.{peaksBelow, sentBelow}
 use Rattle.tree.proofs.NodeLaws.{parent-above}
 
 -- ---- the test for a peak

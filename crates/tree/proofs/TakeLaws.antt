@@ -1,94 +1,78 @@
 -- Taking a chunk, whatever comes, keeps a store sound. Assumes nothing.
-use mathlib.Core.Path.{_≡_, refl, sym, ap, _∙_}
-use mathlib.Core.Logic.{_⊎_, inl, inr}
-use mathlib.Core.Bool.{Bool, true, false, true≢false}
+use mathlib.Core.Path.{_≡_, refl, sym, _∙_}
+use mathlib.Core.Bool.{Bool, true, false}
 use mathlib.Core.List.{List}
-use Prim.Native.Nat.{ℕ, zero, suc, _+_, _^_, _≤_, _<_}
+use Prim.Native.Nat.{ℕ, suc, _+_, _^_, _≤_, _<_}
 use native.Mathlib.Omega.{arith}
 use Rattle.base.specs.Same.{same}
 use Rattle.base.proofs.SameLaws.{same-is}
 use Rattle.base.specs.Pick.{pick}
 use Rattle.tree.specs.Node.{above}
-use Rattle.tree.specs.Pack.{levels}
-use Rattle.tree.specs.Peaks.{peaks, peakOf}
+use Rattle.tree.specs.Pack.{leastFrom, levels}
+use Rattle.tree.specs.Peaks.{peaks, peakHeight}
 use Rattle.tree.specs.Tree.{combined, climb}
-use Rattle.tree.specs.State.{State, isPeak, adopted, hung, AllPeaks, Sound}
-use Rattle.tree.specs.Verdicts.{Came, got, every, reachFrom, peaksTrusted, counted, reached, complete, rooted, met, verdict, afterBy, after}
+use Rattle.tree.specs.State.{State, isPeak, AllPeaks}
+use Rattle.tree.proofs.Sound.{adopted, hung, Sound, counted, afterBy, after}
+use Rattle.tree.specs.Verdicts.{Came, got, every, peaksTrusted, countedHash, reached, complete, rooted, met, verdict}
 use Rattle.tree.specs.declared.verdict.Verdict.{Verdict}
 use Rattle.tree.specs.declared.verdict.Verdict.the-variants.{Fits, Missing, WrongPeaks, WrongClimb}
-use Rattle.tree.proofs.NodeLaws.{split, whole-below, above-aligned}
+use Rattle.tree.proofs.NodeLaws.{whole-below, above-aligned}
+use Rattle.tree.proofs.LeastLaws.{Least, least-finds}
 use Rattle.tree.proofs.PackLaws.{high-bound}
 use Rattle.tree.proofs.PeakLaws.{peaks-bits, peak-of}
-use Rattle.base.proofs.PickLaws.{either}
 use Rattle.tree.proofs.PeakTests.{bit-peak, some-bits, all-peaks, peak-test}
 use Rattle.tree.proofs.HungLaws.{hung-sound, adopted-sound}
-
--- ---- the least height that is trusted
-
-pub record Reached (f : ℕ → Bool) (h p t : ℕ) : Type 0 where
-  pub passes : f t ≡ true
-  pub within : (h ≤ t) × (t ≤ p)
-  pub before : (k : ℕ) → h ≤ k → k < t → f k ≡ false
-
-pub reach-finds : (f : ℕ → Bool) (p : ℕ) → f p ≡ true → (d h : ℕ) → h ≤ p → p < h + d → Reached f h p (reachFrom f d h)
-unfolding reachFrom
-reach-finds f p e zero h l u = absurd (omega arith)
-reach-finds f p e (suc d) h l u = go (either (f h)) (reach-finds f p e d (suc h))
-  where
-    go : (f h ≡ true) ⊎ (f h ≡ false) → (suc h ≤ p → p < suc h + d → Reached f (suc h) p (reachFrom f d (suc h))) → Reached f h p (pick (f h) h (reachFrom f d (suc h)))
-    go (inl b) ih = rw b (record { passes = b; within = omega arith; before = λ k i j. absurd (omega arith) })
-    go (inr b) ih = rw b (one (split p h))
-      where
-        at : (k : ℕ) → h ≤ k → (suc h ≤ k → f k ≡ false) → (k ≤ h) ⊎ (h < k) → f k ≡ false
-        at k i j (inl q) = let z : k ≡ h = omega arith in rw z b
-        at k i j (inr q) = j q
-
-        one : (p ≤ h) ⊎ (h < p) → Reached f h p (reachFrom f d (suc h))
-        one (inl q) = let z : p ≡ h = omega arith in absurd (true≢false (sym e ∙ ap f z ∙ b))
-        one (inr q) =
-            let r = ih q (omega arith) in
-            record { passes = r .passes; within = let w = r .within in omega arith; before = λ k i j. at k i (λ m. r .before k m j) (split k h) }
 
 -- ---- hanging a chunk below the first trusted node, where all peaks are trusted
 
 module _ (H : List ℕ → List ℕ) (Z : List ℕ) (N : ℕ) (r : List ℕ) (s : State) (S : Sound H Z N r s) (ps : AllPeaks N s) (c : ℕ) (l : c < N) where
-  reach : Reached (λ h. s .trust h (above h c)) 0 (peakOf N c .high) (reachFrom (λ h. s .trust h (above h c)) (suc (levels N)) 0)
+  reach : Least (λ h. s .trust h (above h c)) 0 (peakHeight N c) (leastFrom (λ h. s .trust h (above h c)) (suc (levels N)) 0)
   reach =
       let k = peak-of N c l in
-      let p = peakOf N c .high in
-      let w : above p c + 2 ^ p ≤ N = rw (k .on-way) at (k .whole) in
-      reach-finds (λ h. s .trust h (above h c)) p (ps p (above p c) (above-aligned p c) (peak-test N c l)) (suc (levels N)) 0
+      let p = peakHeight N c in
+      let w : above p c + 2 ^ p ≤ N = k .whole in
+      least-finds (λ h. s .trust h (above h c)) p (ps p (above p c) (above-aligned p c) (peak-test N c l)) (suc (levels N)) 0
       (omega arith) (omega (arith, high-bound N p (omega arith)))
 
-  hang-sound : (d : List ℕ) (msg : ℕ → ℕ → List ℕ) (t : ℕ) → t ≡ reachFrom (λ h. s .trust h (above h c)) (suc (levels N)) 0
-      → climb H msg (H d) c t (above t c) ≡ s .hash t (above t c) → Sound H Z N r (hung H c t d msg s)
+  hang-sound : (d : List ℕ) (msg : ℕ → ℕ → List ℕ) (t : ℕ) → t ≡ leastFrom (λ h. s .trust h (above h c)) (suc (levels N)) 0
+      → climb H msg (H d) c t ≡ s .hash t (above t c) → Sound H Z N r (hung H c t d msg s)
   hang-sound d msg t e hit =
       let R = rw (← e) at reach in
       let k = peak-of N c l in
-      let p = peakOf N c .high in
-      let w : above p c + 2 ^ p ≤ N = rw (k .on-way) at (k .whole) in
+      let p = peakHeight N c in
+      let w : above p c + 2 ^ p ≤ N = k .whole in
       hung-sound H Z N r s S c t d msg (whole-below N c t p (R .within .1) w) (R .passes) (λ j u. R .before j (omega arith) u) hit
 
 -- ---- taking a chunk
+
+-- the hash that counts is the one held with the peaks that came
+pub counted-hash : (H : List ℕ → List ℕ) (Z : List ℕ) (N : ℕ) (r : List ℕ) (s : State) (c : ℕ) (d : List ℕ) (m : Came) (h a : ℕ)
+    → countedHash N s (got Z m) h a ≡ counted H Z N r s c d m .hash h a
+unfolding counted
+counted-hash H Z N r s c d m h a = go (peaksTrusted N s)
+  where
+    go : (b : Bool) → pick b (s .hash h a) (pick (isPeak N h a) (got Z m h a) (s .hash h a)) ≡ pick b s (adopted N (got Z m) s) .hash h a
+    go true = refl
+    go false = refl
 
 -- what a verdict that the chunk fits says
 pub record FitsMeans (H : List ℕ → List ℕ) (Z : List ℕ) (N : ℕ) (r : List ℕ) (s : State) (c : ℕ) (d : List ℕ) (m : Came) (t : ℕ) : Type 0 where
   pub complete-is : complete H Z N r s c d m ≡ true
   pub rooted-is : rooted H Z N r s c d m ≡ true
   pub reached-is : t ≡ reached N s c
-  pub met-is : climb H (got Z m) (H d) c t (above t c) ≡ counted H Z N r s c d m .hash t (above t c)
+  pub met-is : climb H (got Z m) (H d) c t ≡ counted H Z N r s c d m .hash t (above t c)
 
 pub fits-means : (H : List ℕ → List ℕ) (Z : List ℕ) (N : ℕ) (r : List ℕ) (s : State) (c : ℕ) (d : List ℕ) (m : Came) (t : ℕ) → verdict H Z N r s c d m ≡ Fits t
     → FitsMeans H Z N r s c d m t
 unfolding verdict met
 fits-means H Z N r s c d m t =
-    go (complete H Z N r s c d m) (rooted H Z N r s c d m) (same (climb H (got Z m) (H d) c u (above u c)) (counted H Z N r s c d m .hash u (above u c))) u refl refl refl refl
+    go (complete H Z N r s c d m) (rooted H Z N r s c d m) (same (climb H (got Z m) (H d) c u) (countedHash N s (got Z m) u (above u c))) u refl refl refl refl
   where
     u : ℕ
     u = reached N s c
 
     go : (x y z : Bool) (h : ℕ) → complete H Z N r s c d m ≡ x → rooted H Z N r s c d m ≡ y
-        → same (climb H (got Z m) (H d) c u (above u c)) (counted H Z N r s c d m .hash u (above u c)) ≡ z → u ≡ h
+        → same (climb H (got Z m) (H d) c u) (countedHash N s (got Z m) u (above u c)) ≡ z → u ≡ h
         → pick x (pick y (pick z (Fits h) WrongClimb) WrongPeaks) Missing ≡ Fits t → FitsMeans H Z N r s c d m t
     go false y z h p q i k e = absurd (let w : _≡_ {A = ℕ} 0 1 = cc in omega arith)
     go true false z h p q i k e = absurd (let w : _≡_ {A = ℕ} 0 1 = cc in omega arith)
@@ -100,18 +84,18 @@ fits-means H Z N r s c d m t =
           complete-is = p;
           rooted-is = q;
           reached-is = sym g;
-          met-is = rw g at (same-is (climb H (got Z m) (H d) c u (above u c)) (counted H Z N r s c d m .hash u (above u c)) i);
+          met-is = rw g at (same-is (climb H (got Z m) (H d) c u) (countedHash N s (got Z m) u (above u c)) i ∙ counted-hash H Z N r s c d m u (above u c));
         }
 
 -- the node reached is the first that is trusted with the peaks that came
 pub reached-counted : (H : List ℕ → List ℕ) (Z : List ℕ) (N : ℕ) (r : List ℕ) (s : State) (c : ℕ) (d : List ℕ) (m : Came)
-    → reached N s c ≡ reachFrom (λ h. counted H Z N r s c d m .trust h (above h c)) (suc (levels N)) 0
+    → reached N s c ≡ leastFrom (λ h. counted H Z N r s c d m .trust h (above h c)) (suc (levels N)) 0
 unfolding reached counted
 reached-counted H Z N r s c d m = go (peaksTrusted N s)
   where
     go : (b : Bool)
-        → reachFrom (λ h. pick b (s .trust h (above h c)) (pick (isPeak N h (above h c)) true (s .trust h (above h c)))) (suc (levels N)) 0
-        ≡ reachFrom (λ h. pick b s (adopted N (got Z m) s) .trust h (above h c)) (suc (levels N)) 0
+        → leastFrom (λ h. pick b (s .trust h (above h c)) (pick (isPeak N h (above h c)) true (s .trust h (above h c)))) (suc (levels N)) 0
+        ≡ leastFrom (λ h. pick b s (adopted N (got Z m) s) .trust h (above h c)) (suc (levels N)) 0
     go true = refl
     go false = refl
 

@@ -1,5 +1,5 @@
 -- What a node of the tree holds, the peaks of the true tree combined, the climb. Assumes nothing.
-use mathlib.Core.Path.{_≡_, sym, ap, ap₂, _∙_}
+use mathlib.Core.Path.{_≡_, refl, sym, ap, ap₂, _∙_}
 use mathlib.Core.Logic.{_⊎_, inl, inr}
 use mathlib.Core.List.{List, _++_}
 use Prim.Native.Nat.{ℕ, zero, suc, _+_, _/_, _%_, _^_, _≤_, _<_}
@@ -7,10 +7,10 @@ use native.Mathlib.Nat.{le-refl}
 use native.Mathlib.Omega.{arith}
 use borrow.Author.Tests.{lt-ltb, le-ltb, le-leb, lt-leb}
 use lib.Pow.{pow-pos}
-use Rattle.tree.specs.Node.{down, other, above}
+use Rattle.tree.specs.Node.{siblingFrom, above}
 use Rattle.tree.specs.Pack.{levels}
 use Rattle.tree.specs.Tree.{tree, root, given, combined, joined, climb}
-use Rattle.tree.proofs.NodeLaws.{split, above-in, above-left, above-right, down-above}
+use Rattle.tree.proofs.NodeLaws.{split, above-in, above-left, above-right}
 
 -- ---- what a node holds
 
@@ -68,48 +68,49 @@ module _ (H : List ℕ → List ℕ) (Z : List ℕ) (N : ℕ) where
   combined-root chunk = given-tree chunk (levels N) 0
 
 module _ (H : List ℕ → List ℕ) (h c : ℕ) (x y : List ℕ) where
-  pub joined-left : c / 2 ^ h % 2 ≡ 0 → joined H c h (above (suc h) c) x y ≡ H (x ++ y)
+  pub joined-left : c / 2 ^ h % 2 ≡ 0 → joined H c h x y ≡ H (x ++ y)
   joined-left e =
       let f = above-left h c e in
       rw (lt-ltb c (above (suc h) c + 2 ^ h) (omega (arith, above-in h c)))
 
-  pub joined-right : c / 2 ^ h % 2 ≡ 1 → joined H c h (above (suc h) c) x y ≡ H (y ++ x)
+  pub joined-right : c / 2 ^ h % 2 ≡ 1 → joined H c h x y ≡ H (y ++ x)
   joined-right e =
       let f = above-right h c e in
       rw (le-ltb c (above (suc h) c + 2 ^ h) (omega (arith, above-in h c)))
 
 -- one step of the climb, as a loop takes it
 pub climb-suc : (H : List ℕ → List ℕ) (sib : ℕ → ℕ → List ℕ) (v : List ℕ) (c h : ℕ)
-    → climb H sib v c (suc h) (above (suc h) c) ≡ joined H c h (above (suc h) c) (climb H sib v c h (above h c)) (sib h (other c h (above (suc h) c)))
+    → climb H sib v c (suc h) ≡ joined H c h (climb H sib v c h) (sib h (siblingFrom h c))
 unfolding climb
-climb-suc H sib v c h =
-    ap (λ (a : ℕ). joined H c h (above (suc h) c) (climb H sib v c h a) (sib h (other c h (above (suc h) c)))) (down-above h c)
+climb-suc H sib v c h = refl
 
 -- ---- the climb: with the siblings of any hashes g that hang together on the way, it gives g's hash
 
 module _ (H : List ℕ → List ℕ) (g : ℕ → ℕ → List ℕ) where
-  pub joined-is : (c h a : ℕ) → joined H c h a (g h (down c h a)) (g h (other c h a)) ≡ H (g h a ++ g h (a + 2 ^ h))
-  joined-is c h a = go (split (suc c) (a + 2 ^ h))
+  pub joined-is : (c h : ℕ) → joined H c h (g h (above h c)) (g h (siblingFrom h c)) ≡ H (g h (above (suc h) c) ++ g h (above (suc h) c + 2 ^ h))
+  joined-is c h = go (c / 2 ^ h % 2) refl
     where
-      go : (c < a + 2 ^ h) ⊎ (a + 2 ^ h < suc c) → joined H c h a (g h (down c h a)) (g h (other c h a)) ≡ H (g h a ++ g h (a + 2 ^ h))
-      go (inl e) = rw (lt-ltb c (a + 2 ^ h) e)
-      go (inr e) = rw (le-ltb c (a + 2 ^ h) (omega arith))
+      go : (x : ℕ) → c / 2 ^ h % 2 ≡ x → joined H c h (g h (above h c)) (g h (siblingFrom h c)) ≡ H (g h (above (suc h) c) ++ g h (above (suc h) c + 2 ^ h))
+      go zero e =
+          let f = above-left h c e in
+          rw (lt-ltb c (above (suc h) c + 2 ^ h) (omega (arith, above-in h c)), f)
+      go (suc x) e =
+          let f = above-right h c (omega arith) in
+          rw (le-ltb c (above (suc h) c + 2 ^ h) (omega (arith, above-in h c)), ← f)
 
   pub climb-gives : (c h : ℕ)
       → ((k : ℕ) → k < h → g (suc k) (above (suc k) c) ≡ H (g k (above (suc k) c) ++ g k (above (suc k) c + 2 ^ k)))
-      → climb H g (g zero c) c h (above h c) ≡ g h (above h c)
+      → climb H g (g zero c) c h ≡ g h (above h c)
   unfolding climb
   climb-gives c zero hang = let e : above zero c ≡ c = omega (arith, above-in zero c) in rw e
   climb-gives c (suc h) hang =
-      ap (λ (a : ℕ). joined H c h (above (suc h) c) (climb H g (g zero c) c h a) (g h (other c h (above (suc h) c)))) (down-above h c)
-      ∙ ap (λ (v : List ℕ). joined H c h (above (suc h) c) v (g h (other c h (above (suc h) c)))) (climb-gives c h (λ k l. hang k (omega arith)))
-      ∙ ap (λ (a : ℕ). joined H c h (above (suc h) c) (g h a) (g h (other c h (above (suc h) c)))) (sym (down-above h c))
-      ∙ joined-is c h (above (suc h) c)
+      ap (λ (v : List ℕ). joined H c h v (g h (siblingFrom h c))) (climb-gives c h (λ k l. hang k (omega arith)))
+      ∙ joined-is c h
       ∙ sym (hang h (le-refl (suc h)))
 
 -- the true siblings give the true node, at each height
 module _ (H : List ℕ → List ℕ) (Z : List ℕ) (N : ℕ) (chunk : ℕ → List ℕ) where
-  pub climb-true : (c h : ℕ) → c < N → climb H (tree H Z N chunk) (H (chunk c)) c h (above h c) ≡ tree H Z N chunk h (above h c)
+  pub climb-true : (c h : ℕ) → c < N → climb H (tree H Z N chunk) (H (chunk c)) c h ≡ tree H Z N chunk h (above h c)
   climb-true c h l =
-      ap (λ (v : List ℕ). climb H (tree H Z N chunk) v c h (above h c)) (sym (tree-leaf H Z N chunk c l))
+      ap (λ (v : List ℕ). climb H (tree H Z N chunk) v c h) (sym (tree-leaf H Z N chunk c l))
       ∙ climb-gives H (tree H Z N chunk) c h (λ k _. tree-step H Z N chunk k (above (suc k) c) (omega (arith, above-in (suc k) c)))

@@ -4,8 +4,8 @@ use mathlib.Core.List.{[], _∷_, map}
 use Prim.Native.Nat.{ℕ}
 use Rattle.tree.specs.Bin.{lowOnes, height, first, last}
 use Rattle.tree.specs.Node.{Node, num}
-use Rattle.tree.specs.Pack.{chunkSize, chunks, size, least, levels}
-use Rattle.tree.specs.Peaks.{peaksFrom, peaks, peakFrom, peakOf, siblings, insert, sort, sent}
+use Rattle.tree.specs.Pack.{chunkSize, chunks, size, leastFrom, levels}
+use Rattle.tree.specs.Peaks.{peaksFrom, peaks, peakHeight, siblings, insert, sort, sent}
 
 -- Node b covers the chunks f..l.
 abbrev pub Covers : ℕ → ℕ → ℕ → Type 0
@@ -42,7 +42,7 @@ pub record Tried : Type 0 where
   pub sent7 : map range (sent 7 0) ≡ (0, 3) ∷ (2, 3) ∷ (4, 5) ∷ (1, 1) ∷ (6, 6) ∷ []
 
 pub tried : Tried
-unfolding lowOnes height first last least levels peaksFrom peaks peakFrom peakOf siblings insert sort sent
+unfolding lowOnes height first last leastFrom levels peaksFrom peaks peakHeight siblings insert sort sent
 tried = record {
   node3 = (refl, refl);
   node9 = (refl, refl);

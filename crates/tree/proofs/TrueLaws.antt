@@ -3,7 +3,7 @@ use mathlib.Core.Path.{_≡_, refl, sym, ap, ap₂, _∙_}
 use mathlib.Core.Logic.{_⊎_, inl, inr, _≢_}
 use mathlib.Core.Bool.{Bool, true, false}
 use mathlib.Core.List.{List, [], _++_}
-use mathlib.Core.Option.{some}
+use mathlib.Core.Option.{Option, some, Option·getD}
 use Prim.Native.Nat.{ℕ, zero, suc, _+_, _/_, _%_, _^_, _≤_, _<_}
 use native.Mathlib.Omega.{arith}
 use native.Mathlib.Decide.{ℕ-discrete}
@@ -12,42 +12,42 @@ use lib.Dec.{leb, ltb, eqb}
 use Rattle.base.specs.Same.{same}
 use Rattle.base.proofs.SameLaws.{same-refl}
 use Rattle.base.specs.Pick.{pick}
-use Rattle.tree.specs.Node.{Node, other, above}
+use Rattle.tree.specs.Node.{Node, siblingFrom, above}
 use Rattle.tree.specs.Pack.{levels}
-use Rattle.tree.specs.Peaks.{peaks, peakOf, siblings, sent}
+use Rattle.tree.specs.Peaks.{peaks, peakHeight, siblings, sent}
 use Rattle.tree.specs.Tree.{tree, root, combined, joined, climb}
-use Rattle.tree.specs.State.{State, isPeak, onPath, adopted, hung}
-use Rattle.tree.specs.Verdicts.{Came, isThere, orElse, got, every, Each, peaksTrusted, reached, needed, counted, complete, rooted, met, verdict}
+use Rattle.tree.specs.State.{State, isPeak}
+use Rattle.tree.proofs.Sound.{onPath, adopted, hung, counted}
+use Rattle.tree.specs.Verdicts.{Came, isThere, got, every, Each, peaksTrusted, reached, needed, complete, rooted, met, verdict}
 use Rattle.tree.specs.Steps.{siblingAt}
 use Rattle.tree.specs.declared.verdict.Verdict.the-variants.{Fits}
-use Rattle.tree.proofs.NodeLaws.{above-left, above-right, other-left, other-right, down-above, whole-below, above-aligned, child-cases}
+use Rattle.tree.proofs.NodeLaws.{above-left, above-right, beside-left, beside-right, whole-below, above-aligned, child-cases}
+use Rattle.tree.proofs.LeastLaws.{Least, least-finds}
 use Rattle.tree.proofs.PackLaws.{high-bound}
 use Rattle.tree.proofs.TreeLaws.{combined-root, climb-true}
-use Rattle.tree.proofs.PeakLaws.{peak-of}
 use Rattle.base.proofs.PickLaws.{both-true}
 use Rattle.tree.proofs.EachLaws.{each-every, each-map, each-append, each-split, each-sort, siblings-at, siblings-each}
 use Rattle.tree.proofs.PeakTests.{each-peak, all-peaks, peak-test}
 use Rattle.tree.proofs.SoundLaws.{combined-peaks}
-use Rattle.tree.proofs.TakeLaws.{Reached, reach-finds, reached-counted}
+use Rattle.tree.proofs.TakeLaws.{reached-counted, counted-hash}
 
 -- the climb looks at the siblings on its way alone
 pub climb-agree : (H : List ℕ → List ℕ) (x y : ℕ → ℕ → List ℕ) (v : List ℕ) (c t : ℕ)
-    → ((h : ℕ) → h < t → x h (other c h (above (suc h) c)) ≡ y h (other c h (above (suc h) c)))
-    → climb H x v c t (above t c) ≡ climb H y v c t (above t c)
+    → ((h : ℕ) → h < t → x h (siblingFrom h c) ≡ y h (siblingFrom h c))
+    → climb H x v c t ≡ climb H y v c t
 unfolding climb
 climb-agree H x y v c zero e = refl
 climb-agree H x y v c (suc t) e =
-    rw (down-above t c)
-    (ap₂ (λ (p q : List ℕ). joined H c t (above (suc t) c) p q) (climb-agree H x y v c t (λ h l. e h (omega arith))) (e t (omega arith)))
+    ap₂ (λ (p q : List ℕ). joined H c t p q) (climb-agree H x y v c t (λ h l. e h (omega arith))) (e t (omega arith))
 
 -- a node beside the way is the sibling of one on it
-beside : (h c a : ℕ) → above h a ≡ a → above (suc h) a ≡ above (suc h) c → a ≢ above h c → a ≡ other c h (above (suc h) c)
-beside h c a e p d = go (c / 2 ^ h % 2) refl (child-cases h a e)
+beside-kid : (h c a : ℕ) → above h a ≡ a → above (suc h) a ≡ above (suc h) c → a ≢ above h c → a ≡ siblingFrom h c
+beside-kid h c a e p d = go (c / 2 ^ h % 2) refl (child-cases h a e)
   where
-    go : (x : ℕ) → c / 2 ^ h % 2 ≡ x → (a ≡ above (suc h) a) ⊎ (a ≡ above (suc h) a + 2 ^ h) → a ≡ other c h (above (suc h) c)
+    go : (x : ℕ) → c / 2 ^ h % 2 ≡ x → (a ≡ above (suc h) a) ⊎ (a ≡ above (suc h) a + 2 ^ h) → a ≡ siblingFrom h c
     go zero f (inl q) = absurd (d (omega (arith, q, p, above-left h c f)))
-    go zero f (inr q) = omega (arith, q, p, above-left h c f, other-left h c f)
-    go (suc x) f (inl q) = let g : c / 2 ^ h % 2 ≡ 1 = omega arith in omega (arith, q, p, above-right h c g, other-right h c g)
+    go zero f (inr q) = omega (arith, q, p, above-left h c f, beside-left h c f)
+    go (suc x) f (inl q) = let g : c / 2 ^ h % 2 ≡ 1 = omega arith in omega (arith, q, p, above-right h c g, beside-right h c g)
     go (suc x) f (inr q) = let g : c / 2 ^ h % 2 ≡ 1 = omega arith in absurd (d (omega (arith, q, p, above-right h c g)))
 
 -- ---- true hashes
@@ -68,18 +68,18 @@ module _ (H : List ℕ → List ℕ) (Z : List ℕ) (N : ℕ) (chunk : ℕ → L
     abbrev d : List ℕ
     d = chunk c
 
-    parts : Each (TrueAt m) (peaks N) × Each (TrueAt m) (siblings c (peakOf N c .high) (peakOf N c .from))
+    parts : Each (TrueAt m) (peaks N) × Each (TrueAt m) (siblings c (peakHeight N c))
     unfolding sent
-    parts = let ss = siblings c (peakOf N c .high) (peakOf N c .from) in each-split (TrueAt m) (peaks N) ss (each-sort (TrueAt m) (peaks N ++ ss) B)
+    parts = let ss = siblings c (peakHeight N c) in each-split (TrueAt m) (peaks N) ss (each-sort (TrueAt m) (peaks N ++ ss) B)
 
     peak-in : (h b : ℕ) → isPeak N h b ≡ true → b + 2 ^ h ≤ N
     peak-in h b p = leb-true (b + 2 ^ h) N (both-true (leb (b + 2 ^ h) N) (ltb N (above (suc h) b + 2 ^ suc h)) p .0)
 
     peak-true : (h a : ℕ) → above h a ≡ a → isPeak N h a ≡ true → got Z m h a ≡ tree H Z N chunk h a
-    peak-true h a e p = ap (orElse Z) (each-peak (TrueAt m) N (parts .0) h a e p)
+    peak-true h a e p = ap (λ (o : Option (List ℕ)). Option·getD o Z) (each-peak (TrueAt m) N (parts .0) h a e p)
 
-    sibling-true : (h : ℕ) → h < peakOf N c .high → TrueAt m (siblingAt c h)
-    sibling-true = siblings-at (TrueAt m) c (peakOf N c .high) (rw (peak-of N c l .on-way) at (parts .1))
+    sibling-true : (h : ℕ) → h < peakHeight N c → TrueAt m (siblingAt c h)
+    sibling-true = siblings-at (TrueAt m) c (peakHeight N c) (parts .1)
 
     roots : rooted H Z N r s c d m ≡ true
     unfolding rooted
@@ -108,27 +108,27 @@ module _ (H : List ℕ → List ℕ) (Z : List ℕ) (N : ℕ) (chunk : ℕ → L
         go true = T
         go false = adopted-true
 
-    peak-trusted : counted H Z N r s c d m .trust (peakOf N c .high) (above (peakOf N c .high) c) ≡ true
+    peak-trusted : counted H Z N r s c d m .trust (peakHeight N c) (above (peakHeight N c) c) ≡ true
     unfolding counted peaksTrusted
     peak-trusted = go (every (λ n. s .trust (n .high) (n .from)) (peaks N)) refl
       where
         go : (b : Bool) → every (λ n. s .trust (n .high) (n .from)) (peaks N) ≡ b
-            → pick b s (adopted N (got Z m) s) .trust (peakOf N c .high) (above (peakOf N c .high) c) ≡ true
-        go true e = all-peaks (λ n. s .trust (n .high) (n .from)) N e (peakOf N c .high) (above (peakOf N c .high) c) (above-aligned (peakOf N c .high) c) (peak-test N c l)
+            → pick b s (adopted N (got Z m) s) .trust (peakHeight N c) (above (peakHeight N c) c) ≡ true
+        go true e = all-peaks (λ n. s .trust (n .high) (n .from)) N e (peakHeight N c) (above (peakHeight N c) c) (above-aligned (peakHeight N c) c) (peak-test N c l)
         go false e = rw (peak-test N c l)
 
-    reach : Reached (λ h. counted H Z N r s c d m .trust h (above h c)) 0 (peakOf N c .high) (reached N s c)
+    reach : Least (λ h. counted H Z N r s c d m .trust h (above h c)) 0 (peakHeight N c) (reached N s c)
     reach =
-        let p = peakOf N c .high in
+        let p = peakHeight N c in
         rw (reached-counted H Z N r s c d m)
-        (reach-finds (λ h. counted H Z N r s c d m .trust h (above h c)) p peak-trusted (suc (levels N)) 0 (omega arith)
+        (least-finds (λ h. counted H Z N r s c d m .trust h (above h c)) p peak-trusted (suc (levels N)) 0 (omega arith)
         (omega (arith, high-bound N p (omega (arith, peak-in p (above p c) (peak-test N c l))))))
 
     completes : complete H Z N r s c d m ≡ true
     unfolding complete needed
     completes =
-        each-every came (pick (peaksTrusted N s) [] (peaks N) ++ siblings c (reached N s c) (above (reached N s c) c))
-        (each-append There (pick (peaksTrusted N s) [] (peaks N)) (siblings c (reached N s c) (above (reached N s c) c)) (go (peaksTrusted N s))
+        each-every came (pick (peaksTrusted N s) [] (peaks N) ++ siblings c (reached N s c))
+        (each-append There (pick (peaksTrusted N s) [] (peaks N)) (siblings c (reached N s c)) (go (peaksTrusted N s))
         (siblings-each There c (reached N s c) (λ h u. ap isThere (sibling-true h (omega (arith, reach .within))))))
       where
         came : Node → Bool
@@ -141,19 +141,19 @@ module _ (H : List ℕ → List ℕ) (Z : List ℕ) (N : ℕ) (chunk : ℕ → L
         go true = tt
         go false = each-map (TrueAt m) There (λ n. ap isThere) (peaks N) (parts .0)
 
-    climbs : (t : ℕ) → t ≤ reached N s c → climb H (got Z m) (H d) c t (above t c) ≡ tree H Z N chunk t (above t c)
+    climbs : (t : ℕ) → t ≤ reached N s c → climb H (got Z m) (H d) c t ≡ tree H Z N chunk t (above t c)
     climbs t u =
-        climb-agree H (got Z m) (tree H Z N chunk) (H d) c t (λ h i. ap (orElse Z) (sibling-true h (omega (arith, reach .within))))
+        climb-agree H (got Z m) (tree H Z N chunk) (H d) c t (λ h i. ap (λ (o : Option (List ℕ)). Option·getD o Z) (sibling-true h (omega (arith, reach .within))))
         ∙ climb-true H Z N chunk c t l
 
     meets : met H Z N r s c d m ≡ true
     unfolding met
     meets =
         let t = reached N s c in
-        let p = peakOf N c .high in
+        let p = peakHeight N c in
         let inside : above t c + 2 ^ t ≤ N = whole-below N c t p (reach .within .1) (peak-in p (above p c) (peak-test N c l)) in
         let holds : counted H Z N r s c d m .hash t (above t c) ≡ tree H Z N chunk t (above t c) = counted-true t (above t c) (above-aligned t c) inside (reach .passes) in
-        ap₂ same (climbs t (omega arith)) holds ∙ same-refl (tree H Z N chunk t (above t c))
+        ap₂ same (climbs t (omega arith)) (counted-hash H Z N r s c d m t (above t c) ∙ holds) ∙ same-refl (tree H Z N chunk t (above t c))
 
     -- The verdict on a true chunk with the true hashes that go out with it: it fits.
     pub true-fits : verdict H Z N r s c d m ≡ Fits (reached N s c)
@@ -165,12 +165,12 @@ module _ (H : List ℕ → List ℕ) (Z : List ℕ) (N : ℕ) (chunk : ℕ → L
     hung-true h a e i f = go (onPath c (reached N s c) h a) refl f
       where
         at : h < reached N s c → above (suc h) a ≡ above (suc h) c → Dec (a ≡ above h c)
-            → pick (eqb a (above h c)) (climb H (got Z m) (H d) c h (above h c)) (got Z m h a) ≡ tree H Z N chunk h a
+            → pick (eqb a (above h c)) (climb H (got Z m) (H d) c h) (got Z m h a) ≡ tree H Z N chunk h a
         at u v (yes z) = rw (eq-eqb a (above h c) z) (climbs h (omega arith) ∙ ap (tree H Z N chunk h) (sym z))
-        at u v (no z) = rw (ne-eqb a (above h c) z) (rw (beside h c a e v z) (ap (orElse Z) (sibling-true h (omega (arith, reach .within)))))
+        at u v (no z) = rw (ne-eqb a (above h c) z) (rw (beside-kid h c a e v z) (ap (λ (o : Option (List ℕ)). Option·getD o Z) (sibling-true h (omega (arith, reach .within)))))
 
         go : (b : Bool) → onPath c (reached N s c) h a ≡ b → pick b true (counted H Z N r s c d m .trust h a) ≡ true
-            → pick b (pick (eqb a (above h c)) (climb H (got Z m) (H d) c h (above h c)) (got Z m h a)) (counted H Z N r s c d m .hash h a) ≡ tree H Z N chunk h a
+            → pick b (pick (eqb a (above h c)) (climb H (got Z m) (H d) c h) (got Z m h a)) (counted H Z N r s c d m .hash h a) ≡ tree H Z N chunk h a
         go true p g =
             let q = both-true (ltb h (reached N s c)) (eqb (above (suc h) a) (above (suc h) c)) p in
             at (ltb-true h (reached N s c) (q .0)) (eqb-true (above (suc h) a) (above (suc h) c) (q .1)) (ℕ-discrete a (above h c))

@@ -4,20 +4,19 @@ use mathlib.Core.Logic.{_⊎_, inl, inr, _≢_}
 use mathlib.Core.Bool.{Bool, true, false, true≢false}
 use mathlib.Core.List.{List, _++_}
 use mathlib.Core.Option.{Option, none, some}
-use Prim.Native.Nat.{ℕ, zero, suc, _+_, _^_, _≤_, _<_}
+use Prim.Native.Nat.{ℕ, zero, suc, _+_, _/_, _%_, _^_, _≤_, _<_}
 use native.Mathlib.Omega.{arith}
-use lib.Dec.{ltb}
 use lib.ListN.{length, take, drop}
 use lib.Seq.{take-at, drop-at}
 use Rattle.base.specs.Same.{same}
 use Rattle.base.proofs.SameLaws.{same-is, same-refl}
 use Rattle.base.specs.Pick.{pick}
-use Rattle.tree.specs.Node.{Node, node, down, above}
+use Rattle.tree.specs.Node.{Node, node, above}
 use Rattle.tree.specs.Pack.{levels}
 use Rattle.tree.specs.Tree.{given, combined}
 use Rattle.tree.specs.State.{State}
-use Rattle.tree.specs.Walk.{Hangs, string, walkFrom, walk, names, Collision, lowest, Compared, equal, colliding}
-use Rattle.tree.proofs.NodeLaws.{split, above-in, down-above, above-top, above-zero}
+use Rattle.tree.specs.Walk.{Hangs, string, walkFrom, walk, here, there, Collision, Lowest}
+use Rattle.tree.proofs.NodeLaws.{split, above-in, above-left, above-right, above-top, above-zero}
 use Rattle.tree.proofs.PackLaws.{levels-holds}
 use Rattle.tree.proofs.TreeLaws.{given-empty, given-whole, given-mixed}
 
@@ -74,16 +73,18 @@ module _ (H : List ℕ → List ℕ) (Z : List ℕ) (N : ℕ) (r : List ℕ) whe
 
 -- ---- the walk goes on where the strings are the same, and stops where they differ
 
-module _ (H : List ℕ → List ℕ) (Z : List ℕ) (N : ℕ) (s t : State) (c a : ℕ) where
-  walk-leaf : walkFrom H Z N s t c zero a ≡ node zero a
+module _ (H : List ℕ → List ℕ) (Z : List ℕ) (N : ℕ) (s t : State) (c : ℕ) where
+  walk-leaf : walkFrom H Z N s t c zero ≡ node zero (above zero c)
   unfolding walkFrom
   walk-leaf = refl
 
-  walk-on : (h : ℕ) → same (string H Z N s (suc h) a) (string H Z N t (suc h) a) ≡ true → walkFrom H Z N s t c (suc h) a ≡ walkFrom H Z N s t c h (down c h a)
+  walk-on : (h : ℕ) → same (string H Z N s (suc h) (above (suc h) c)) (string H Z N t (suc h) (above (suc h) c)) ≡ true
+      → walkFrom H Z N s t c (suc h) ≡ walkFrom H Z N s t c h
   unfolding walkFrom
   walk-on h e = rw e
 
-  walk-stops : (h : ℕ) → same (string H Z N s (suc h) a) (string H Z N t (suc h) a) ≡ false → walkFrom H Z N s t c (suc h) a ≡ node (suc h) a
+  walk-stops : (h : ℕ) → same (string H Z N s (suc h) (above (suc h) c)) (string H Z N t (suc h) (above (suc h) c)) ≡ false
+      → walkFrom H Z N s t c (suc h) ≡ node (suc h) (above (suc h) c)
   unfolding walkFrom
   walk-stops h e = rw e
 
@@ -109,22 +110,23 @@ module _ (H : List ℕ → List ℕ) (Z : List ℕ) (N W : ℕ) (zlen : length Z
       long : (held : ℕ → ℕ → List ℕ) → ((k b : ℕ) → length (held k b) ≡ W) → length (given H Z N held h a) ≡ W
       long held len = given-all H Z N (λ x. length x ≡ W) zlen hlen held len h a
 
-  at-down : (h a : ℕ) → (given H Z N (s .hash) h a ≡ given H Z N (t .hash) h a) × (given H Z N (s .hash) h (a + 2 ^ h) ≡ given H Z N (t .hash) h (a + 2 ^ h))
-      → given H Z N (s .hash) h (down c h a) ≡ given H Z N (t .hash) h (down c h a)
-  at-down h a p = go (ltb c (a + 2 ^ h))
+  at-above : (h : ℕ) → (given H Z N (s .hash) h (above (suc h) c) ≡ given H Z N (t .hash) h (above (suc h) c))
+      × (given H Z N (s .hash) h (above (suc h) c + 2 ^ h) ≡ given H Z N (t .hash) h (above (suc h) c + 2 ^ h))
+      → given H Z N (s .hash) h (above h c) ≡ given H Z N (t .hash) h (above h c)
+  at-above h p = go (c / 2 ^ h % 2) refl
     where
-      go : (b : Bool) → given H Z N (s .hash) h (pick b a (a + 2 ^ h)) ≡ given H Z N (t .hash) h (pick b a (a + 2 ^ h))
-      go true = p .0
-      go false = p .1
+      go : (x : ℕ) → c / 2 ^ h % 2 ≡ x → given H Z N (s .hash) h (above h c) ≡ given H Z N (t .hash) h (above h c)
+      go zero e = rw (above-left h c e) at (p .0)
+      go (suc x) e = rw (above-right h c (omega arith)) at (p .1)
 
   leaf-string : (u : State) → string H Z N u zero (above zero c) ≡ u .chunk c
   unfolding string
   leaf-string u = ap (u .chunk) (above-zero c)
 
   meets-from : (h : ℕ) → h ≤ levels N → given H Z N (s .hash) h (above h c) ≡ given H Z N (t .hash) h (above h c)
-      → Meets H Z N s t c (walkFrom H Z N s t c h (above h c))
+      → Meets H Z N s t c (walkFrom H Z N s t c h)
   meets-from zero w e =
-      rw (walk-leaf H Z N s t c (above zero c))
+      rw (walk-leaf H Z N s t c)
       (record {
         on-way = refl;
         differ = λ p. d (sym (leaf-string s) ∙ p ∙ leaf-string t);
@@ -142,13 +144,13 @@ module _ (H : List ℕ → List ℕ) (Z : List ℕ) (N W : ℕ) (zlen : length Z
       T = string H Z N t (suc h) (above (suc h) c)
 
       go : (b : Bool) → same S T ≡ b
-          → (given H Z N (s .hash) h (above h c) ≡ given H Z N (t .hash) h (above h c) → Meets H Z N s t c (walkFrom H Z N s t c h (above h c)))
-          → Meets H Z N s t c (walkFrom H Z N s t c (suc h) (above (suc h) c))
+          → (given H Z N (s .hash) h (above h c) ≡ given H Z N (t .hash) h (above h c) → Meets H Z N s t c (walkFrom H Z N s t c h))
+          → Meets H Z N s t c (walkFrom H Z N s t c (suc h))
       go true f ih =
-          rw (walk-on H Z N s t c (above (suc h) c) h f, down-above h c)
-          (ih (rw (down-above h c) at (at-down h (above (suc h) c) (parts h (above (suc h) c) (same-is S T f)))))
+          rw (walk-on H Z N s t c h f)
+          (ih (at-above h (parts h (above (suc h) c) (same-is S T f))))
       go false f ih =
-          rw (walk-stops H Z N s t c (above (suc h) c) h f)
+          rw (walk-stops H Z N s t c h f)
           (record {
             on-way = refl;
             differ = same-differ S T f;
@@ -163,12 +165,12 @@ module _ (H : List ℕ → List ℕ) (Z : List ℕ) (N W : ℕ) (zlen : length Z
   unfolding walk combined
   meets =
       let z = above-top (levels N) c (omega (arith, levels-holds N)) in
-      rw z at (meets-from (levels N) (omega arith) (rw z (gs .top ∙ sym (gt .top))))
+      meets-from (levels N) (omega arith) (rw z (gs .top ∙ sym (gt .top)))
 
 -- it is the first such node: at each node above it on the way the strings are the same
 module _ (H : List ℕ → List ℕ) (Z : List ℕ) (N : ℕ) (s t : State) (c : ℕ) where
-  first-from : (h : ℕ) (k : ℕ) → walkFrom H Z N s t c h (above h c) .high < k → k ≤ h → string H Z N s k (above k c) ≡ string H Z N t k (above k c)
-  first-from zero k l u = absurd (omega (arith, ap (λ (n : Node). n .high) (walk-leaf H Z N s t c (above zero c))))
+  first-from : (h : ℕ) (k : ℕ) → walkFrom H Z N s t c h .high < k → k ≤ h → string H Z N s k (above k c) ≡ string H Z N t k (above k c)
+  first-from zero k l u = absurd (omega (arith, ap (λ (n : Node). n .high) (walk-leaf H Z N s t c)))
   first-from (suc h) k l u = go (same S T) refl (first-from h k)
     where
       S : List ℕ
@@ -178,26 +180,24 @@ module _ (H : List ℕ → List ℕ) (Z : List ℕ) (N : ℕ) (s t : State) (c :
       T = string H Z N t (suc h) (above (suc h) c)
 
       go : (b : Bool) → same S T ≡ b
-          → (walkFrom H Z N s t c h (above h c) .high < k → k ≤ h → string H Z N s k (above k c) ≡ string H Z N t k (above k c))
+          → (walkFrom H Z N s t c h .high < k → k ≤ h → string H Z N s k (above k c) ≡ string H Z N t k (above k c))
           → string H Z N s k (above k c) ≡ string H Z N t k (above k c)
-      go false f ih = absurd (omega (arith, ap (λ (n : Node). n .high) (walk-stops H Z N s t c (above (suc h) c) h f)))
+      go false f ih = absurd (omega (arith, ap (λ (n : Node). n .high) (walk-stops H Z N s t c h f)))
       go true f ih = at (split k h)
         where
           at : (k ≤ h) ⊎ (h < k) → string H Z N s k (above k c) ≡ string H Z N t k (above k c)
-          at (inl v) = ih (rw (walk-on H Z N s t c (above (suc h) c) h f, down-above h c) at l) v
+          at (inl v) = ih (rw (walk-on H Z N s t c h f) at l) v
           at (inr v) = let e : k ≡ suc h = omega arith in rw e (same-is S T f)
 
-  pub walk-first : c < N → (k : ℕ) → walk H Z N s t c .high < k → k ≤ levels N → string H Z N s k (above k c) ≡ string H Z N t k (above k c)
+  pub walk-first : (k : ℕ) → walk H Z N s t c .high < k → k ≤ levels N → string H Z N s k (above k c) ≡ string H Z N t k (above k c)
   unfolding walk
-  walk-first l k =
-      let z = above-top (levels N) c (omega (arith, levels-holds N)) in
-      rw z at (first-from (levels N) k)
+  walk-first = first-from (levels N)
 
 module _ (H : List ℕ → List ℕ) (Z : List ℕ) (N W : ℕ) (zlen : length Z ≡ W) (hlen : (x : List ℕ) → length (H x) ≡ W)
     (r : List ℕ) (s t : State) (slen : (h a : ℕ) → length (s .hash h a) ≡ W) (tlen : (h a : ℕ) → length (t .hash h a) ≡ W)
     (c : ℕ) (l : c < N) (gs : Hangs H Z N r s c) (gt : Hangs H Z N r t c) (d : s .chunk c ≢ t .chunk c) where
   pub clash : Collision H Z N s t c
-  unfolding names
+  unfolding here there
   clash =
       let m = meets H Z N W zlen hlen r s t slen tlen c l gs gt d in
       record {
@@ -207,10 +207,15 @@ module _ (H : List ℕ → List ℕ) (Z : List ℕ) (N W : ℕ) (zlen : length Z
         hashed-here = m .left;
         hashed-there = m .right;
         one-value = m .agree;
-        first = walk-first H Z N s t c l;
+        first = walk-first H Z N s t c;
       }
 
 -- ---- the lowest chunk that differs
+
+-- The lowest of the d chunks from i on that differs.
+unfoldable lowest : State → State → ℕ → ℕ → Option ℕ
+lowest s t zero i = none
+lowest s t (suc d) i = pick (same (s .chunk i) (t .chunk i)) (lowest s t d (suc i)) (some i)
 
 record LowestFrom (s t : State) (i d j : ℕ) : Type 0 where
   in-range : (i ≤ j) × (j < i + d)
@@ -249,15 +254,20 @@ lowest-says s t (suc d) i = go (same (s .chunk i) (t .chunk i)) refl (lowest s t
 
 -- ---- the claim
 
+-- Two stores compared: all chunks are the same, or the walk to the lowest that differs names a collision.
+pub data Compared (H : List ℕ → List ℕ) (Z : List ℕ) (N : ℕ) (s t : State) : Type 0 where
+  equal : ((k : ℕ) → k < N → s .chunk k ≡ t .chunk k) → Compared H Z N s t
+  colliding : (c : ℕ) → Lowest N s t c → Collision H Z N s t c → Compared H Z N s t
+
 -- Two stores under one root in which every chunk hangs.
 pub compare : (H : List ℕ → List ℕ) (Z : List ℕ) (N W : ℕ) → length Z ≡ W → ((x : List ℕ) → length (H x) ≡ W)
     → (r : List ℕ) (s t : State) → ((h a : ℕ) → length (s .hash h a) ≡ W) → ((h a : ℕ) → length (t .hash h a) ≡ W)
     → ((c : ℕ) → c < N → Hangs H Z N r s c) → ((c : ℕ) → c < N → Hangs H Z N r t c) → Compared H Z N s t
-compare H Z N W zlen hlen r s t slen tlen gs gt = go (lowest s t N 0) refl (lowest-says s t N 0)
+compare H Z N W zlen hlen r s t slen tlen gs gt = go (lowest s t N 0) (lowest-says s t N 0)
   where
-    go : (o : Option ℕ) → lowest s t N 0 ≡ o → Says s t 0 N o → Compared H Z N s t
-    go none e g = equal (λ k l. g k (omega arith) (omega arith))
-    go (some c) e g =
+    go : (o : Option ℕ) → Says s t 0 N o → Compared H Z N s t
+    go none g = equal (λ k l. g k (omega arith) (omega arith))
+    go (some c) g =
         let l : c < N = omega (arith, g .in-range) in
-        colliding c (record { found = e; in-pack = l; below = λ k u. g .under k (omega arith) u; differs = g .unlike })
+        colliding c (record { in-pack = l; below = λ k u. g .under k (omega arith) u; differs = g .unlike })
         (clash H Z N W zlen hlen r s t slen tlen c l (gs c l) (gt c l) (g .unlike))

@@ -1,15 +1,13 @@
--- Bin numbers (RFC 7574, 4.2; 01, "Nodes and the tree"): a node's height, and the chunks that it covers. Assumes nothing.
+-- Bin numbers (RFC 7574, 4.2; 01, "Nodes and the tree"): a node's height, and the chunks that it covers. Assumes
+-- nothing.
 use Prim.Native.Nat.{ℕ, zero, suc, _+_, _-_, _*_, _/_, _%_, _^_}
-
--- One more than t where the digit d is 1, else 0.
-abbrev pub over : ℕ → ℕ → ℕ
-over zero t = zero
-over (suc d) t = suc t
+use lib.Dec.{eqb}
+use Rattle.base.specs.Pick.{pick}
 
 -- How many of b's d lowest digits are ones, counted from the lowest up to the first zero.
 unfoldable pub lowOnes : ℕ → ℕ → ℕ
 lowOnes zero b = zero
-lowOnes (suc d) b = over (b % 2) (lowOnes d (b / 2))
+lowOnes (suc d) b = pick (eqb (b % 2) 0) 0 (suc (lowOnes d (b / 2)))
 
 -- A node's height is the number of ones at the low end of its number; a number b has no more than b digits.
 unfoldable pub height : ℕ → ℕ

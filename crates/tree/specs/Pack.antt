@@ -1,6 +1,7 @@
--- A pack of L bytes in chunks of S, and the least tree over its N chunks (01, "What a store works under" and "Nodes and
--- the tree"). The yard profile's chunk size and length limit stand here alone. Assumes nothing.
+-- A pack of L bytes in chunks of S, and the least tree over its N chunks (01, "What a store works under" and "Nodes
+-- and the tree"). The yard profile's chunk size and length limit stand here alone. Assumes nothing.
 use Prim.Native.Nat.{ℕ, zero, suc, _+_, _-_, _*_, _/_, _^_, min}
+use mathlib.Core.Bool.{Bool}
 use mathlib.Core.List.{List}
 use lib.Dec.{leb}
 use lib.ListN.{take, drop}
@@ -26,13 +27,14 @@ size S L i = min S (L - S * i)
 abbrev pub part : ℕ → ℕ → List ℕ → ℕ → List ℕ
 part S L s i = take (size S L i) (drop (S * i) s)
 
--- The height of the least tree with at least N leaves, found among the heights up to d.
-unfoldable pub least : ℕ → ℕ → ℕ
-least N zero = zero
-least N (suc d) = pick (leb N (2 ^ d)) (least N d) (suc d)
+-- The least of the d numbers from h on that passes a test; if none does, the next.
+unfoldable pub leastFrom : (ℕ → Bool) → ℕ → ℕ → ℕ
+leastFrom f zero h = h
+leastFrom f (suc d) h = pick (f h) h (leastFrom f d (suc h))
 
+-- The height of the least tree with at least N leaves.
 unfoldable pub levels : ℕ → ℕ
-levels N = least N N
+levels N = leastFrom (λ h. leb N (2 ^ h)) N 0
 
 -- Its leaf places, and its root's number.
 abbrev pub leafPlaces : ℕ → ℕ

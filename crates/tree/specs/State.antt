@@ -1,14 +1,12 @@
--- What a store holds, node by node and chunk by chunk, over any hash H, filler Z and N; how it begins, how it changes, and
--- what holds of it at any time (01, "What a store works under" and "Nodes and the tree"). Assumes nothing.
-use Prim.Native.Nat.{ℕ, zero, suc, _+_, _<_, _≤_, _^_}
+-- What a store holds, node by node and chunk by chunk, of N chunks (01, "What a store works under" and "Nodes and the
+-- tree"). Assumes nothing.
+use Prim.Native.Nat.{ℕ, suc, _+_, _^_}
 use mathlib.Core.Path.{_≡_}
 use mathlib.Core.Bool.{Bool, true, false}
-use mathlib.Core.List.{List, _++_}
-use lib.Dec.{leb, ltb, eqb}
+use mathlib.Core.List.{List}
+use lib.Dec.{leb, ltb}
 use Rattle.base.specs.Pick.{pick}
 use Rattle.tree.specs.Node.{above}
-use Rattle.tree.specs.Pack.{levels}
-use Rattle.tree.specs.Tree.{tree, combined, climb}
 
 -- The hash of each node and whether it is trusted; whether each chunk is in the map, and its bytes.
 pub record State : Type 0 where
@@ -17,67 +15,10 @@ pub record State : Type 0 where
   pub inMap : ℕ → Bool
   pub chunk : ℕ → List ℕ
 
--- (h, a) is the root.
-abbrev pub isRoot : ℕ → ℕ → ℕ → Bool
-isRoot N h a = pick (eqb h (levels N)) (eqb a 0) false
-
 -- (h, a) lies within 0..N-1, and its parent does not: a peak.
 abbrev pub isPeak : ℕ → ℕ → ℕ → Bool
 isPeak N h a = pick (leb (a + 2 ^ h) N) (ltb N (above (suc h) a + 2 ^ suc h)) false
 
--- (h, a) is a child of a node above chunk c of height 1 to t: on the way from the leaf up to below height t, or a sibling.
-abbrev pub onPath : ℕ → ℕ → ℕ → ℕ → Bool
-onPath c t h a = pick (ltb h t) (eqb (above (suc h) a) (above (suc h) c)) false
-
--- Started in rooms with any contents: the root alone is trusted, and holds the order's hash.
-abbrev pub started : ℕ → List ℕ → (ℕ → ℕ → List ℕ) → (ℕ → List ℕ) → State
-started N r hashes bytes = record {
-  hash = λ h a. pick (isRoot N h a) r (hashes h a);
-  trust = λ h a. isRoot N h a;
-  inMap = λ x. false;
-  chunk = bytes;
-}
-
--- Built from all chunks: the root and the nodes within 0..N-1 are trusted; what others hold does not count.
-abbrev pub built : (List ℕ → List ℕ) → List ℕ → ℕ → (ℕ → List ℕ) → State
-built H Z N chunk = record {
-  hash = tree H Z N chunk;
-  trust = λ h a. pick (leb (a + 2 ^ h) N) true (isRoot N h a);
-  inMap = λ x. ltb x N;
-  chunk = chunk;
-}
-
--- The peaks that came count as trusted.
-abbrev pub adopted : ℕ → (ℕ → ℕ → List ℕ) → State → State
-adopted N came s = record {
-  hash = λ h a. pick (isPeak N h a) (came h a) (s .hash h a);
-  trust = λ h a. pick (isPeak N h a) true (s .trust h a);
-  inMap = s .inMap;
-  chunk = s .chunk;
-}
-
--- Chunk c with the bytes d, hung from the trusted node of height t: the leaf, the climbed nodes and the siblings are
--- written and become trusted.
-abbrev pub hung : (List ℕ → List ℕ) → ℕ → ℕ → List ℕ → (ℕ → ℕ → List ℕ) → State → State
-hung H c t d came s = record {
-  hash = λ h a. pick (onPath c t h a) (pick (eqb a (above h c)) (climb H came (H d) c h (above h c)) (came h a)) (s .hash h a);
-  trust = λ h a. pick (onPath c t h a) true (s .trust h a);
-  inMap = λ x. pick (eqb x c) true (s .inMap x);
-  chunk = λ x. pick (eqb x c) d (s .chunk x);
-}
-
 -- All peaks are trusted.
 abbrev pub AllPeaks : ℕ → State → Type 0
 AllPeaks N s = (h a : ℕ) → above h a ≡ a → isPeak N h a ≡ true → s .trust h a ≡ true
-
--- What holds of a store under the root r at any time.
-pub record Sound (H : List ℕ → List ℕ) (Z : List ℕ) (N : ℕ) (r : List ℕ) (s : State) : Type 0 where
-  -- Children are trusted in pairs.
-  pub pair : (k a : ℕ) → above (suc k) a ≡ a → a + 2 ^ suc k ≤ N → s .trust k a ≡ s .trust k (a + 2 ^ k)
-  -- Their parent is trusted with them, and holds their hash.
-  pub up : (k a : ℕ) → above (suc k) a ≡ a → a + 2 ^ suc k ≤ N → s .trust k a ≡ true
-      → (s .trust (suc k) a ≡ true) × (s .hash (suc k) a ≡ H (s .hash k a ++ s .hash k (a + 2 ^ k)))
-  -- A chunk in the map is its trusted leaf's.
-  pub leaf : (x : ℕ) → x < N → s .inMap x ≡ true → (s .trust zero x ≡ true) × (s .hash zero x ≡ H (s .chunk x))
-  -- Where a node within 0..N-1 is trusted, the peaks are, and give the root.
-  pub top : (k a : ℕ) → above k a ≡ a → a + 2 ^ k ≤ N → s .trust k a ≡ true → AllPeaks N s × (combined H Z N (s .hash) ≡ r)

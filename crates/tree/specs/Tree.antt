@@ -1,9 +1,10 @@
--- The hash tree over N chunks, for any hash H and any filler Z (RFC 7574, 5.1; 01, "Nodes and the tree"). Assumes nothing.
+-- The hash tree over N chunks, for any hash H and any filler Z (RFC 7574, 5.1; 01, "Nodes and the tree"). Assumes
+-- nothing.
 use Prim.Native.Nat.{ℕ, zero, suc, _+_, _^_}
 use mathlib.Core.List.{List, _++_}
 use lib.Dec.{leb, ltb}
 use Rattle.base.specs.Pick.{pick}
-use Rattle.tree.specs.Node.{down, other}
+use Rattle.tree.specs.Node.{above, siblingFrom}
 use Rattle.tree.specs.Pack.{levels}
 
 module _ (H : List ℕ → List ℕ) (Z : List ℕ) (N : ℕ) where
@@ -28,11 +29,12 @@ module _ (H : List ℕ → List ℕ) (Z : List ℕ) (N : ℕ) where
   combined held = given held (levels N) 0
 
 module _ (H : List ℕ → List ℕ) where
-  -- The parent's hash from that of the child above chunk c and its sibling's: left then right.
-  abbrev pub joined : ℕ → ℕ → ℕ → List ℕ → List ℕ → List ℕ
-  joined c h a mine sib = H (pick (ltb c (a + 2 ^ h)) (mine ++ sib) (sib ++ mine))
+  -- The hash of the node of height h + 1 above chunk c, from that of its child above c and of that child's sibling:
+  -- left then right.
+  abbrev pub joined : ℕ → ℕ → List ℕ → List ℕ → List ℕ
+  joined c h mine sib = H (pick (ltb c (above (suc h) c + 2 ^ h)) (mine ++ sib) (sib ++ mine))
 
-  -- The climb from chunk c, whose leaf has the hash v, to the node (h, a) above it, with the siblings' hashes.
-  unfoldable pub climb : (ℕ → ℕ → List ℕ) → List ℕ → ℕ → ℕ → ℕ → List ℕ
-  climb sib v c zero a = v
-  climb sib v c (suc h) a = joined c h a (climb sib v c h (down c h a)) (sib h (other c h a))
+  -- The climb from chunk c, whose leaf has the hash v, to the node of height h above it, with the siblings' hashes.
+  unfoldable pub climb : (ℕ → ℕ → List ℕ) → List ℕ → ℕ → ℕ → List ℕ
+  climb sib v c zero = v
+  climb sib v c (suc h) = joined c h (climb sib v c h) (sib h (siblingFrom h c))

@@ -1,34 +1,31 @@
--- Taking a chunk: what is asked of the hashes that came with it, the verdict, and the store afterwards (01, "Taking a
--- chunk", and the numbers 9 and 10). Assumes nothing.
-use Prim.Native.Nat.{ℕ, zero, suc}
+-- Taking a chunk: what is asked of the hashes that came with it, and the verdict (01, "Taking a chunk", and the
+-- numbers 9 and 10). Assumes nothing.
+use Prim.Native.Nat.{ℕ, suc}
 use mathlib.Core.Bool.{Bool, true, false}
 use mathlib.Core.List.{List, [], _∷_, _++_}
-use mathlib.Core.Option.{Option, none, some}
+use mathlib.Core.Option.{Option, none, some, Option·getD}
 use Rattle.base.specs.Same.{same}
 use Rattle.base.specs.Pick.{pick}
 use Rattle.tree.specs.Node.{Node, above}
-use Rattle.tree.specs.Pack.{levels}
+use Rattle.tree.specs.Pack.{leastFrom, levels}
 use Rattle.tree.specs.Peaks.{peaks, siblings}
 use Rattle.tree.specs.Tree.{combined, climb}
-use Rattle.tree.specs.State.{State, isPeak, adopted, hung}
+use Rattle.tree.specs.State.{State, isPeak}
 use Rattle.tree.specs.declared.verdict.Verdict.{Verdict}
 use Rattle.tree.specs.declared.verdict.Verdict.the-variants.{Fits, Missing, WrongPeaks, WrongClimb}
 
--- The hashes that came, by node.
+-- The hashes that came, by a node's height and first chunk.
 abbrev pub Came : Type 0
 Came = ℕ → ℕ → Option (List ℕ)
 
+-- One that isn't there is read as the filler: no verdict but Missing depends on it.
+abbrev pub got : List ℕ → Came → ℕ → ℕ → List ℕ
+got Z m h a = Option·getD (m h a) Z
+
+-- Whether one came.
 abbrev pub isThere : Option (List ℕ) → Bool
 isThere none = false
 isThere (some v) = true
-
-abbrev pub orElse : List ℕ → Option (List ℕ) → List ℕ
-orElse z none = z
-orElse z (some v) = v
-
--- One that isn't there is read as the filler: no verdict but Missing depends on it.
-abbrev pub got : List ℕ → Came → ℕ → ℕ → List ℕ
-got Z m h a = orElse Z (m h a)
 
 -- A test passed by every node of a list, and what holds of each of them.
 unfoldable pub every : (Node → Bool) → List Node → Bool
@@ -39,11 +36,6 @@ abbrev pub Each : (Node → Type 0) → List Node → Type 0
 Each P [] = Unit {0}
 Each P (n ∷ ns) = P n × Each P ns
 
--- The least of the d numbers from h on that passes.
-unfoldable pub reachFrom : (ℕ → Bool) → ℕ → ℕ → ℕ
-reachFrom f zero h = h
-reachFrom f (suc d) h = pick (f h) h (reachFrom f d (suc h))
-
 module _ (N : ℕ) (s : State) where
   -- The peaks are trusted already.
   unfoldable pub peaksTrusted : Bool
@@ -53,20 +45,21 @@ module _ (N : ℕ) (s : State) where
   abbrev pub counts : ℕ → ℕ → Bool
   counts h a = pick peaksTrusted (s .trust h a) (pick (isPeak N h a) true (s .trust h a))
 
+  -- The hash that then counts: of such a peak the one that came.
+  abbrev pub countedHash : (ℕ → ℕ → List ℕ) → ℕ → ℕ → List ℕ
+  countedHash came h a = pick peaksTrusted (s .hash h a) (pick (isPeak N h a) (came h a) (s .hash h a))
+
   module _ (c : ℕ) where
     -- The height of the first such node at or above the leaf of chunk c.
     unfoldable pub reached : ℕ
-    reached = reachFrom (λ h. counts h (above h c)) (suc (levels N)) 0
+    reached = leastFrom (λ h. counts h (above h c)) (suc (levels N)) 0
 
-    -- The nodes whose hashes are needed: the peaks if they aren't trusted yet, and the sibling at each step below that node.
+    -- The nodes whose hashes are needed: the peaks if they aren't trusted yet, and the sibling at each step below that
+    -- node.
     unfoldable pub needed : List Node
-    needed = pick peaksTrusted [] (peaks N) ++ siblings c reached (above reached c)
+    needed = pick peaksTrusted [] (peaks N) ++ siblings c reached
 
 module _ (H : List ℕ → List ℕ) (Z : List ℕ) (N : ℕ) (r : List ℕ) (s : State) (c : ℕ) (d : List ℕ) (m : Came) where
-  -- The store with the peaks that came, where they aren't trusted yet.
-  unfoldable pub counted : State
-  counted = pick (peaksTrusted N s) s (adopted N (got Z m) s)
-
   -- Each hash that is needed came.
   unfoldable pub complete : Bool
   complete = every (λ n. isThere (m (n .high) (n .from))) (needed N s c)
@@ -77,21 +70,11 @@ module _ (H : List ℕ → List ℕ) (Z : List ℕ) (N : ℕ) (r : List ℕ) (s 
 
   -- The climb gives the hash of the node reached.
   unfoldable pub met : Bool
-  met = same (climb H (got Z m) (H d) c (reached N s c) (above (reached N s c) c)) (counted .hash (reached N s c) (above (reached N s c) c))
+  met = let t = reached N s c in same (climb H (got Z m) (H d) c t) (countedHash N s (got Z m) t (above t c))
 
   -- Every needed hash must be there before any value is judged.
   unfoldable pub verdict : Verdict
   verdict = pick complete (pick rooted (pick met (Fits (reached N s c)) WrongClimb) WrongPeaks) Missing
-
-  -- The store afterwards: a chunk that fits is hung, one that is already held changes nothing, and so does any other verdict.
-  abbrev pub afterBy : Verdict → State
-  afterBy (Fits t) = pick (s .inMap c) s (hung H c t d (got Z m) counted)
-  afterBy Missing = s
-  afterBy WrongPeaks = s
-  afterBy WrongClimb = s
-
-  unfoldable pub after : State
-  after = afterBy verdict
 
 -- A verdict's number in 01's table, once 12, 11, 7 and 8 are ruled out.
 abbrev pub number : Verdict → ℕ

@@ -2,7 +2,7 @@
 ghost use mathlib.Core.Path.{_≡_};
 ghost use Prim.Native.Nat.{_+_, _<_, _≤_, _^_};
 ghost use Rattle.tree.specs.Bin.{height, first, last};
-ghost use Rattle.tree.specs.Node.{parent, sibling};
+ghost use Rattle.tree.specs.Steps.{parent, sibling};
 ghost use Rattle.tree.specs.Range.{nodeOfRange};
 
 // The node of a range of chunks, if it is one's.

@@ -37,12 +37,10 @@ pub fn chunk_size(length: u32, i: u32) -> u32
 pub fn levels(n: u32) -> u32
     ensures { λ r. ⌜ (r ≡ levels n) × (r ≤ 32) ⌝ }
 {
-    let w = n as u64;
-    let mut h = 0u32;
-    while bin::pow2(h) < w {
-        h = h + 1;
+    if n < 2 {
+        return 0;
     }
-    h
+    32 - u32::leading_zeros(n - 1)
 }
 
 // Its leaf places.

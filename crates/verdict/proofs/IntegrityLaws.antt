@@ -3,7 +3,7 @@ use mathlib.Core.Path.{_≡_, refl, sym, ap, _∙_}
 use mathlib.Core.Logic.{_≢_}
 use mathlib.Core.Bool.{Bool, true, false}
 use mathlib.Core.List.{List, [], _∷_}
-use mathlib.Core.Option.{Option, none, some}
+use mathlib.Core.Option.{Option, none, some, Option·getD}
 use Prim.Native.Nat.{ℕ, _+_, _-_, _≤_, _<_}
 use native.Mathlib.Omega.{arith}
 use borrow.Author.Tests.{le-leb, lt-leb, eq-eqb, ne-eqb, leb-true, leb-false}
@@ -12,13 +12,14 @@ use lib.ListN.{length, take, drop, getD, length-drop}
 use lib.Seq.{take-length}
 use Rattle.hash.proofs.Promise.{bytesOf, words, words-length}
 use Rattle.base.specs.Pick.{pick}
-use Rattle.tree.specs.Verdicts.{isThere, orElse}
+use Rattle.tree.specs.Verdicts.{isThere}
 use Rattle.verdict.specs.Room.{filler, Digest}
-use Rattle.verdict.specs.Integrity.{Integrity, integrityOf, find, placeOr, hashFrom, hashFor, came, gotAt}
+use Rattle.verdict.specs.Integrity.{Integrity, integrityOf, find, hashFrom, hashFor}
+use Rattle.verdict.specs.Steps.{came, gotAt}
 use Rattle.verdict.proofs.RoomLaws.{digest-words, digest-filler}
 
 -- one turn of the search, and its ends
-pub find-here : (es : List ℕ) (b n : ℕ) → 2 ≤ length es → getD es 0 0 ≡ b → getD es 1 0 ≡ placeOr (find es b) n
+pub find-here : (es : List ℕ) (b n : ℕ) → 2 ≤ length es → getD es 0 0 ≡ b → getD es 1 0 ≡ Option·getD (find es b) n
 unfolding find
 find-here [] b n l e = absurd (omega arith)
 find-here (x ∷ []) b n l e = absurd (omega arith)
@@ -30,7 +31,7 @@ find-next [] b l d = absurd (omega arith)
 find-next (x ∷ []) b l d = absurd (omega arith)
 find-next (x ∷ p ∷ es) b l d = rw (ne-eqb x b d)
 
-pub find-end : (es : List ℕ) (b n : ℕ) → length es < 2 → n ≡ placeOr (find es b) n
+pub find-end : (es : List ℕ) (b n : ℕ) → length es < 2 → n ≡ Option·getD (find es b) n
 unfolding find
 find-end [] b n l = refl
 find-end (x ∷ []) b n l = refl
@@ -52,7 +53,7 @@ fits-no at n h = sym (lt-leb (at + 32) n (omega arith))
 
 -- a place found, and none
 module _ (s : List ℕ) where
-  pub came-is : (o : Option ℕ) → leb (placeOr o (length s) + 32) (length s) ≡ isThere (hashFrom s o)
+  pub came-is : (o : Option ℕ) → leb (Option·getD o (length s) + 32) (length s) ≡ isThere (hashFrom s o)
   came-is none = lt-leb (length s + 32) (length s) (omega arith)
   came-is (some p) = go (leb (p + 32) (length s))
     where
@@ -60,19 +61,19 @@ module _ (s : List ℕ) where
       go true = refl
       go false = refl
 
-  pub got-there : (o : Option ℕ) → leb (placeOr o (length s) + 32) (length s) ≡ true → bytesOf (words 8 (drop (placeOr o (length s)) s)) ≡ orElse filler (hashFrom s o)
+  pub got-there : (o : Option ℕ) → leb (Option·getD o (length s) + 32) (length s) ≡ true → bytesOf (words 8 (drop (Option·getD o (length s)) s)) ≡ Option·getD (hashFrom s o) filler
   got-there none e = let l = leb-true (length s + 32) (length s) e in absurd (omega arith)
   got-there (some p) e = rw e
 
-  pub got-not : (o : Option ℕ) → leb (placeOr o (length s) + 32) (length s) ≡ false → filler ≡ orElse filler (hashFrom s o)
+  pub got-not : (o : Option ℕ) → leb (Option·getD o (length s) + 32) (length s) ≡ false → filler ≡ Option·getD (hashFrom s o) filler
   got-not none e = refl
   got-not (some p) e = rw e
 
-  digest-from : (o : Option ℕ) → Digest (orElse filler (hashFrom s o))
+  digest-from : (o : Option ℕ) → Digest (Option·getD (hashFrom s o) filler)
   digest-from none = digest-filler
   digest-from (some p) = go (leb (p + 32) (length s))
     where
-      go : (t : Bool) → Digest (orElse filler (pick t (some (bytesOf (words 8 (drop p s)))) none))
+      go : (t : Bool) → Digest (Option·getD (pick t (some (bytesOf (words 8 (drop p s)))) none) filler)
       go true = digest-words (words 8 (drop p s)) (words-length 8 (drop p s))
       go false = digest-filler
 
@@ -81,18 +82,18 @@ unfolding hashFor
 digest-got o b = digest-from (o .bytes) (find (o .entries) b)
 
 -- by the record
-pub has-is : (es s : List ℕ) (b p : ℕ) {r : Bool} → p ≡ placeOr (find es b) (length s) → r ≡ leb (p + 32) (length s) → r ≡ came (integrityOf es s) b
+pub has-is : (es s : List ℕ) (b p : ℕ) {r : Bool} → p ≡ Option·getD (find es b) (length s) → r ≡ leb (p + 32) (length s) → r ≡ came (integrityOf es s) b
 unfolding hashFor
 has-is es s b p e f = f ∙ ap (λ (x : ℕ). leb (x + 32) (length s)) e ∙ came-is s (find es b)
 
-pub get-there : (es s : List ℕ) (b p : ℕ) {w : List ℕ} {r : Bool} → p ≡ placeOr (find es b) (length s) → r ≡ leb (p + 32) (length s) → r ≡ true
+pub get-there : (es s : List ℕ) (b p : ℕ) {w : List ℕ} {r : Bool} → p ≡ Option·getD (find es b) (length s) → r ≡ leb (p + 32) (length s) → r ≡ true
     → w ≡ words 8 (drop p s) → bytesOf w ≡ gotAt (integrityOf es s) b
 unfolding hashFor
 get-there es s b p e f g h =
     ap bytesOf (h ∙ ap (λ (x : ℕ). words 8 (drop x s)) e)
     ∙ got-there s (find es b) (ap (λ (x : ℕ). leb (x + 32) (length s)) (sym e) ∙ sym f ∙ g)
 
-pub get-not : (es s : List ℕ) (b p : ℕ) {w : List ℕ} {r : Bool} → p ≡ placeOr (find es b) (length s) → r ≡ leb (p + 32) (length s) → r ≡ false
+pub get-not : (es s : List ℕ) (b p : ℕ) {w : List ℕ} {r : Bool} → p ≡ Option·getD (find es b) (length s) → r ≡ leb (p + 32) (length s) → r ≡ false
     → w ≡ filler → w ≡ gotAt (integrityOf es s) b
 unfolding hashFor
 get-not es s b p e f g h = h ∙ got-not s (find es b) (ap (λ (x : ℕ). leb (x + 32) (length s)) (sym e) ∙ sym f ∙ g)

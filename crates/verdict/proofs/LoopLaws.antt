@@ -9,13 +9,13 @@ use native.Mathlib.Omega.{arith}
 use borrow.Author.Tests.{eq-eqb, ne-eqb}
 use lib.Dec.{eqb}
 use Rattle.base.specs.Pick.{pick}
-use Rattle.tree.specs.Node.{Node, above}
-use Rattle.tree.specs.Pack.{levels}
+use Rattle.tree.specs.Node.{Node}
+use Rattle.tree.specs.Pack.{levels, leastFrom}
 use Rattle.tree.specs.Peaks.{peaks, siblings}
 use Rattle.tree.specs.Tree.{given}
-use Rattle.tree.specs.Verdicts.{every, reachFrom}
-use Rattle.tree.specs.Steps.{peakAt, siblingAt, peaksBelow}
-use Rattle.tree.proofs.NodeLaws.{down-above}
+use Rattle.tree.specs.Verdicts.{every}
+use Rattle.tree.specs.Steps.{peakAt, siblingAt}
+use Rattle.tree.proofs.Below.{peaksBelow}
 use Rattle.tree.proofs.PeakLaws.{peaks-bits}
 use Rattle.tree.proofs.TreeLaws.{given-whole}
 
@@ -48,30 +48,30 @@ every-end f N h ok e q = q ∙ ap (λ (x : ℕ). every f (peaksBelow N x)) e ∙
 
 -- ---- and of every sibling
 
-pub sibs-none : (f : Node → Bool) (c : ℕ) → true ≡ every f (siblings c 0 (above 0 c))
+pub sibs-none : (f : Node → Bool) (c : ℕ) → true ≡ every f (siblings c 0)
 unfolding every siblings
 sibs-none f c = refl
 
-pub sibs-more : (f : Node → Bool) (c h : ℕ) (r ok : Bool) → r ≡ pick (f (siblingAt c h)) ok false → ok ≡ every f (siblings c h (above h c))
-    → r ≡ every f (siblings c (h + 1) (above (h + 1) c))
+pub sibs-more : (f : Node → Bool) (c h : ℕ) (r ok : Bool) → r ≡ pick (f (siblingAt c h)) ok false → ok ≡ every f (siblings c h)
+    → r ≡ every f (siblings c (h + 1))
 unfolding every siblings
 sibs-more f c h r ok e q =
-    rw (add-one h) (e ∙ ap (λ (x : Bool). pick (f (siblingAt c h)) x false) (q ∙ ap (λ (a : ℕ). every f (siblings c h a)) (sym (down-above h c))))
+    rw (add-one h) (e ∙ ap (λ (x : Bool). pick (f (siblingAt c h)) x false) q)
 
 -- ---- the least height that passes
 
-pub reach-here : (f : ℕ → Bool) (n h : ℕ) → 0 < n → f h ≡ true → reachFrom f n h ≡ h
-unfolding reachFrom
+pub reach-here : (f : ℕ → Bool) (n h : ℕ) → 0 < n → f h ≡ true → leastFrom f n h ≡ h
+unfolding leastFrom
 reach-here f zero h l e = absurd (omega arith)
 reach-here f (suc n) h l e = rw e
 
-pub reach-next : (f : ℕ → Bool) (n h : ℕ) → 0 < n → f h ≡ false → reachFrom f n h ≡ reachFrom f (n - 1) (h + 1)
-unfolding reachFrom
+pub reach-next : (f : ℕ → Bool) (n h : ℕ) → 0 < n → f h ≡ false → leastFrom f n h ≡ leastFrom f (n - 1) (h + 1)
+unfolding leastFrom
 reach-next f zero h l e = absurd (omega arith)
 reach-next f (suc n) h l e = let q : suc n - 1 ≡ n = omega arith in rw (e, q, add-one h)
 
-pub reach-end : (f : ℕ → Bool) (n h : ℕ) → n ≤ 0 → reachFrom f n h ≡ h
-unfolding reachFrom
+pub reach-end : (f : ℕ → Bool) (n h : ℕ) → n ≤ 0 → leastFrom f n h ≡ h
+unfolding leastFrom
 reach-end f zero h l = refl
 reach-end f (suc n) h l = absurd (omega arith)
 

@@ -7,69 +7,63 @@ use native.Mathlib.Omega.{arith}
 use Rattle.hash.proofs.Promise.{same, sha256}
 use Rattle.base.specs.Pick.{pick}
 use Rattle.tree.specs.Node.{above}
-use Rattle.tree.specs.Pack.{levels}
-use Rattle.tree.specs.Peaks.{peaks, peakOf, siblings}
+use Rattle.tree.specs.Pack.{levels, leastFrom}
+use Rattle.tree.specs.Peaks.{peaks, peakHeight, siblings}
 use Rattle.tree.specs.Tree.{given, combined, climb}
-use Rattle.tree.specs.State.{adopted}
-use Rattle.tree.specs.Verdicts.{got, every, reachFrom, peaksTrusted, reached, needed, counted, complete, rooted, met, verdict}
+use Rattle.tree.specs.Verdicts.{every, peaksTrusted, reached, needed, complete, rooted, met, verdict}
 use Rattle.tree.specs.declared.verdict.Verdict.{Verdict}
 use Rattle.tree.specs.declared.verdict.Verdict.the-variants.{Fits, Missing, WrongPeaks, WrongClimb}
 use Rattle.verdict.specs.Room.{filler}
 use Rattle.verdict.specs.Integrity.{Integrity, cameFrom}
-use Rattle.verdict.specs.Rooms.{roomsOf, stateOf, trustedIn, cameIn, gotBy}
-use Rattle.verdict.specs.Steps.{countedBit, countedHash}
-use Rattle.verdict.specs.Verdict.{roomVerdict}
-use Rattle.verdict.specs.Steps.{roomReached, kept, judgedOf, scratchBy, judgeSpec}
+use Rattle.verdict.specs.Rooms.{roomsOf, stateOf}
+use Rattle.verdict.specs.Steps.{trustedIn, cameIn, gotBy, roomCounts, roomCounted, roomReached, kept, judgedOf, scratchBy, judgeSpec, roomVerdict}
 use Rattle.tree.proofs.NodeLaws.{whole-below, above-aligned}
+use Rattle.tree.proofs.LeastLaws.{least-finds}
 use Rattle.tree.proofs.PackLaws.{high-bound}
 use Rattle.tree.proofs.EachLaws.{every-unless}
 use Rattle.tree.proofs.PeakLaws.{peak-of}
 use Rattle.tree.proofs.PeakTests.{all-peaks, peak-test}
-use Rattle.tree.proofs.TakeLaws.{reach-finds, fits-means}
+use Rattle.tree.proofs.TakeLaws.{fits-means}
 
 -- the height reached lies within the tree, and the node complete within the pack
 module _ (N : ℕ) (trusted : List ℕ) (c : ℕ) (l : c < N) where
-  peak-counts : (b : Bool) → b ≡ every (trustedIn trusted) (peaks N) → countedBit b N trusted (peakOf N c .high) (above (peakOf N c .high) c) ≡ true
-  peak-counts true e = all-peaks (trustedIn trusted) N (sym e) (peakOf N c .high) (above (peakOf N c .high) c) (above-aligned (peakOf N c .high) c) (peak-test N c l)
+  peak-counts : (b : Bool) → b ≡ every (trustedIn trusted) (peaks N) → roomCounts b N trusted (peakHeight N c) (above (peakHeight N c) c) ≡ true
+  peak-counts true e = all-peaks (trustedIn trusted) N (sym e) (peakHeight N c) (above (peakHeight N c) c) (above-aligned (peakHeight N c) c) (peak-test N c l)
   peak-counts false e = rw (peak-test N c l)
 
-  pub reach-in : (b : Bool) → b ≡ every (trustedIn trusted) (peaks N) → (t : ℕ) → t ≡ reachFrom (λ h. countedBit b N trusted h (above h c)) (suc (levels N)) 0
-      → (t ≤ levels N) × (above t c + 2 ^ t ≤ N) × (countedBit b N trusted t (above t c) ≡ true)
+  pub reach-in : (b : Bool) → b ≡ every (trustedIn trusted) (peaks N) → (t : ℕ) → t ≡ leastFrom (λ h. roomCounts b N trusted h (above h c)) (suc (levels N)) 0
+      → (t ≤ levels N) × (above t c + 2 ^ t ≤ N) × (roomCounts b N trusted t (above t c) ≡ true)
   reach-in b e t q =
       let k = peak-of N c l in
-      let p = peakOf N c .high in
-      let w : above p c + 2 ^ p ≤ N = rw (k .on-way) at (k .whole) in
+      let p = peakHeight N c in
+      let w : above p c + 2 ^ p ≤ N = k .whole in
       let i = high-bound N p (omega arith) in
-      let R = rw (← q) at (reach-finds (λ h. countedBit b N trusted h (above h c)) p (peak-counts b e) (suc (levels N)) 0 (omega arith) (omega arith)) in
+      let R = rw (← q) at (least-finds (λ h. roomCounts b N trusted h (above h c)) p (peak-counts b e) (suc (levels N)) 0 (omega arith) (omega arith)) in
       (omega (arith, R .within), whole-below N c t p (R .within .1) w, R .passes)
 
 module _ (L : ℕ) (bytes map : List ℕ) (N : ℕ) (r hashes trusted : List ℕ) (c : ℕ) (d : List ℕ) (o : Integrity) (b : Bool) (t : ℕ) where
-  target-is : (x : Bool) (h a : ℕ) → countedHash x N hashes o h a ≡ pick x (stateOf L (roomsOf bytes map hashes trusted)) (adopted N (got filler (cameFrom o)) (stateOf L (roomsOf bytes map hashes trusted))) .hash h a
-  target-is true h a = refl
-  target-is false h a = refl
-
-  module _ (bo : b ≡ every (trustedIn trusted) (peaks N)) (tr : t ≡ reachFrom (λ h. countedBit b N trusted h (above h c)) (suc (levels N)) 0) where
+  module _ (bo : b ≡ every (trustedIn trusted) (peaks N)) (tr : t ≡ leastFrom (λ h. roomCounts b N trusted h (above h c)) (suc (levels N)) 0) where
     is-peaksTrusted : b ≡ peaksTrusted N (stateOf L (roomsOf bytes map hashes trusted))
     unfolding peaksTrusted
     is-peaksTrusted = bo
 
     is-reached : t ≡ reached N (stateOf L (roomsOf bytes map hashes trusted)) c
     unfolding reached
-    is-reached = tr ∙ ap (λ (x : Bool). reachFrom (λ h. countedBit x N trusted h (above h c)) (suc (levels N)) 0) is-peaksTrusted
+    is-reached = tr ∙ ap (λ (x : Bool). leastFrom (λ h. roomCounts x N trusted h (above h c)) (suc (levels N)) 0) is-peaksTrusted
 
-    is-complete : pick (pick b true (every (cameIn o) (peaks N))) (every (cameIn o) (siblings c t (above t c))) false ≡ complete sha256 filler N r (stateOf L (roomsOf bytes map hashes trusted)) c d (cameFrom o)
+    is-complete : pick (pick b true (every (cameIn o) (peaks N))) (every (cameIn o) (siblings c t)) false ≡ complete sha256 filler N r (stateOf L (roomsOf bytes map hashes trusted)) c d (cameFrom o)
     unfolding complete needed
-    is-complete = every-unless (cameIn o) b (peaks N) (siblings c t (above t c)) ∙ rw (is-peaksTrusted, is-reached)
+    is-complete = every-unless (cameIn o) b (peaks N) (siblings c t) ∙ rw (is-peaksTrusted, is-reached)
 
     is-rooted : pick b true (same (given sha256 filler N (gotBy o) (levels N) 0) r) ≡ rooted sha256 filler N r (stateOf L (roomsOf bytes map hashes trusted)) c d (cameFrom o)
     unfolding combined rooted
     is-rooted = rw is-peaksTrusted
 
-    is-met : same (climb sha256 (gotBy o) (sha256 d) c t (above t c)) (countedHash b N hashes o t (above t c)) ≡ met sha256 filler N r (stateOf L (roomsOf bytes map hashes trusted)) c d (cameFrom o)
-    unfolding counted met
-    is-met = rw (target-is b t (above t c), is-peaksTrusted, is-reached)
+    is-met : same (climb sha256 (gotBy o) (sha256 d) c t) (roomCounted b N hashes o t (above t c)) ≡ met sha256 filler N r (stateOf L (roomsOf bytes map hashes trusted)) c d (cameFrom o)
+    unfolding met
+    is-met = rw (is-peaksTrusted, is-reached)
 
-    module _ (u : Bool) (uo : u ≡ pick (pick b true (every (cameIn o) (peaks N))) (every (cameIn o) (siblings c t (above t c))) false) where
+    module _ (u : Bool) (uo : u ≡ pick (pick b true (every (cameIn o) (peaks N))) (every (cameIn o) (siblings c t)) false) where
       pub at-missing : u ≡ false → Missing ≡ verdict sha256 filler N r (stateOf L (roomsOf bytes map hashes trusted)) c d (cameFrom o)
       unfolding verdict
       at-missing e = sym (rw (sym is-complete ∙ sym uo ∙ e))
@@ -82,7 +76,7 @@ module _ (L : ℕ) (bytes map : List ℕ) (N : ℕ) (r hashes trusted : List ℕ
             cases : (x y : Bool) → x ≡ true → y ≡ false → pick x (pick y (pick (met sha256 filler N r (stateOf L (roomsOf bytes map hashes trusted)) c d (cameFrom o)) (Fits (reached N (stateOf L (roomsOf bytes map hashes trusted)) c)) WrongClimb) WrongPeaks) Missing ≡ WrongPeaks
             cases x y p q = rw (p, q)
 
-        module _ (w : Bool) (wo : w ≡ same (climb sha256 (gotBy o) (sha256 d) c t (above t c)) (countedHash b N hashes o t (above t c))) (vt : v ≡ true) where
+        module _ (w : Bool) (wo : w ≡ same (climb sha256 (gotBy o) (sha256 d) c t) (roomCounted b N hashes o t (above t c))) (vt : v ≡ true) where
           pick-last : pick (complete sha256 filler N r (stateOf L (roomsOf bytes map hashes trusted)) c d (cameFrom o)) (pick (rooted sha256 filler N r (stateOf L (roomsOf bytes map hashes trusted)) c d (cameFrom o)) (pick (met sha256 filler N r (stateOf L (roomsOf bytes map hashes trusted)) c d (cameFrom o)) (Fits (reached N (stateOf L (roomsOf bytes map hashes trusted)) c)) WrongClimb) WrongPeaks) Missing
               ≡ pick w (Fits t) WrongClimb
           pick-last = cases _ _ _ _ (sym is-complete ∙ sym uo ∙ ut) (sym is-rooted ∙ sym vo ∙ vt) (sym is-met ∙ sym wo) (sym is-reached)
@@ -104,12 +98,12 @@ module _ (N : ℕ) (r hashes trusted : List ℕ) (c : ℕ) (d : List ℕ) (o : I
   openly = every (trustedIn trusted) (peaks N)
 
   abbrev reaches : ℕ
-  reaches = reachFrom (λ h. countedBit openly N trusted h (above h c)) (suc (levels N)) 0
+  reaches = leastFrom (λ h. roomCounts openly N trusted h (above h c)) (suc (levels N)) 0
 
   in-rooms : verdict sha256 filler N r (stateOf L (roomsOf bytes map hashes trusted)) c d (cameFrom o)
-      ≡ pick (pick (pick openly true (every (cameIn o) (peaks N))) (every (cameIn o) (siblings c reaches (above reaches c))) false)
+      ≡ pick (pick (pick openly true (every (cameIn o) (peaks N))) (every (cameIn o) (siblings c reaches)) false)
       (pick (pick openly true (same (given sha256 filler N (gotBy o) (levels N) 0) r))
-      (pick (same (climb sha256 (gotBy o) (sha256 d) c reaches (above reaches c)) (countedHash openly N hashes o reaches (above reaches c))) (Fits reaches) WrongClimb) WrongPeaks) Missing
+      (pick (same (climb sha256 (gotBy o) (sha256 d) c reaches) (roomCounted openly N hashes o reaches (above reaches c))) (Fits reaches) WrongClimb) WrongPeaks) Missing
   unfolding verdict
   in-rooms = sym (cases _ _ _ _ _ _ _ _ (is-complete L bytes map N r hashes trusted c d o openly reaches refl refl) (is-rooted L bytes map N r hashes trusted c d o openly reaches refl refl) (is-met L bytes map N r hashes trusted c d o openly reaches refl refl) (is-reached L bytes map N r hashes trusted c d o openly reaches refl refl))
     where
@@ -142,10 +136,10 @@ judge-by s N r hashes trusted c d o v e f =
     ap₂ judgedOf e (f ∙ ap (λ (x : Verdict). scratchBy x s (kept s (gotBy o) (sha256 d) c (roomReached N trusted c))) e)
 
 module _ (s : List ℕ) (N : ℕ) (r hashes trusted : List ℕ) (c : ℕ) (d : List ℕ) (o : Integrity) (b : Bool) (t top : ℕ) (te : top ≡ levels N)
-    (bo : b ≡ every (trustedIn trusted) (peaks N)) (tr : t ≡ reachFrom (λ h. countedBit b N trusted h (above h c)) (suc top) 0)
-    (u : Bool) (uo : u ≡ pick (pick b true (every (cameIn o) (peaks N))) (every (cameIn o) (siblings c t (above t c))) false) where
-  at-levels : t ≡ reachFrom (λ h. countedBit b N trusted h (above h c)) (suc (levels N)) 0
-  at-levels = tr ∙ ap (λ (x : ℕ). reachFrom (λ h. countedBit b N trusted h (above h c)) (suc x) 0) te
+    (bo : b ≡ every (trustedIn trusted) (peaks N)) (tr : t ≡ leastFrom (λ h. roomCounts b N trusted h (above h c)) (suc top) 0)
+    (u : Bool) (uo : u ≡ pick (pick b true (every (cameIn o) (peaks N))) (every (cameIn o) (siblings c t)) false) where
+  at-levels : t ≡ leastFrom (λ h. roomCounts b N trusted h (above h c)) (suc (levels N)) 0
+  at-levels = tr ∙ ap (λ (x : ℕ). leastFrom (λ h. roomCounts b N trusted h (above h c)) (suc x) 0) te
 
   room-reached : t ≡ roomReached N trusted c
   unfolding roomReached
@@ -164,9 +158,9 @@ module _ (s : List ℕ) (N : ℕ) (r hashes trusted : List ℕ) (c : ℕ) (d : L
     judge-peaks e = judge-by s N r hashes trusted c d o WrongPeaks (at-peaks 0 [] [] N r hashes trusted c d o b t bo at-levels u uo v roots ut e) refl
 
     module _ (x : List ℕ) (xe : x ≡ sha256 d) (w : Bool) {s′ : List ℕ}
-        (wo : (w ≡ same (climb sha256 (gotBy o) x c t (above t c)) (countedHash b N hashes o t (above t c))) × (s′ ≡ kept s (gotBy o) x c t)) (vt : v ≡ true) where
-      meets : w ≡ same (climb sha256 (gotBy o) (sha256 d) c t (above t c)) (countedHash b N hashes o t (above t c))
-      meets = wo .0 ∙ ap (λ (y : List ℕ). same (climb sha256 (gotBy o) y c t (above t c)) (countedHash b N hashes o t (above t c))) xe
+        (wo : (w ≡ same (climb sha256 (gotBy o) x c t) (roomCounted b N hashes o t (above t c))) × (s′ ≡ kept s (gotBy o) x c t)) (vt : v ≡ true) where
+      meets : w ≡ same (climb sha256 (gotBy o) (sha256 d) c t) (roomCounted b N hashes o t (above t c))
+      meets = wo .0 ∙ ap (λ (y : List ℕ). same (climb sha256 (gotBy o) y c t) (roomCounted b N hashes o t (above t c))) xe
 
       keeps : s′ ≡ kept s (gotBy o) (sha256 d) c (roomReached N trusted c)
       keeps = wo .1 ∙ ap₂ (λ (y : List ℕ) (h : ℕ). kept s (gotBy o) y c h) xe room-reached

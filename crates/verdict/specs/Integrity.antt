@@ -1,16 +1,14 @@
--- The hashes that came with a chunk (RFC 7574, 8.8: INTEGRITY): pairs of a node's number and the place of its hash in a
--- slice of bytes. Assumes nothing.
+-- The hashes that came with a chunk (RFC 7574, 8.8: INTEGRITY): pairs of a node's number and the place of its hash in
+-- a slice of bytes. Assumes nothing.
 use Prim.Native.Nat.{ℕ, _+_}
 use mathlib.Core.List.{List, [], _∷_}
 use mathlib.Core.Option.{Option, none, some}
-use mathlib.Core.Bool.{Bool}
 use lib.Dec.{leb, eqb}
 use lib.ListN.{length, drop}
 use Rattle.hash.proofs.Promise.{bytesOf, words}
 use Rattle.base.specs.Pick.{pick}
 use Rattle.tree.specs.Bin.{bin}
-use Rattle.tree.specs.Verdicts.{Came, isThere, orElse}
-use Rattle.verdict.specs.Room.{filler}
+use Rattle.tree.specs.Verdicts.{Came}
 
 -- The entries, a node's number and a place in turn, and the bytes.
 pub record Integrity : Type 0 where
@@ -26,11 +24,6 @@ find [] b = none
 find (n ∷ []) b = none
 find (n ∷ p ∷ es) b = pick (eqb n b) (some p) (find es b)
 
--- A place that was found, or the number n.
-abbrev pub placeOr : Option ℕ → ℕ → ℕ
-placeOr none n = n
-placeOr (some p) n = p
-
 -- The 32 bytes from place p on, if there are as many.
 abbrev pub hashFrom : List ℕ → Option ℕ → Option (List ℕ)
 hashFrom s none = none
@@ -40,13 +33,6 @@ hashFrom s (some p) = pick (leb (p + 32) (length s)) (some (bytesOf (words 8 (dr
 unfoldable pub hashFor : Integrity → ℕ → Option (List ℕ)
 hashFor o b = hashFrom (o .bytes) (find (o .entries) b)
 
--- By height and first chunk.
+-- The hashes that came, by height and first chunk.
 abbrev pub cameFrom : Integrity → Came
 cameFrom o h a = hashFor o (bin h a)
-
--- Whether it came; one that didn't is read as the filler, and no verdict but "missing" depends on it.
-abbrev pub came : Integrity → ℕ → Bool
-came o b = isThere (hashFor o b)
-
-abbrev pub gotAt : Integrity → ℕ → List ℕ
-gotAt o b = orElse filler (hashFor o b)

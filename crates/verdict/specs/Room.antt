@@ -1,5 +1,5 @@
--- The hash room: eight words for each node, by its number (01, "What a store works under": 16 words of 32 bits for each
--- leaf place of the tree), and the 32 bytes that they stand for. Assumes nothing.
+-- The hash room: eight words for each node, by its number (01, "What a store works under": 16 words of 32 bits for
+-- each leaf place of the tree), and the 32 bytes that they stand for. Assumes nothing.
 use Prim.Native.Nat.{ℕ, zero, suc, _*_, _/_}
 use mathlib.Core.Path.{_≡_}
 use mathlib.Core.Bool.{Bool}

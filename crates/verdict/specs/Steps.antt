@@ -2,20 +2,38 @@
 use Prim.Native.Nat.{ℕ, zero, suc}
 use mathlib.Core.List.{List, []}
 use mathlib.Core.Bool.{Bool, true, false}
+use mathlib.Core.Option.{Option·getD}
 use Rattle.bits.proofs.Promise.{bitAt}
 use Rattle.hash.proofs.Promise.{sha256}
 use Rattle.base.specs.Pick.{pick}
 use Rattle.tree.specs.Bin.{bin}
-use Rattle.tree.specs.Node.{above}
+use Rattle.tree.specs.Node.{Node, num}
 use Rattle.tree.specs.State.{isPeak}
 use Rattle.tree.specs.Tree.{climb}
-use Rattle.tree.specs.Verdicts.{reached}
+use Rattle.tree.specs.Verdicts.{isThere, got, reached, verdict}
 use Rattle.tree.specs.declared.verdict.Verdict.{Verdict}
 use Rattle.tree.specs.declared.verdict.Verdict.the-variants.{Fits, Missing, WrongPeaks, WrongClimb}
-use Rattle.verdict.specs.Room.{hashIn, putHash}
-use Rattle.verdict.specs.Integrity.{Integrity, gotAt}
-use Rattle.verdict.specs.Rooms.{roomsOf, stateOf, gotBy}
-use Rattle.verdict.specs.Verdict.{roomVerdict}
+use Rattle.verdict.specs.Room.{filler, hashIn, putHash}
+use Rattle.verdict.specs.Integrity.{Integrity, hashFor, cameFrom}
+use Rattle.verdict.specs.Rooms.{roomsOf, stateOf}
+
+-- ---- what came and what is trusted, by a node's number, by height and first chunk, and of a list's node
+
+-- Whether node b's hash came, and the hash that it is read as.
+abbrev pub came : Integrity → ℕ → Bool
+came o b = isThere (hashFor o b)
+
+abbrev pub gotAt : Integrity → ℕ → List ℕ
+gotAt o b = Option·getD (hashFor o b) filler
+
+abbrev pub gotBy : Integrity → ℕ → ℕ → List ℕ
+gotBy o = got filler (cameFrom o)
+
+abbrev pub cameIn : Integrity → Node → Bool
+cameIn o n = came o (num n)
+
+abbrev pub trustedIn : List ℕ → Node → Bool
+trustedIn trusted n = bitAt trusted (num n)
 
 -- Node b's hash: of those that came, or of the room.
 abbrev pub source : Bool → List ℕ → Integrity → ℕ → List ℕ
@@ -25,25 +43,31 @@ source false hashes o b = hashIn hashes b
 abbrev pub sourceBy : Bool → List ℕ → Integrity → ℕ → ℕ → List ℕ
 sourceBy t hashes o h a = source t hashes o (bin h a)
 
--- Trusted, with the peaks counted as trusted where they aren't yet.
-abbrev pub countedBit : Bool → ℕ → List ℕ → ℕ → ℕ → Bool
-countedBit peaksTrusted N trusted h a = pick peaksTrusted (bitAt trusted (bin h a)) (pick (isPeak N h a) true (bitAt trusted (bin h a)))
+-- Whether a node counts as trusted, and the hash that then counts, once it is known whether the peaks are trusted.
+abbrev pub roomCounts : Bool → ℕ → List ℕ → ℕ → ℕ → Bool
+roomCounts peaksTrusted N trusted h a =
+    pick peaksTrusted (bitAt trusted (bin h a)) (pick (isPeak N h a) true (bitAt trusted (bin h a)))
 
--- And the hash that then counts.
-abbrev pub countedHash : Bool → ℕ → List ℕ → Integrity → ℕ → ℕ → List ℕ
-countedHash peaksTrusted N hashes o h a =
-    pick peaksTrusted (hashIn hashes (bin h a)) (pick (isPeak N h a) (gotAt o (bin h a)) (hashIn hashes (bin h a)))
+abbrev pub roomCounted : Bool → ℕ → List ℕ → Integrity → ℕ → ℕ → List ℕ
+roomCounted peaksTrusted N hashes o h a =
+    pick peaksTrusted (hashIn hashes (bin h a)) (pick (isPeak N h a) (gotBy o h a) (hashIn hashes (bin h a)))
 
 -- The height of the first node at or above chunk c that counts as trusted.
 unfoldable pub roomReached : ℕ → List ℕ → ℕ → ℕ
 roomReached N trusted c = reached N (stateOf 0 (roomsOf [] [] [] trusted)) c
+
+-- The theory's verdict on chunk c of N under root r, with the bytes d and the hashes that came with it: the hashes and
+-- the trusted nodes alone are looked at.
+unfoldable pub roomVerdict : ℕ → List ℕ → List ℕ → List ℕ → ℕ → List ℕ → Integrity → Verdict
+roomVerdict N r hashes trusted c d o =
+    verdict sha256 filler N r (stateOf 0 (roomsOf [] [] hashes trusted)) c d (cameFrom o)
 
 -- ---- the scratch, which keeps a climb, so that storing hashes no node again
 
 -- The climb from chunk c, whose leaf has the hash v: at each place h below t the hash of the node of height h above c.
 unfoldable pub kept : List ℕ → (ℕ → ℕ → List ℕ) → List ℕ → ℕ → ℕ → List ℕ
 kept scratch got v c zero = scratch
-kept scratch got v c (suc h) = putHash (kept scratch got v c h) h (climb sha256 got v c h (above h c))
+kept scratch got v c (suc h) = putHash (kept scratch got v c h) h (climb sha256 got v c h)
 
 -- What judging a chunk gives, and the scratch that it leaves.
 pub record Judged : Type 0 where
@@ -63,4 +87,5 @@ scratchBy WrongClimb old new = new
 unfoldable pub judgeSpec : List ℕ → ℕ → List ℕ → List ℕ → List ℕ → ℕ → List ℕ → Integrity → Judged
 judgeSpec scratch N r hashes trusted c d o =
     judgedOf (roomVerdict N r hashes trusted c d o)
-    (scratchBy (roomVerdict N r hashes trusted c d o) scratch (kept scratch (gotBy o) (sha256 d) c (roomReached N trusted c)))
+    (scratchBy (roomVerdict N r hashes trusted c d o) scratch
+    (kept scratch (gotBy o) (sha256 d) c (roomReached N trusted c)))

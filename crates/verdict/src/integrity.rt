@@ -1,15 +1,17 @@
 // The hashes that came with a chunk: pairs of a node's number and the place of its hash in a slice of bytes.
+ghost use mathlib.Core.Option.{Option·getD};
 ghost use mathlib.Core.Path.{_≡_};
 ghost use Prim.Native.Nat.{_+_};
 ghost use lib.Dec.{leb};
 ghost use Rattle.hash.proofs.Promise.{bytesOf};
-ghost use Rattle.verdict.specs.Integrity.{integrityOf, find, placeOr, came, gotAt};
+ghost use Rattle.verdict.specs.Integrity.{integrityOf, find};
+ghost use Rattle.verdict.specs.Steps.{came, gotAt};
 use hash::value;
 use hash::value::HashValue;
 
 // The place of the first entry for node b, or the given number if there is none.
 fn place(entries: &[u64], b: u64, otherwise: u64) -> u64
-    ensures { λ r. ⌜ r ≡ placeOr (find (now (entries .entry)) b) otherwise ⌝ }
+    ensures { λ r. ⌜ r ≡ Option·getD (find (now (entries .entry)) b) otherwise ⌝ }
 {
     let mut rest = entries;
     while 2 <= rest.len() {

@@ -4,17 +4,15 @@ ghost use Prim.Native.Nat.{suc, _≤_, _<_, _^_};
 ghost use mathlib.Core.Bool.{true, false};
 ghost use Rattle.hash.proofs.Promise.{bytesOf, sha256, same};
 ghost use Rattle.base.specs.Pick.{pick};
-ghost use Rattle.tree.specs.Node.{above, other};
-ghost use Rattle.tree.specs.Pack.{levels};
+ghost use Rattle.tree.specs.Node.{above, siblingFrom};
+ghost use Rattle.tree.specs.Pack.{levels, leastFrom};
 ghost use Rattle.tree.specs.Peaks.{peaks, siblings};
 ghost use Rattle.tree.specs.Steps.{siblingAt};
 ghost use Rattle.tree.specs.Tree.{given, joined, climb};
-ghost use Rattle.tree.specs.Verdicts.{every, reachFrom};
+ghost use Rattle.tree.specs.Verdicts.{every};
 ghost use Rattle.verdict.specs.Room.{filler};
 ghost use Rattle.verdict.specs.Integrity.{integrityOf};
-ghost use Rattle.verdict.specs.Rooms.{cameIn, gotBy};
-ghost use Rattle.verdict.specs.Steps.{countedBit, countedHash};
-ghost use Rattle.verdict.specs.Steps.{kept, judgedOf, judgeSpec};
+ghost use Rattle.verdict.specs.Steps.{cameIn, gotBy, roomCounts, roomCounted, kept, judgedOf, judgeSpec};
 use crate::integrity;
 use crate::peaks;
 use crate::room;
@@ -44,7 +42,7 @@ fn sibling_came(entries: &[u64], bytes: &[u8], c: u32, h: u32, ok: bool) -> bool
 fn siblings_came(entries: &[u64], bytes: &[u8], c: u32, t: u32) -> bool
     requires { ⌜ t ≤ 33 ⌝ }
     ensures { λ r. ⌜ r ≡ every (cameIn (integrityOf (now (entries .entry)) (now (bytes .entry))))
-        (siblings c t (above t c)) ⌝ }
+        (siblings c t) ⌝ }
 {
     let mut ok = true;
     let mut h = 0u32;
@@ -58,7 +56,7 @@ fn siblings_came(entries: &[u64], bytes: &[u8], c: u32, t: u32) -> bool
 // Whether the node of height h above chunk c counts as trusted.
 fn counts(trusted: &[u32], opened: bool, n: u32, c: u32, h: u32) -> bool
     requires { ⌜ h < 59 ⌝ }
-    ensures { λ r. ⌜ r ≡ countedBit opened n (now (trusted .entry)) h (above h c) ⌝ }
+    ensures { λ r. ⌜ r ≡ roomCounts opened n (now (trusted .entry)) h (above h c) ⌝ }
 {
     let b = tree::peaks::node(c, h);
     if bits::test(trusted, b as usize) {
@@ -73,7 +71,7 @@ fn counts(trusted: &[u32], opened: bool, n: u32, c: u32, h: u32) -> bool
 // The height of the first node at or above chunk c that counts as trusted.
 fn reach(trusted: &[u32], opened: bool, n: u32, c: u32, top: u32) -> u32
     requires { ⌜ top ≤ 32 ⌝ }
-    ensures { λ r. ⌜ (r ≡ reachFrom (λ h. countedBit opened n (now (trusted .entry)) h (above h c)) (suc top) 0)
+    ensures { λ r. ⌜ (r ≡ leastFrom (λ h. roomCounts opened n (now (trusted .entry)) h (above h c)) (suc top) 0)
         × (r ≤ 33) ⌝ }
 {
     let mut h = 0u32;
@@ -92,8 +90,8 @@ fn reach(trusted: &[u32], opened: bool, n: u32, c: u32, top: u32) -> u32
 fn step(entries: &[u64], bytes: &[u8], c: u32, h: u32, acc: HashValue) -> HashValue
     requires { ⌜ h < 59 ⌝ }
     ensures { λ r. ⌜ bytesOf (r .words)
-        ≡ joined sha256 c h (above (suc h) c) (bytesOf (acc .words))
-        (gotBy (integrityOf (now (entries .entry)) (now (bytes .entry))) h (other c h (above (suc h) c))) ⌝ }
+        ≡ joined sha256 c h (bytesOf (acc .words))
+        (gotBy (integrityOf (now (entries .entry)) (now (bytes .entry))) h (siblingFrom h c)) ⌝ }
 {
     let b = tree::peaks::sibling(c, h);
     let s = integrity::get(entries, bytes, b);
@@ -114,8 +112,7 @@ fn climb(
 ) -> HashValue
     requires { ⌜ t ≤ 33 ⌝ }
     ensures { λ r. ⌜ (bytesOf (r .words)
-        ≡ climb sha256 (gotBy (integrityOf (now (entries .entry)) (now (bytes .entry)))) (bytesOf (v .words)) c t
-        (above t c))
+        ≡ climb sha256 (gotBy (integrityOf (now (entries .entry)) (now (bytes .entry)))) (bytesOf (v .words)) c t)
         × (now (scratch .exit)
         ≡ kept (now (scratch .entry)) (gotBy (integrityOf (now (entries .entry)) (now (bytes .entry))))
         (bytesOf (v .words)) c t) ⌝ }
@@ -142,7 +139,7 @@ fn target(
 ) -> HashValue
     requires { ⌜ t ≤ 33 ⌝ }
     ensures { λ r. ⌜ bytesOf (r .words)
-        ≡ countedHash opened n (now (hashes .entry)) (integrityOf (now (entries .entry)) (now (bytes .entry))) t
+        ≡ roomCounted opened n (now (hashes .entry)) (integrityOf (now (entries .entry)) (now (bytes .entry))) t
         (above t c) ⌝ }
 {
     let b = tree::peaks::node(c, t);
@@ -160,7 +157,7 @@ fn complete(entries: &[u64], bytes: &[u8], opened: bool, n: u32, c: u32, top: u3
     requires { ⌜ (top ≡ levels n) × (top ≤ 32) × (t ≤ 33) ⌝ }
     ensures { λ r. ⌜ r ≡ pick
         (pick opened true (every (cameIn (integrityOf (now (entries .entry)) (now (bytes .entry)))) (peaks n)))
-        (every (cameIn (integrityOf (now (entries .entry)) (now (bytes .entry)))) (siblings c t (above t c))) false ⌝ }
+        (every (cameIn (integrityOf (now (entries .entry)) (now (bytes .entry)))) (siblings c t)) false ⌝ }
 {
     if opened {
         return siblings_came(entries, bytes, c, t);
@@ -207,9 +204,8 @@ fn met(
 ) -> bool
     requires { ⌜ t ≤ 33 ⌝ }
     ensures { λ r. ⌜ (r ≡ same
-        (climb sha256 (gotBy (integrityOf (now (entries .entry)) (now (bytes .entry)))) (bytesOf (leaf .words)) c t
-        (above t c))
-        (countedHash opened n (now (hashes .entry)) (integrityOf (now (entries .entry)) (now (bytes .entry))) t
+        (climb sha256 (gotBy (integrityOf (now (entries .entry)) (now (bytes .entry)))) (bytesOf (leaf .words)) c t)
+        (roomCounted opened n (now (hashes .entry)) (integrityOf (now (entries .entry)) (now (bytes .entry))) t
         (above t c)))
         × (now (scratch .exit)
         ≡ kept (now (scratch .entry)) (gotBy (integrityOf (now (entries .entry)) (now (bytes .entry))))

@@ -1,8 +1,8 @@
 -- A HANDSHAKE that the checks let pass: it has no fault of its own, and its source is the number that stands there. Assumes
 -- nothing.
-use Prim.Native.Nat.{ℕ, zero, suc, _+_}
+use Prim.Native.Nat.{ℕ, zero, suc}
 use mathlib.Core.Path.{_≡_, refl, ap, _∙_}
-use mathlib.Core.List.{List, [], _∷_, _++_}
+use mathlib.Core.List.{List, []}
 use mathlib.Core.Bool.{Bool, true, false}
 use borrow.Author.Tests.{eqb-true}
 use lib.ListN.{length, drop}

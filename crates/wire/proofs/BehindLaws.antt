@@ -41,32 +41,27 @@ module _ (least : ℕ) (t : List ℕ) where
       Seen : ℕ → Type 0
       Seen n = (n ≡ 0 → ⊥) → ((1 ≤ length t) × (code t ≡ 255) × (n ≡ 1)) ⊎ (Valued least t × (n ≡ headSize (code t) + bodySize t))
 
-      by₆ : (code t ≡ 255 → ⊥) → least ≤ code t → code t ≤ 9 → (x : Bool) → ltb (length t) (headSize (code t) + bodySize t) ≡ x → Seen (pick x 0 (headSize (code t) + bodySize t))
-      by₆ o r k true e f = absurd (f refl)
-      by₆ o r k false e f = inr (record { other = o; rising = r; known = k; whole = ltb-false _ _ e }, refl)
-
-      by₅ : (code t ≡ 255 → ⊥) → least ≤ code t → code t ≤ 9 → (x : Bool) → ltb (length t) (headSize (code t)) ≡ x
-          → Seen (pick x 0 (pick (ltb (length t) (headSize (code t) + bodySize t)) 0 (headSize (code t) + bodySize t)))
+      by₅ : (code t ≡ 255 → ⊥) → least ≤ code t → code t ≤ 9 → (x : Bool) → ltb (length t) (headSize (code t) + bodySize t) ≡ x → Seen (pick x 0 (headSize (code t) + bodySize t))
       by₅ o r k true e f = absurd (f refl)
-      by₅ o r k false e f = by₆ o r k _ refl f
+      by₅ o r k false e f = inr (record { other = o; rising = r; known = k; whole = ltb-false _ _ e }, refl)
 
       by₄ : (code t ≡ 255 → ⊥) → least ≤ code t → (x : Bool) → ltb 9 (code t) ≡ x
-          → Seen (pick x 0 (pick (ltb (length t) (headSize (code t))) 0 (pick (ltb (length t) (headSize (code t) + bodySize t)) 0 (headSize (code t) + bodySize t))))
+          → Seen (pick x 0 (pick (ltb (length t) (headSize (code t) + bodySize t)) 0 (headSize (code t) + bodySize t)))
       by₄ o r true e f = absurd (f refl)
       by₄ o r false e f = by₅ o r (ltb-false _ _ e) _ refl f
 
       by₃ : (code t ≡ 255 → ⊥) → (x : Bool) → ltb (code t) least ≡ x
-          → Seen (pick x 0 (pick (ltb 9 (code t)) 0 (pick (ltb (length t) (headSize (code t))) 0 (pick (ltb (length t) (headSize (code t) + bodySize t)) 0 (headSize (code t) + bodySize t)))))
+          → Seen (pick x 0 (pick (ltb 9 (code t)) 0 (pick (ltb (length t) (headSize (code t) + bodySize t)) 0 (headSize (code t) + bodySize t))))
       by₃ o true e f = absurd (f refl)
       by₃ o false e f = by₄ o (ltb-false _ _ e) _ refl f
 
       by₂ : 1 ≤ length t → (x : Bool) → eqb (code t) 255 ≡ x
-          → Seen (pick x 1 (pick (ltb (code t) least) 0 (pick (ltb 9 (code t)) 0 (pick (ltb (length t) (headSize (code t))) 0 (pick (ltb (length t) (headSize (code t) + bodySize t)) 0 (headSize (code t) + bodySize t))))))
+          → Seen (pick x 1 (pick (ltb (code t) least) 0 (pick (ltb 9 (code t)) 0 (pick (ltb (length t) (headSize (code t) + bodySize t)) 0 (headSize (code t) + bodySize t)))))
       by₂ l true e f = inl (l, eqb-true _ _ e, refl)
       by₂ l false e f = by₃ (eqb-false _ _ e) _ refl f
 
       by₁ : (x : Bool) → ltb (length t) 1 ≡ x
-          → Seen (pick x 0 (pick (eqb (code t) 255) 1 (pick (ltb (code t) least) 0 (pick (ltb 9 (code t)) 0 (pick (ltb (length t) (headSize (code t))) 0 (pick (ltb (length t) (headSize (code t) + bodySize t)) 0 (headSize (code t) + bodySize t)))))))
+          → Seen (pick x 0 (pick (eqb (code t) 255) 1 (pick (ltb (code t) least) 0 (pick (ltb 9 (code t)) 0 (pick (ltb (length t) (headSize (code t) + bodySize t)) 0 (headSize (code t) + bodySize t))))))
       by₁ true e f = absurd (f refl)
       by₁ false e f = by₂ (ltb-false _ _ e) _ refl f
 
@@ -84,7 +79,6 @@ module _ (least : ℕ) (t : List ℕ) where
         ne-eqb (code t) 255 (v .other),
         le-ltb (code t) least (v .rising),
         le-ltb 9 (code t) (v .known),
-        le-ltb (length t) (headSize (code t)) (omega arith),
         le-ltb (length t) (headSize (code t) + bodySize t) w,
       )
 

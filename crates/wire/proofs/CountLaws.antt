@@ -9,11 +9,12 @@ use lib.Dec.{ltb, eqb}
 use borrow.Author.Tests.{ltb-false}
 use Rattle.base.specs.Pick.{pick}
 use Rattle.wire.specs.Bytes.{be32}
-use Rattle.wire.specs.Limits.{minSize, maxSize, entryWords}
+use Rattle.wire.specs.Limits.{minSize, maxSize}
 use Rattle.wire.specs.Range.{firstOf, lastOf}
 use Rattle.wire.specs.Options.{optionsSize}
 use Rattle.wire.specs.Read.{kindOf, stepAt}
 use Rattle.wire.specs.Layout.{Checked, checkedOf, seen, handshakeFault, orFault, handshakeLayout, layoutStep, layoutFrom, layoutOf}
+use Rattle.wire.specs.Steps.{entryWords}
 use Rattle.wire.specs.declared.message.Options.{Options}
 use Rattle.wire.specs.declared.message.Step.{Step}
 use Rattle.wire.specs.declared.message.Step.the-variants.{End, Refused}

@@ -12,8 +12,8 @@ use borrow.Author.Tests.{lt-ltb, le-ltb, eq-eqb, ne-eqb}
 use Rattle.base.specs.Pick.{pick}
 use Rattle.wire.specs.Bytes.{be32, placed}
 use Rattle.wire.specs.Limits.{minSize, maxSize}
-use Rattle.wire.specs.Layout.{Checked, checkedOf, seen, isEndOnly, handshakeFault, orFault, handshakeLayout, layoutOf, checkSpec}
-use Rattle.wire.specs.Steps.{turnedOf, noted, passSpec}
+use Rattle.wire.specs.Layout.{Checked, checkedOf, seen, isEndOnly, handshakeFault, orFault, handshakeLayout, layoutOf}
+use Rattle.wire.specs.Steps.{checkSpec, turnedOf, noted, passSpec}
 use Rattle.wire.specs.declared.message.Options.{Options}
 use Rattle.wire.specs.declared.layout.Layout.the-variants.{Fault, HandshakeAlone}
 use Rattle.wire.specs.declared.layout.Turn.the-variants.{On, Over}

@@ -33,18 +33,20 @@ module _ (least : ℕ) (t : List ℕ) (some : 1 ≤ length t) (other : code t �
   -- its head is cut short
   pub option-short : length t < h → 0 ≡ optionSize least t
   unfolding optionSize
-  option-short l = simp (le-ltb _ _ some, ne-eqb _ _ other, le-ltb _ _ rising, le-ltb _ _ known, ← he, lt-ltb _ _ l)
+  option-short l =
+      let m : length t < headSize (code t) + bodySize t = omega (arith, l, he) in
+      simp (le-ltb _ _ some, ne-eqb _ _ other, le-ltb _ _ rising, le-ltb _ _ known, lt-ltb _ _ m)
 
-  module _ (fits : h ≤ length t) (b : ℕ) (be : b ≡ bodySize t) where
+  module _ (b : ℕ) (be : b ≡ bodySize t) where
     -- its body is cut short
     pub option-cut : length t < h + b → 0 ≡ optionSize least t
     unfolding optionSize
-    option-cut l = simp (le-ltb _ _ some, ne-eqb _ _ other, le-ltb _ _ rising, le-ltb _ _ known, ← he, ← be, le-ltb _ _ fits, lt-ltb _ _ l)
+    option-cut l = simp (le-ltb _ _ some, ne-eqb _ _ other, le-ltb _ _ rising, le-ltb _ _ known, ← he, ← be, lt-ltb _ _ l)
 
     -- it is whole
     pub option-whole : h + b ≤ length t → h + b ≡ optionSize least t
     unfolding optionSize
-    option-whole l = simp (le-ltb _ _ some, ne-eqb _ _ other, le-ltb _ _ rising, le-ltb _ _ known, ← he, ← be, le-ltb _ _ fits, le-ltb _ _ l)
+    option-whole l = simp (le-ltb _ _ some, ne-eqb _ _ other, le-ltb _ _ rising, le-ltb _ _ known, ← he, ← be, le-ltb _ _ l)
 
 -- ---- the options one by one
 

@@ -12,10 +12,10 @@ use lib.Dec.{leb, eqb}
 use borrow.Author.Tests.{eqb-true, leb-false}
 use Rattle.base.specs.Pick.{pick}
 use Rattle.wire.specs.Bytes.{placed}
-use Rattle.wire.specs.Limits.{minSize, maxSize, entryWords}
+use Rattle.wire.specs.Limits.{minSize, maxSize}
 use Rattle.wire.specs.Read.{stepAt}
 use Rattle.wire.specs.Layout.{Checked, checkedOf, seen, handshakeLayout, layoutStep, layoutFrom}
-use Rattle.wire.specs.Steps.{Turned, turnedOf, noted, isSingle, turnOn, turnAt, Standing, passSpec}
+use Rattle.wire.specs.Steps.{entryWords, Turned, turnedOf, noted, isSingle, turnOn, turnAt, Standing, passSpec}
 use Rattle.wire.specs.declared.message.Options.{Options}
 use Rattle.wire.specs.declared.message.Message.{Message}
 use Rattle.wire.specs.declared.message.Message.the-variants.{Handshake, Data, Ack, Have, Integrity, Request, Cancel, Choke, Unchoke}

@@ -12,10 +12,11 @@ use Rattle.wire.proofs.CountLaws.{entries-fit}
 use Rattle.wire.proofs.DataLaws as data-laws
 use Rattle.wire.specs.declared.layout.Layout.{Layout}
 pub use Rattle.wire.specs.Bytes.{be32, be64, placed}
-pub use Rattle.wire.specs.Limits.{minSize, maxSize, entryWords}
+pub use Rattle.wire.specs.Limits.{minSize, maxSize}
 pub use Rattle.wire.specs.Options.{fixedHead, fixedTail}
 pub use Rattle.wire.specs.Read.{stepNumber, cursor, stepAt}
-pub use Rattle.wire.specs.Layout.{Checked, checkedOf, numberOf, isEndOnly, layoutOf, checkSpec}
+pub use Rattle.wire.specs.Layout.{Checked, checkedOf, numberOf, isEndOnly, layoutOf}
+pub use Rattle.wire.specs.Steps.{entryWords, checkSpec}
 unfoldable pub use Rattle.wire.specs.Layout.{seen, handshakeFault}
 pub use Rattle.wire.proofs.FaultLaws.{Passed, Numbered}
 pub use Rattle.wire.proofs.AloneLaws.{Alone}

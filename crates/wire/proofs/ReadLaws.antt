@@ -11,9 +11,10 @@ use Rattle.tree.proofs.Promise.{covers, nodeOfRange}
 use Rattle.tree.specs.declared.bin.RangeNode.{RangeNode}
 use Rattle.tree.specs.declared.bin.RangeNode.the-variants.{Node, NoNode}
 use Rattle.wire.specs.Bytes.{be32, be64}
-use Rattle.wire.specs.Range.{firstOf, lastOf, rangeOf}
+use Rattle.wire.specs.Range.{firstOf, lastOf}
 use Rattle.wire.specs.Options.{optionsSize, isFixed}
-use Rattle.wire.specs.Read.{cursor, kindOf, handshakeAt, dataAt, integrityAt, ackAt, named, rangedAt, typed, stepOf}
+use Rattle.wire.specs.Read.{cursor, kindOf, handshakeAt, dataAt, integrityAt, ackAt, rangedAt, typed, stepOf}
+use Rattle.wire.specs.Steps.{rangeOf, named}
 use Rattle.wire.specs.declared.range.Range.{Range}
 use Rattle.wire.specs.declared.message.Options.{Options}
 use Rattle.wire.specs.declared.message.Options.the-variants.{Fixed, EndOnly, Other}
@@ -112,9 +113,9 @@ module _ (at : ℕ) (t : List ℕ) where
   unfolding integrityAt
   integrity-cut l = simp (lt-ltb _ _ l)
 
-  pub ranged-cut : (k : ℕ) → length t < 9 → Refused ≡ rangedAt k at t
+  pub ranged-cut : (M : ℕ → ℕ → Message) → length t < 9 → Refused ≡ rangedAt M at t
   unfolding rangedAt
-  ranged-cut k l = simp (lt-ltb _ _ l)
+  ranged-cut M l = simp (lt-ltb _ _ l)
 
   -- of the range
   module _ (r : Range) (e : r ≡ rangeOf t) where
@@ -139,14 +140,14 @@ module _ (at : ℕ) (t : List ℕ) where
     unfolding ackAt
     ack-good h o xe = let f = first-is t e in let l = last-is t e in simp (le-ltb _ _ h, ← f, ← l, le-ltb _ _ o, ← xe)
 
-    module _ (k : ℕ) where
+    module _ (M : ℕ → ℕ → Message) where
       -- HAVE, REQUEST or CANCEL, its last chunk before its first
-      pub ranged-order : 9 ≤ length t → r .last < r .first → Refused ≡ rangedAt k at t
+      pub ranged-order : 9 ≤ length t → r .last < r .first → Refused ≡ rangedAt M at t
       unfolding rangedAt
       ranged-order h o = let f = first-is t e in let l = last-is t e in simp (le-ltb _ _ h, ← f, ← l, lt-ltb _ _ o)
 
       -- HAVE, REQUEST or CANCEL
-      pub ranged-good : 9 ≤ length t → r .first ≤ r .last → {m : Message} → m ≡ named k (r .first) (r .last) → Read m (cursor (at + 9)) ≡ rangedAt k at t
+      pub ranged-good : 9 ≤ length t → r .first ≤ r .last → {m : Message} → m ≡ M (r .first) (r .last) → Read m (cursor (at + 9)) ≡ rangedAt M at t
       unfolding rangedAt
       ranged-good h o me = let f = first-is t e in let l = last-is t e in rw me (simp (le-ltb _ _ h, ← f, ← l, le-ltb _ _ o))
 
@@ -191,7 +192,7 @@ module _ (k at : ℕ) (t : List ℕ) where
   unfolding typed
   row-ack e = rw e
 
-  pub row-have : k ≡ 3 → rangedAt 3 at t ≡ typed k at t
+  pub row-have : k ≡ 3 → rangedAt (named 3) at t ≡ typed k at t
   unfolding typed
   row-have e = rw e
 
@@ -199,11 +200,11 @@ module _ (k at : ℕ) (t : List ℕ) where
   unfolding typed
   row-integrity e = rw e
 
-  pub row-request : k ≡ 8 → rangedAt 8 at t ≡ typed k at t
+  pub row-request : k ≡ 8 → rangedAt (named 8) at t ≡ typed k at t
   unfolding typed
   row-request e = rw e
 
-  pub row-cancel : k ≡ 9 → rangedAt 9 at t ≡ typed k at t
+  pub row-cancel : k ≡ 9 → rangedAt (named 9) at t ≡ typed k at t
   unfolding typed
   row-cancel e = rw e
 

@@ -13,12 +13,17 @@ use Rattle.tree.proofs.Promise.{covers}
 use Rattle.wire.specs.Bytes.{be32, be64}
 use Rattle.wire.specs.Range.{firstOf, lastOf}
 use Rattle.wire.specs.Options.{optionsSize}
-use Rattle.wire.specs.Read.{cursor, refusing, kindOf, handshakeAt, dataAt, ackAt, integrityAt, rangedAt, row, typed, stepOf}
+use Rattle.wire.specs.Read.{cursor, kindOf, handshakeAt, dataAt, ackAt, integrityAt, rangedAt, typed, stepOf}
 use Rattle.wire.specs.declared.message.Message.the-variants.{Handshake, Data, Ack, Have, Integrity, Request, Cancel, Choke, Unchoke}
 use Rattle.wire.specs.declared.message.Step.{Step}
 use Rattle.wire.specs.declared.message.Step.the-variants.{Read, End, Refused}
 
 -- ---- which bytes give which step
+
+-- A step that a test refuses.
+abbrev pub refusing : Bool → Step → Step
+refusing bad st = pick bad Refused st
+
 module _ (at : ℕ) (t : List ℕ) where
   pub typed-is : (k : ℕ) → 1 ≤ length t → getD t 0 0 ≡ k → stepOf at t ≡ typed k at t
   unfolding stepOf
@@ -86,27 +91,27 @@ pub data View (at : ℕ) (t : List ℕ) : Step → Type 0 where
 
 module _ (at : ℕ) (t : List ℕ) where
   -- a row of the table, and a test that refuses
-  choose : (k n : ℕ) (a b : Step) → (k ≡ n → View at t a) → View at t b → View at t (row k n a b)
+  choose : (k n : ℕ) (a b : Step) → (k ≡ n → View at t a) → View at t b → View at t (pick (eqb k n) a b)
   choose k n a b f g = by (eqb k n) refl
     where
       by : (x : Bool) → eqb k n ≡ x → View at t (pick x a b)
       by true e = f (eqb-true k n e)
       by false e = g
 
-  unless : (b : Bool) (a : Step) → (b ≡ false → View at t a) → View at t (refusing b a)
-  unless true a f = refused
-  unless false a f = f refl
+  refusing-view : (b : Bool) (a : Step) → (b ≡ false → View at t a) → View at t (refusing b a)
+  refusing-view true a f = refused
+  refusing-view false a f = f refl
 
   typed-view : (k : ℕ) → getD t 0 0 ≡ k → 1 ≤ length t → View at t (typed k at t)
   unfolding typed handshakeAt dataAt ackAt integrityAt rangedAt
   typed-view k c h =
-      choose k 0 _ _ (λ e. unless _ _ (λ p. unless _ _ (λ q. a-handshake (c ∙ e) (ltb-false (length t) 5 p) (eqb-false (optionsSize (drop 5 t)) 0 q))))
-      (choose k 1 _ _ (λ e. unless _ _ (λ p. unless _ _ (λ q. a-data (c ∙ e) (ltb-false (length t) 17 p) (eqb-true (firstOf t) (lastOf t) (not-false _ q)))))
-      (choose k 2 _ _ (λ e. unless _ _ (λ p. unless _ _ (λ q. an-ack (c ∙ e) (ltb-false (length t) 17 p) (ltb-false (lastOf t) (firstOf t) q))))
-      (choose k 3 _ _ (λ e. unless _ _ (λ p. unless _ _ (λ q. a-have (c ∙ e) (ltb-false (length t) 9 p) (ltb-false (lastOf t) (firstOf t) q))))
-      (choose k 4 _ _ (λ e. unless _ _ (λ p. unless _ _ (λ q. an-integrity (c ∙ e) (ltb-false (length t) 41 p) (not-false _ q))))
-      (choose k 8 _ _ (λ e. unless _ _ (λ p. unless _ _ (λ q. a-request (c ∙ e) (ltb-false (length t) 9 p) (ltb-false (lastOf t) (firstOf t) q))))
-      (choose k 9 _ _ (λ e. unless _ _ (λ p. unless _ _ (λ q. a-cancel (c ∙ e) (ltb-false (length t) 9 p) (ltb-false (lastOf t) (firstOf t) q))))
+      choose k 0 _ _ (λ e. refusing-view _ _ (λ p. refusing-view _ _ (λ q. a-handshake (c ∙ e) (ltb-false (length t) 5 p) (eqb-false (optionsSize (drop 5 t)) 0 q))))
+      (choose k 1 _ _ (λ e. refusing-view _ _ (λ p. refusing-view _ _ (λ q. a-data (c ∙ e) (ltb-false (length t) 17 p) (eqb-true (firstOf t) (lastOf t) (not-false _ q)))))
+      (choose k 2 _ _ (λ e. refusing-view _ _ (λ p. refusing-view _ _ (λ q. an-ack (c ∙ e) (ltb-false (length t) 17 p) (ltb-false (lastOf t) (firstOf t) q))))
+      (choose k 3 _ _ (λ e. refusing-view _ _ (λ p. refusing-view _ _ (λ q. a-have (c ∙ e) (ltb-false (length t) 9 p) (ltb-false (lastOf t) (firstOf t) q))))
+      (choose k 4 _ _ (λ e. refusing-view _ _ (λ p. refusing-view _ _ (λ q. an-integrity (c ∙ e) (ltb-false (length t) 41 p) (not-false _ q))))
+      (choose k 8 _ _ (λ e. refusing-view _ _ (λ p. refusing-view _ _ (λ q. a-request (c ∙ e) (ltb-false (length t) 9 p) (ltb-false (lastOf t) (firstOf t) q))))
+      (choose k 9 _ _ (λ e. refusing-view _ _ (λ p. refusing-view _ _ (λ q. a-cancel (c ∙ e) (ltb-false (length t) 9 p) (ltb-false (lastOf t) (firstOf t) q))))
       (choose k 10 _ _ (λ e. a-choke (c ∙ e) h)
       (choose k 11 _ _ (λ e. an-unchoke (c ∙ e) h)
       refused))))))))

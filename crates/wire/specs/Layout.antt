@@ -6,7 +6,7 @@ use mathlib.Core.Bool.{Bool, true, false}
 use lib.ListN.{length}
 use lib.Dec.{ltb, eqb}
 use Rattle.base.specs.Pick.{pick}
-use Rattle.wire.specs.Bytes.{be32, placed}
+use Rattle.wire.specs.Bytes.{be32}
 use Rattle.wire.specs.Limits.{minSize, maxSize}
 use Rattle.wire.specs.Read.{stepNumber, stepAt}
 use Rattle.wire.specs.declared.message.Options.{Options}
@@ -56,8 +56,7 @@ orFault (suc n) l = Fault (suc n)
 -- A HANDSHAKE from `at` to `next` of s: 3 too where a message stands before it or a byte behind it.
 unfoldable pub handshakeLayout : List ℕ → ℕ → ℕ → ℕ → Options → Layout
 handshakeLayout s at next a o =
-    orFault
-    (pick (eqb at minSize) (pick (eqb next (length s)) (handshakeFault (be32 s 0) a o) 3) 3)
+    orFault (pick (eqb at minSize) (pick (eqb next (length s)) (handshakeFault (be32 s 0) a o) 3) 3)
     (HandshakeAlone a o)
 
 -- A message from `at` to `next`, behind the entries es; `rest` gives what comes after it. DATA reaches to the end. The node
@@ -65,7 +64,8 @@ handshakeLayout s at next a o =
 abbrev pub layoutOn : List ℕ → List ℕ → ℕ → ℕ → Message → (List ℕ → Checked) → Checked
 layoutOn s es at next (Handshake a o) rest = checkedOf (handshakeLayout s at next a o) es
 layoutOn s es at next (Data f l x b n) rest = checkedOf (MessagesAndData f x b n (length es)) es
-layoutOn s es at next (Integrity f l h) rest = pick (seen (f + l) es) (checkedOf (Fault 2) es) (rest (es ++ ((f + l) ∷ h ∷ [])))
+layoutOn s es at next (Integrity f l h) rest =
+    pick (seen (f + l) es) (checkedOf (Fault 2) es) (rest (es ++ ((f + l) ∷ h ∷ [])))
 layoutOn s es at next (Ack f l d) rest = rest es
 layoutOn s es at next (Have f l) rest = rest es
 layoutOn s es at next (Request f l) rest = rest es
@@ -90,8 +90,3 @@ layoutOf s =
     pick (ltb (length s) minSize) (checkedOf (Fault 1) [])
     (pick (ltb maxSize (length s)) (checkedOf (Fault 1) [])
     (layoutFrom (length s) s [] minSize))
-
--- The checks, with a room for the entries, which is scratch of the caller: after a refusal it has those of the messages
--- before; what stands past them stays.
-unfoldable pub checkSpec : List ℕ → List ℕ → Checked
-checkSpec room s = checkedOf (layoutOf s .layout) (placed room 0 (layoutOf s .entries))

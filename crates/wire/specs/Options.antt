@@ -27,9 +27,8 @@ optionSize least t =
     (pick (eqb (code t) 255) 1
     (pick (ltb (code t) least) 0
     (pick (ltb 9 (code t)) 0
-    (pick (ltb (length t) (headSize (code t))) 0
     (pick (ltb (length t) (headSize (code t) + bodySize t)) 0
-    (headSize (code t) + bodySize t))))))
+    (headSize (code t) + bodySize t)))))
 
 -- Where the options of t end, End included, `at` bytes before t counted in; 0 where they are refused. Codes rise, so ten
 -- options and End are the most.

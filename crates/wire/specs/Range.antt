@@ -4,7 +4,6 @@ use mathlib.Core.List.{List}
 use Rattle.tree.specs.declared.bin.RangeNode.{RangeNode}
 use Rattle.tree.specs.declared.bin.RangeNode.the-variants.{Node, NoNode}
 use Rattle.wire.specs.Bytes.{be32}
-use Rattle.wire.specs.declared.range.Range.{Range}
 
 -- The range of the message t, behind its type.
 abbrev pub firstOf : List ℕ → ℕ
@@ -12,9 +11,6 @@ firstOf t = be32 t 1
 
 abbrev pub lastOf : List ℕ → ℕ
 lastOf t = be32 t 5
-
-abbrev pub rangeOf : List ℕ → Range
-rangeOf t = record { first = firstOf t; last = lastOf t }
 
 -- The number of 01 for an INTEGRITY's range, by its node: 2 for "INTEGRITY range no node".
 abbrev pub nodeNumber : RangeNode → ℕ

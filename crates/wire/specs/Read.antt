@@ -26,11 +26,11 @@ stepNumber Refused = 2
 abbrev pub cursor : ℕ → Cursor
 cursor at = record { at = at }
 
-abbrev pub refusing : Bool → Step → Step
-refusing bad m = pick bad Refused m
+-- In what follows, t is what is left of the datagram from the message's type on, and stands at `at`.
 
--- In what follows, t is what is left of the datagram from the message's type on, and stands at `at`. A message that is
--- cut short is refused.
+-- The message m, which takes n bytes of t at least and ends at `next`; refused where it is cut short or `bad`.
+abbrev pub whole : (t : List ℕ) (n : ℕ) (bad : Bool) → Message → (next : ℕ) → Step
+whole t n bad m next = pick (ltb (length t) n) Refused (pick bad Refused (Read m (cursor next)))
 
 -- A HANDSHAKE's options, t: End alone, the fixed ones around a root, or others.
 unfoldable pub kindOf : ℕ → List ℕ → Options
@@ -39,56 +39,41 @@ kindOf at t = pick (eqb (optionsSize t) 1) EndOnly (pick (isFixed t) (Fixed (at 
 -- 0, HANDSHAKE (RFC 7574, 8.4): source channel, options of sound layout.
 unfoldable pub handshakeAt : ℕ → List ℕ → Step
 handshakeAt at t =
-    refusing (ltb (length t) 5)
-    (refusing (eqb (optionsSize (drop 5 t)) 0)
-    (Read (Handshake (be32 t 1) (kindOf (at + 5) (drop 5 t))) (cursor (at + 5 + optionsSize (drop 5 t)))))
+    whole t 5 (eqb (optionsSize (drop 5 t)) 0)
+    (Handshake (be32 t 1) (kindOf (at + 5) (drop 5 t))) (at + 5 + optionsSize (drop 5 t))
 
 -- 1, DATA (8.6): range of one chunk, timestamp, chunk to the datagram's end.
 unfoldable pub dataAt : ℕ → List ℕ → Step
 dataAt at t =
-    refusing (ltb (length t) 17)
-    (refusing (not (eqb (firstOf t) (lastOf t)))
-    (Read (Data (firstOf t) (lastOf t) (be64 t 9) (at + 17) (length t - 17)) (cursor (at + length t))))
+    whole t 17 (not (eqb (firstOf t) (lastOf t)))
+    (Data (firstOf t) (lastOf t) (be64 t 9) (at + 17) (length t - 17)) (at + length t)
 
 -- 2, ACK (8.7): range, delay.
 unfoldable pub ackAt : ℕ → List ℕ → Step
-ackAt at t =
-    refusing (ltb (length t) 17)
-    (refusing (ltb (lastOf t) (firstOf t))
-    (Read (Ack (firstOf t) (lastOf t) (be64 t 9)) (cursor (at + 17))))
+ackAt at t = whole t 17 (ltb (lastOf t) (firstOf t)) (Ack (firstOf t) (lastOf t) (be64 t 9)) (at + 17)
 
 -- 4, INTEGRITY (8.8): range of a node, whose number is first plus last, hash.
 unfoldable pub integrityAt : ℕ → List ℕ → Step
 integrityAt at t =
-    refusing (ltb (length t) 41)
-    (refusing (not (covers (firstOf t + lastOf t) (firstOf t) (lastOf t)))
-    (Read (Integrity (firstOf t) (lastOf t) (at + 9)) (cursor (at + 41))))
+    whole t 41 (not (covers (firstOf t + lastOf t) (firstOf t) (lastOf t)))
+    (Integrity (firstOf t) (lastOf t) (at + 9)) (at + 41)
 
--- 3, 8 and 9, HAVE, REQUEST and CANCEL (8.5, 8.10, 8.11): a range; k is one of the three.
-abbrev pub named : ℕ → ℕ → ℕ → Message
-named k f l = pick (eqb k 3) (Have f l) (pick (eqb k 8) (Request f l) (Cancel f l))
-
-unfoldable pub rangedAt : ℕ → ℕ → List ℕ → Step
-rangedAt k at t =
-    refusing (ltb (length t) 9)
-    (refusing (ltb (lastOf t) (firstOf t))
-    (Read (named k (firstOf t) (lastOf t)) (cursor (at + 9))))
-
-abbrev pub row : ℕ → ℕ → Step → Step → Step
-row k n a b = pick (eqb k n) a b
+-- 3, 8 and 9, HAVE, REQUEST and CANCEL (8.5, 8.10, 8.11): a range; M is one of the three.
+unfoldable pub rangedAt : (ℕ → ℕ → Message) → ℕ → List ℕ → Step
+rangedAt M at t = whole t 9 (ltb (lastOf t) (firstOf t)) (M (firstOf t) (lastOf t)) (at + 9)
 
 -- The message of type k: a row of the table, 10 and 11 being CHOKE and UNCHOKE (8.12), or a refused type.
 unfoldable pub typed : ℕ → ℕ → List ℕ → Step
 typed k at t =
-    row k 0 (handshakeAt at t)
-    (row k 1 (dataAt at t)
-    (row k 2 (ackAt at t)
-    (row k 3 (rangedAt 3 at t)
-    (row k 4 (integrityAt at t)
-    (row k 8 (rangedAt 8 at t)
-    (row k 9 (rangedAt 9 at t)
-    (row k 10 (Read Choke (cursor (at + 1)))
-    (row k 11 (Read Unchoke (cursor (at + 1)))
+    pick (eqb k 0) (handshakeAt at t)
+    (pick (eqb k 1) (dataAt at t)
+    (pick (eqb k 2) (ackAt at t)
+    (pick (eqb k 3) (rangedAt Have at t)
+    (pick (eqb k 4) (integrityAt at t)
+    (pick (eqb k 8) (rangedAt Request at t)
+    (pick (eqb k 9) (rangedAt Cancel at t)
+    (pick (eqb k 10) (Read Choke (cursor (at + 1)))
+    (pick (eqb k 11) (Read Unchoke (cursor (at + 1)))
     Refused))))))))
 
 -- What stands at the front of t: the end, a refusal, or a message and where it ends.

@@ -1,5 +1,5 @@
--- Nothing of the papers: one turn of the code's loops. Assumes nothing.
-use Prim.Native.Nat.{ℕ, _+_, _*_, _%_, _≤_}
+-- Nothing of the papers: what the code computes on its way, and one turn of its loops. Assumes nothing.
+use Prim.Native.Nat.{ℕ, _+_, _-_, _*_, _/_, _%_, _≤_}
 use mathlib.Core.Path.{_≡_}
 use mathlib.Core.List.{List, [], _∷_}
 use mathlib.Core.Bool.{Bool, true, false}
@@ -7,9 +7,11 @@ use lib.ListN.{length, getD, take}
 use lib.Dec.{leb, eqb}
 use Rattle.base.specs.Pick.{pick}
 use Rattle.wire.specs.Bytes.{placed}
-use Rattle.wire.specs.Limits.{minSize, maxSize, entryWords}
+use Rattle.wire.specs.Limits.{minSize, maxSize}
+use Rattle.wire.specs.Range.{firstOf, lastOf}
 use Rattle.wire.specs.Read.{stepNumber}
-use Rattle.wire.specs.Layout.{Checked, checkedOf, seen, handshakeLayout, layoutFrom}
+use Rattle.wire.specs.Layout.{Checked, checkedOf, seen, handshakeLayout, layoutFrom, layoutOf}
+use Rattle.wire.specs.declared.range.Range.{Range}
 use Rattle.wire.specs.declared.message.Message.{Message}
 use Rattle.wire.specs.declared.message.Message.the-variants.{Handshake, Data, Ack, Have, Integrity, Request, Cancel, Choke, Unchoke}
 use Rattle.wire.specs.declared.message.Step.{Step}
@@ -17,6 +19,27 @@ use Rattle.wire.specs.declared.message.Step.the-variants.{Read, End, Ref
 use Rattle.wire.specs.declared.layout.Layout.the-variants.{Fault, Messages, MessagesAndData}
 use Rattle.wire.specs.declared.layout.Turn.{Turn}
 use Rattle.wire.specs.declared.layout.Turn.the-variants.{On, Over}
+
+-- ---- reading a message
+
+-- The range of the message t, behind its type.
+abbrev pub rangeOf : List ℕ → Range
+rangeOf t = record { first = firstOf t; last = lastOf t }
+
+-- The message of type 3, 8 or 9.
+abbrev pub named : ℕ → ℕ → ℕ → Message
+named k f l = pick (eqb k 3) (Have f l) (pick (eqb k 8) (Request f l) (Cancel f l))
+
+-- ---- the layout checks
+
+-- Words for the nodes of a datagram, two for each INTEGRITY message, of which 49 of 41 bytes fit: 98.
+abbrev pub entryWords : ℕ
+entryWords = 2 * ((maxSize - minSize) / 41)
+
+-- The checks, with a room for the entries, which is scratch of the caller: after a refusal it has those of the messages
+-- before; what stands past them stays.
+unfoldable pub checkSpec : List ℕ → List ℕ → Checked
+checkSpec room s = checkedOf (layoutOf s .layout) (placed room 0 (layoutOf s .entries))
 
 -- What a turn of the layout pass gives, and the room for the entries that it leaves.
 pub record Turned : Type 0 where
@@ -65,4 +88,6 @@ pub record Standing (s : List ℕ) (size at used : ℕ) : Type 0 where
 
 -- The whole pass over a datagram of sound size, its entries stored from the room's front.
 unfoldable pub passSpec : List ℕ → List ℕ → Checked
-passSpec room s = checkedOf (layoutFrom (length s) s [] minSize .layout) (placed room 0 (layoutFrom (length s) s [] minSize .entries))
+passSpec room s =
+    checkedOf (layoutFrom (length s) s [] minSize .layout)
+    (placed room 0 (layoutFrom (length s) s [] minSize .entries))

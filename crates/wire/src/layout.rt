@@ -2,11 +2,12 @@
 ghost use mathlib.Core.Path.{_≡_};
 ghost use Prim.Native.Nat.{_+_, _≤_};
 ghost use lib.ListN.{length};
-ghost use Rattle.wire.specs.Limits.{minSize, maxSize, entryWords};
+ghost use Rattle.wire.specs.Limits.{minSize, maxSize};
 ghost use Rattle.wire.specs.Read.{cursor, stepAt};
 ghost use Rattle.wire.specs.Layout.{numberOf, seen, isEndOnly, handshakeFault, handshakeLayout};
-ghost use Rattle.wire.specs.Layout.{checkSpec, checkedOf};
-ghost use Rattle.wire.specs.Steps.{turnedOf, noted, isSingle, turnOn, turnAt, Standing, passSpec};
+ghost use Rattle.wire.specs.Layout.{checkedOf};
+ghost use Rattle.wire.specs.Steps.{entryWords, checkSpec, turnedOf, noted, isSingle, turnOn, turnAt};
+ghost use Rattle.wire.specs.Steps.{Standing, passSpec};
 use crate::bytes;
 use crate::limits::ENTRIES;
 use crate::limits::MAX_SIZE;

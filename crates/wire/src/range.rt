@@ -2,7 +2,7 @@
 ghost use mathlib.Core.Path.{_≡_};
 ghost use Prim.Native.Nat.{_≤_};
 ghost use lib.ListN.{length};
-ghost use Rattle.wire.specs.Range.{rangeOf};
+ghost use Rattle.wire.specs.Steps.{rangeOf};
 use crate::bytes;
 
 pub struct Range {

@@ -3,8 +3,9 @@ ghost use mathlib.Core.Path.{_≡_};
 ghost use Prim.Native.Nat.{_+_, _≤_, _<_, _^_};
 ghost use lib.ListN.{length};
 ghost use Rattle.wire.specs.Options.{optionsSize};
-ghost use Rattle.wire.specs.Read.{kindOf, handshakeAt, dataAt, integrityAt, ackAt, named, rangedAt};
+ghost use Rattle.wire.specs.Read.{kindOf, handshakeAt, dataAt, integrityAt, ackAt, rangedAt};
 ghost use Rattle.wire.specs.Read.{typed, stepAt};
+ghost use Rattle.wire.specs.Steps.{named};
 use crate::bytes;
 use crate::message::Cursor;
 use crate::message::Message;
@@ -137,7 +138,7 @@ fn named(kind: u8, first: u32, last: u32) -> Message
 
 fn ranged(rest: &[u8], kind: u8, at: usize) -> Step
     requires { ⌜ at + length (now rest) < 2 ^ 64 ⌝ }
-    ensures { λ r. ⌜ r ≡ rangedAt kind at (now (rest .entry)) ⌝ }
+    ensures { λ r. ⌜ r ≡ rangedAt (named kind) at (now (rest .entry)) ⌝ }
 {
     if rest.len() < 9 {
         return Step::Refused;

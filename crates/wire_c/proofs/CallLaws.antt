@@ -3,10 +3,11 @@ use Prim.Native.Nat.{ℕ, _<_, _≤_}
 use mathlib.Core.Path.{_≡_}
 use mathlib.Core.List.{List}
 use lib.ListN.{length}
+use lib.Seq.{sets}
 use borrow.Author.Tests.{lt-ltb, le-ltb}
 use Rattle.wire.proofs.Promise.{entryWords, numberOf, checkedOf, checkSpec}
 use Rattle.wire.specs.declared.layout.Layout.{Layout}
-use Rattle.wire_c.specs.Words.{layoutPut}
+use Rattle.wire_c.specs.Words.{layoutWords}
 use Rattle.wire_c.specs.Calls.{laidOf, layoutTold}
 
 module _ (s es out : List ℕ) where
@@ -20,6 +21,6 @@ module _ (s es out : List ℕ) where
     layout-few h = rw (le-ltb (length out) 6 long, lt-ltb (length es) entryWords h)
 
     pub layout-done : entryWords ≤ length es → {l : Layout} {n : ℕ} {es′ out′ : List ℕ}
-        → checkedOf l es′ ≡ checkSpec es s → out′ ≡ layoutPut out l → n ≡ numberOf l → laidOf n es′ out′ ≡ layoutTold s es out
+        → checkedOf l es′ ≡ checkSpec es s → out′ ≡ sets out 0 (layoutWords l) → n ≡ numberOf l → laidOf n es′ out′ ≡ layoutTold s es out
     unfolding layoutTold
     layout-done h e p q = rw (le-ltb (length out) 6 long, le-ltb (length es) entryWords h, ← e, p, q)

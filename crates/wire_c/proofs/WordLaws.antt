@@ -6,9 +6,11 @@ use mathlib.Core.List.{List, [], _∷_}
 use lib.ListN.{length, getD, set}
 use lib.Seq.{sets}
 use Rattle.wire.specs.declared.message.Options.{Options}
+use Rattle.wire.specs.declared.message.Options.the-variants.{Fixed, EndOnly, Other}
 use Rattle.wire.specs.declared.layout.Layout.{Layout}
 use Rattle.wire.specs.declared.layout.Layout.the-variants.{HandshakeAlone, Messages, MessagesAndData}
-use Rattle.wire_c.specs.Words.{kindOf, rootOf, layoutPut}
+use Rattle.wire_c.specs.Words.{layoutWords}
+use Rattle.wire_c.specs.Steps.{kindOf, rootOf}
 
 -- ---- six words
 
@@ -33,13 +35,18 @@ six-stored l w h = ap (sets l 0) (six-cells w h)
 module _ (out : List ℕ) {l : Layout} {after : List ℕ} where
   -- a HANDSHAKE alone
   pub layout-handshake : {a k r : ℕ} {o : Options} → l ≡ HandshakeAlone a o → k ≡ kindOf o → r ≡ rootOf o
-      → after ≡ sets out 0 (1 ∷ a ∷ k ∷ r ∷ 0 ∷ 0 ∷ []) → after ≡ layoutPut out l
-  layout-handshake e p q g = g ∙ rw (e, p, q)
+      → after ≡ sets out 0 (1 ∷ a ∷ k ∷ r ∷ 0 ∷ 0 ∷ []) → after ≡ sets out 0 (layoutWords l)
+  layout-handshake {a} {k} {r} {o} e p q g = g ∙ rw (e, p, q) (by o)
+    where
+      by : (x : Options) → sets out 0 (1 ∷ a ∷ kindOf x ∷ rootOf x ∷ 0 ∷ 0 ∷ []) ≡ sets out 0 (layoutWords (HandshakeAlone a x))
+      by (Fixed root) = refl
+      by EndOnly = refl
+      by Other = refl
 
   -- messages without DATA
-  pub layout-messages : {k : ℕ} → l ≡ Messages k → after ≡ sets out 0 (2 ∷ 0 ∷ 0 ∷ 0 ∷ 0 ∷ k ∷ []) → after ≡ layoutPut out l
+  pub layout-messages : {k : ℕ} → l ≡ Messages k → after ≡ sets out 0 (2 ∷ 0 ∷ 0 ∷ 0 ∷ 0 ∷ k ∷ []) → after ≡ sets out 0 (layoutWords l)
   layout-messages e g = rw e g
 
   -- messages with DATA
-  pub layout-data : {c x b n k : ℕ} → l ≡ MessagesAndData c x b n k → after ≡ sets out 0 (3 ∷ c ∷ x ∷ b ∷ n ∷ k ∷ []) → after ≡ layoutPut out l
+  pub layout-data : {c x b n k : ℕ} → l ≡ MessagesAndData c x b n k → after ≡ sets out 0 (3 ∷ c ∷ x ∷ b ∷ n ∷ k ∷ []) → after ≡ sets out 0 (layoutWords l)
   layout-data e g = rw e g

@@ -4,9 +4,10 @@ use Prim.Native.Nat.{ℕ}
 use mathlib.Core.List.{List}
 use lib.ListN.{length}
 use lib.Dec.{ltb}
+use lib.Seq.{sets}
 use Rattle.base.specs.Pick.{pick}
 use Rattle.wire.proofs.Promise.{entryWords, Checked, numberOf, checkSpec}
-use Rattle.wire_c.specs.Words.{layoutPut}
+use Rattle.wire_c.specs.Words.{layoutWords}
 
 -- The layout checks: the number, the room for entries and the words.
 pub record Laid : Type 0 where
@@ -17,9 +18,9 @@ pub record Laid : Type 0 where
 abbrev pub laidOf : ℕ → List ℕ → List ℕ → Laid
 laidOf n entries out = record { answer = n; entries = entries; out = out }
 
--- Checks that were made: the words are their layout's.
+-- Checks that were made: the words of their layout stand at the front of `out`.
 abbrev pub checkedTold : List ℕ → Checked → Laid
-checkedTold out c = laidOf (numberOf (c .layout)) (c .entries) (layoutPut out (c .layout))
+checkedTold out c = laidOf (numberOf (c .layout)) (c .entries) (sets out 0 (layoutWords (c .layout)))
 
 -- Six words are needed, and room for the entries of any datagram.
 unfoldable pub layoutTold : List ℕ → List ℕ → List ℕ → Laid

@@ -3,7 +3,8 @@ ghost use mathlib.Core.Path.{_≡_};
 ghost use Prim.Native.Nat.{_≤_};
 ghost use lib.ListN.{length};
 ghost use lib.Seq.{sets};
-ghost use Rattle.wire_c.specs.Words.{kindOf, rootOf, layoutPut};
+ghost use Rattle.wire_c.specs.Words.{layoutWords};
+ghost use Rattle.wire_c.specs.Steps.{kindOf, rootOf};
 use wire::layout::Layout;
 use wire::message::Options;
 
@@ -42,7 +43,7 @@ fn put(out: &mut [u64], words: [u64; 6])
 // Nothing of a layout that is refused.
 pub(crate) fn put_layout(out: &mut [u64], layout: Layout)
     requires { ⌜ 6 ≤ length (now out) ⌝ }
-    ensures { λ _. ⌜ now (out .exit) ≡ layoutPut (now (out .entry)) layout ⌝ }
+    ensures { λ _. ⌜ now (out .exit) ≡ sets (now (out .entry)) 0 (layoutWords layout) ⌝ }
 {
     match layout {
         Layout::Fault { number: _ } => {}

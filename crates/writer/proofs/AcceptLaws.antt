@@ -10,9 +10,9 @@ use borrow.Author.Tests.{ltb-false, not-false}
 use Rattle.base.specs.Pick.{pick, earlier}
 use Rattle.tree.proofs.Promise.{covers, nodeOfRange}
 use Rattle.tree.specs.declared.bin.RangeNode.the-variants.{Node, NoNode}
-use Rattle.wire.specs.Range.{nodeNumber}
 use Rattle.wire.specs.Bytes.{be32}
 use Rattle.wire.specs.Limits.{minSize, maxSize}
+use Rattle.wire.specs.Range.{nodeNumber}
 use Rattle.wire.specs.Layout.{Checked, numberOf, seen, layoutOf}
 use Rattle.wire.specs.declared.message.Message.{Message}
 use Rattle.wire.specs.declared.message.Message.the-variants.{Handshake, Data, Ack, Have, Integrity, Request, Cancel, Choke, Unchoke}
@@ -20,10 +20,10 @@ use Rattle.wire.specs.declared.layout.Layout.{Layout}
 use Rattle.wire.specs.declared.layout.Layout.the-variants.{Fault, HandshakeAlone, Messages, MessagesAndData}
 use Rattle.wire.proofs.ExtendLaws.{Extended}
 use Rattle.wire.proofs.FaultLaws.{Passed, passed}
-use Rattle.writer.specs.Message.{bytesOf, writable, sizeOf}
+use Rattle.writer.specs.Message.{bytesOf, writable}
 use Rattle.writer.specs.Add.{hasData, addAnswer}
-use Rattle.writer.specs.Lists.{Fits}
-use Rattle.writer.specs.Steps.{faultBehind}
+use Rattle.writer.specs.Lists.{HasWidths}
+use Rattle.writer.specs.Steps.{sizeOf, faultBehind}
 use Rattle.writer.proofs.SizeLaws.{bytes-length}
 use Rattle.writer.proofs.BackLaws.{allowed}
 use Rattle.writer.proofs.AddLaws.{joined, behind-number}
@@ -111,7 +111,7 @@ pub record Accepted (p : List ℕ) (m : Message) (source : List ℕ) : Type 0 wh
   pub entries : ℕ
   pub plain : layoutOf p .layout ≡ Messages entries
 
-module _ (p source : List ℕ) (m : Message) (f : Fits m) (can : writable (length source) m ≡ true) where
+module _ (p source : List ℕ) (m : Message) (f : HasWidths m) (can : writable (length source) m ≡ true) where
   by-layout : (low : minSize ≤ length p) (fits : length p + sizeOf m ≤ maxSize) (l : Layout) (gs : List ℕ) (c : Checked) → layoutOf p .layout ≡ l → Passed l → hasData l ≡ false
       → Extended p (bytesOf source m) l gs c → numberOf (c .layout) ≡ 0 → Accepted p m source
   by-layout low fits (Fault n) gs c e q h x z = absurd q
@@ -122,7 +122,7 @@ module _ (p source : List ℕ) (m : Message) (f : Fits m) (can : writable (lengt
   by-layout low fits (MessagesAndData a b d n k) gs c e q h x z = absurd (true≢false h)
 
 -- What an accepted message has.
-pub accepted : (room : List ℕ) (len : ℕ) (m : Message) (source : List ℕ) → Fits m → addAnswer room len m source ≡ 0 → Accepted (take len room) m source
+pub accepted : (room : List ℕ) (len : ℕ) (m : Message) (source : List ℕ) → HasWidths m → addAnswer room len m source ≡ 0 → Accepted (take len room) m source
 accepted room len m source f e =
     let t = tested room len m source e in
     let p = take len room in

@@ -14,7 +14,7 @@ use Rattle.tree.specs.declared.bin.RangeNode.the-variants.{Node, NoNode}
 use Rattle.wire.specs.Bytes.{be32}
 use Rattle.wire.specs.Limits.{minSize, maxSize}
 use Rattle.wire.specs.Range.{nodeNumber}
-use Rattle.wire.specs.Read.{cursor, refusing, stepOf}
+use Rattle.wire.specs.Read.{cursor, stepOf}
 use Rattle.wire.specs.Layout.{Checked, checkedOf, numberOf, seen, isEndOnly, handshakeFault, orFault, handshakeLayout, layoutStep, layoutFrom, layoutOf}
 use Rattle.wire.specs.declared.message.Options.{Options}
 use Rattle.wire.specs.declared.message.Options.the-variants.{Fixed, EndOnly, Other}
@@ -25,10 +25,11 @@ use Rattle.wire.specs.declared.message.Step.the-variants.{Read}
 use Rattle.wire.specs.declared.layout.Layout.{Layout}
 use Rattle.wire.specs.declared.layout.Layout.the-variants.{Fault, HandshakeAlone, Messages}
 use Rattle.wire.proofs.LocalLaws.{be32-local}
+use Rattle.wire.proofs.ViewLaws.{refusing}
 use Rattle.wire.proofs.ExtendLaws.{layout-suc, over, Extended, lengthened}
-use Rattle.writer.specs.Message.{bytesOf, writable, sizeOf}
-use Rattle.writer.specs.Lists.{Fits}
-use Rattle.writer.specs.Steps.{faultBehind}
+use Rattle.writer.specs.Message.{bytesOf, writable}
+use Rattle.writer.specs.Lists.{HasWidths}
+use Rattle.writer.specs.Steps.{sizeOf, faultBehind}
 use Rattle.writer.proofs.SizeLaws.{bytes-length}
 use Rattle.writer.proofs.BackLaws.{allowed, moved, movedOptions, Behind, message-back}
 
@@ -104,7 +105,7 @@ module _ (p source : List ℕ) (m : Message) (can : writable (length source) m �
   joined = lengthened p (bytesOf source m) low (omega (arith, size))
 
   -- behind messages without HANDSHAKE or DATA, with entries gs
-  module _ (fits : Fits m) (gs : List ℕ) (c : Checked) (on : (k : ℕ) → length (bytesOf source m) < k → c ≡ layoutFrom k (p ++ bytesOf source m) gs (length p)) where
+  module _ (fits : HasWidths m) (gs : List ℕ) (c : Checked) (on : (k : ℕ) → length (bytesOf source m) < k → c ≡ layoutFrom k (p ++ bytesOf source m) gs (length p)) where
     -- what is behind it is the end
     abbrev rest : List ℕ → ℕ → Checked
     rest es next = layoutFrom (suc (length (bytesOf source m))) (p ++ bytesOf source m) es next

@@ -9,12 +9,14 @@ use lib.ListN.{length, take, length-append}
 use lib.Seq.{length-take-le}
 use borrow.Author.Tests.{lt-ltb, le-ltb, eq-eqb, ne-eqb, not-false}
 use Rattle.base.specs.Pick.{pick, earlier}
+use Rattle.base.specs.Out.{outOf, unless}
 use Rattle.tree.proofs.Promise.{nodeOfRange}
 use Rattle.tree.specs.declared.bin.RangeNode.{RangeNode}
 use Rattle.tree.specs.declared.bin.RangeNode.the-variants.{Node, NoNode}
 use Rattle.wire.specs.Bytes.{be32, placed}
-use Rattle.wire.specs.Limits.{minSize, maxSize, entryWords}
-use Rattle.wire.specs.Layout.{Checked, checkedOf, numberOf, seen, handshakeFault, layoutOf, checkSpec}
+use Rattle.wire.specs.Limits.{minSize, maxSize}
+use Rattle.wire.specs.Layout.{Checked, checkedOf, numberOf, seen, handshakeFault, layoutOf}
+use Rattle.wire.specs.Steps.{entryWords, checkSpec}
 use Rattle.wire.specs.declared.message.Options.{Options}
 use Rattle.wire.specs.declared.message.Message.{Message}
 use Rattle.wire.specs.declared.message.Message.the-variants.{Handshake}
@@ -26,10 +28,10 @@ use Rattle.wire.proofs.FaultLaws.{Passed, passed, too-long}
 use Rattle.wire.proofs.CountLaws.{Says, entries-fit}
 use Rattle.wire.proofs.DataLaws.{layout-told, length-told, entries-told}
 use Rattle.writer.specs.Bytes.{bytes32}
-use Rattle.writer.specs.Message.{bytesOf, writable, sizeOf}
-use Rattle.writer.specs.Add.{hasData, addAnswer, writtenOf, decide, beginSpec, addSpec}
-use Rattle.writer.specs.Lists.{Fits}
-use Rattle.writer.specs.Steps.{nodeFault, faultBehind, Roomy, faultAfter, FitsBehind, Addable}
+use Rattle.writer.specs.Message.{bytesOf, writable}
+use Rattle.writer.specs.Add.{hasData, addAnswer, beginSpec, addSpec}
+use Rattle.writer.specs.Lists.{HasWidths}
+use Rattle.writer.specs.Steps.{sizeOf, nodeFault, faultBehind, Roomy, faultAfter, HasWidthsBehind, Addable}
 use Rattle.writer.proofs.SizeLaws.{bytes-length}
 use Rattle.writer.proofs.AcceptLaws.{size-some}
 use Rattle.writer.proofs.AddLaws.{joined, behind-number}
@@ -51,7 +53,7 @@ same-number zero = refl
 same-number (suc n) = refl
 
 module _ (p source : List ℕ) (m : Message) (can : writable (length source) m ≡ true) (low : minSize ≤ length p) (room : length p + sizeOf m ≤ maxSize) where
-  after : (l : Layout) (gs : List ℕ) (c : Checked) (es : List ℕ) → Passed l → Says l (length gs) → take (length gs) es ≡ gs → FitsBehind l m
+  after : (l : Layout) (gs : List ℕ) (c : Checked) (es : List ℕ) → Passed l → Says l (length gs) → take (length gs) es ≡ gs → HasWidthsBehind l m
       → Extended p (bytesOf source m) l gs c → faultAfter l es (be32 p 0) (length p) m ≡ earlier (numberOf (c .layout)) (pick (hasData l) 2 0)
   unfolding faultAfter
   after (Fault n) gs c es q k w f x = absurd q
@@ -60,7 +62,7 @@ module _ (p source : List ℕ) (m : Message) (can : writable (length source) m �
       rw (k, w) (sym (behind-number p source m can low room f gs c x) ∙ same-number (numberOf (c .layout)))
   after (MessagesAndData a b d n j) gs c es q k w f x = rw x
 
-  pub after-is : {l : Layout} → l ≡ layoutOf p .layout → numberOf l ≡ 0 → (es : List ℕ) → take (length (layoutOf p .entries)) es ≡ layoutOf p .entries → FitsBehind l m
+  pub after-is : {l : Layout} → l ≡ layoutOf p .layout → numberOf l ≡ 0 → (es : List ℕ) → take (length (layoutOf p .entries)) es ≡ layoutOf p .entries → HasWidthsBehind l m
       → faultAfter l es (be32 p 0) (length p) m ≡ earlier (numberOf (layoutOf (p ++ bytesOf source m) .layout)) (pick (hasData l) 2 0)
   after-is {l} e z es w f =
       rw e
@@ -125,7 +127,7 @@ module _ (room : List ℕ) (len : ℕ) (m : Message) (bytes : List ℕ) where
               pub add-fits : Addable (length room) len m (length bytes)
               add-fits = record { fits = omega (arith, ne, fits, short); room = big; can = able }
 
-              pub add-after : (es : List ℕ) → take (length (layoutOf (take len room) .entries)) es ≡ layoutOf (take len room) .entries → FitsBehind l m
+              pub add-after : (es : List ℕ) → take (length (layoutOf (take len room) .entries)) es ≡ layoutOf (take len room) .entries → HasWidthsBehind l m
                   → {d r : ℕ} → d ≡ be32 (take len room) 0 → r ≡ faultAfter l es d len m → r ≡ addAnswer room len m bytes
               add-after es w f {d} {r} de re =
                   let k = so-far-length in
@@ -134,26 +136,27 @@ module _ (room : List ℕ) (len : ℕ) (m : Message) (bytes : List ℕ) where
 
   -- the whole call
   module _ {w : ℕ} (e : w ≡ addAnswer room len m bytes) where
-    pub add-refused : (w ≡ 0 → ⊥) → writtenOf w 0 room ≡ addSpec room len m bytes
+    pub add-refused : (w ≡ 0 → ⊥) → outOf w 0 room ≡ addSpec room len m bytes
     unfolding addSpec
     add-refused p = rw (← e) (stop w p)
       where
-        stop : (v : ℕ) → (v ≡ 0 → ⊥) → writtenOf v 0 room ≡ decide v room (len + sizeOf m) (placed room len (bytesOf bytes m))
+        stop : (v : ℕ) → (v ≡ 0 → ⊥) → outOf v 0 room ≡ unless v room (outOf 0 (len + length (bytesOf bytes m)) (placed room len (bytesOf bytes m)))
         stop zero q = absurd (q refl)
         stop (suc v) q = refl
 
-    pub add-done : w ≡ 0 → {n : ℕ} → n ≡ sizeOf m → {r : List ℕ} → r ≡ placed room len (bytesOf bytes m) → writtenOf 0 (len + n) r ≡ addSpec room len m bytes
+    pub add-done : w ≡ 0 → writable (length bytes) m ≡ true → {n : ℕ} → n ≡ sizeOf m → {r : List ℕ} → r ≡ placed room len (bytesOf bytes m)
+        → outOf 0 (len + n) r ≡ addSpec room len m bytes
     unfolding addSpec
-    add-done z p q = rw (← e) (rw z (rw p (ap (writtenOf 0 (len + sizeOf m)) q)))
+    add-done z can p q = rw (← e) (rw z (rw (p ∙ sym (bytes-length bytes m can)) (ap (outOf 0 (len + length (bytesOf bytes m))) q)))
 
 module _ (room : List ℕ) (to : ℕ) where
-  pub begin-refused : length room < maxSize → writtenOf 11 0 room ≡ beginSpec room to
+  pub begin-refused : length room < maxSize → outOf 11 0 room ≡ beginSpec room to
   unfolding beginSpec
   begin-refused h = simp (lt-ltb (length room) maxSize h)
 
-  pub begin-done : maxSize ≤ length room → {r : List ℕ} → r ≡ placed room 0 (bytes32 to) → writtenOf 0 4 r ≡ beginSpec room to
+  pub begin-done : maxSize ≤ length room → {r : List ℕ} → r ≡ placed room 0 (bytes32 to) → outOf 0 4 r ≡ beginSpec room to
   unfolding beginSpec
-  begin-done h q = simp (le-ltb (length room) maxSize h) (ap (writtenOf 0 4) q)
+  begin-done h q = simp (le-ltb (length room) maxSize h) (ap (outOf 0 4) q)
 
 -- ---- a message behind others, as the code tests it
 module _ (es : List ℕ) (f l : ℕ) {r : RangeNode} (e : r ≡ nodeOfRange f l) where
@@ -181,8 +184,8 @@ pub cut : (n : ℕ) (l : List ℕ) → take (n - 0) l ≡ take n l
 cut n l = ap (λ (k : ℕ). take k l) (sub-zero n)
 
 -- behind messages without HANDSHAKE or DATA
-pub after-messages : (es : List ℕ) (to len : ℕ) (m : Message) {l : Layout} {n : ℕ} → l ≡ Messages n → {r : ℕ} → (r ≡ faultBehind (take (n - 0) es) to len m) × Fits m
-    → (r ≡ faultAfter l es to len m) × FitsBehind l m
+pub after-messages : (es : List ℕ) (to len : ℕ) (m : Message) {l : Layout} {n : ℕ} → l ≡ Messages n → {r : ℕ} → (r ≡ faultBehind (take (n - 0) es) to len m) × HasWidths m
+    → (r ≡ faultAfter l es to len m) × HasWidthsBehind l m
 unfolding faultAfter
 after-messages es to len m {n = n} e p = rw e (p .0 ∙ ap (λ (gs : List ℕ). faultBehind gs to len m) (cut n es), p .1)
 

@@ -1,32 +1,26 @@
 -- The numbers that beginning and adding can give. Assumes nothing.
-use Prim.Native.Nat.{ℕ, zero, suc, _+_}
-use mathlib.Core.Path.{_≡_, refl}
+use Prim.Native.Nat.{ℕ, _+_}
+use mathlib.Core.Path.{refl}
 use mathlib.Core.Bool.{not}
 use mathlib.Core.List.{List, [], _∷_, _++_}
 use lib.Dec.{ltb}
 use lib.ListN.{length, take}
 use Rattle.base.specs.Pick.{pick, earlier}
 use Rattle.base.specs.Among.{among, OneOf}
+use Rattle.base.proofs.OutLaws.{unless-one}
 use Rattle.base.proofs.AmongLaws.{allAmong, pick-one, earlier-one, one-of-more}
-use Rattle.wire.specs.Bytes.{placed}
-use Rattle.wire.specs.Limits.{minSize, maxSize}
+use Rattle.wire.specs.Limits.{maxSize}
 use Rattle.wire.specs.Layout.{numberOf, layoutOf}
 use Rattle.wire.specs.declared.message.Message.{Message}
 use Rattle.wire.proofs.NumberLaws.{layout-one}
-use Rattle.writer.specs.Bytes.{bytes32}
-use Rattle.writer.specs.Message.{bytesOf, writable, sizeOf}
-use Rattle.writer.specs.Add.{decide, hasData, addAnswer, beginSpec, addSpec}
-
--- What a call gives back is its number.
-answer-is : (ms : List ℕ) (n : ℕ) (old : List ℕ) (len : ℕ) (new : List ℕ) → OneOf ms n → OneOf ms (decide n old len new .answer)
-answer-is ms zero old len new h = h
-answer-is ms (suc n) old len new h = h
+use Rattle.writer.specs.Message.{bytesOf, writable}
+use Rattle.writer.specs.Add.{hasData, addAnswer, beginSpec, addSpec}
 
 pub begin-one : (room : List ℕ) (to : ℕ) → OneOf (0 ∷ 11 ∷ []) (beginSpec room to .answer)
 unfolding beginSpec among
 begin-one room to =
     let ms : List ℕ = 0 ∷ 11 ∷ [] in
-    answer-is ms (pick (ltb (length room) maxSize) 11 0) room minSize (placed room 0 (bytes32 to)) (pick-one ms (ltb (length room) maxSize) 11 0 refl refl)
+    unless-one ms (pick (ltb (length room) maxSize) 11 0) room _ (pick-one ms (ltb (length room) maxSize) 11 0 refl refl) refl
 
 abbrev addNumbers : List ℕ
 addNumbers = 0 ∷ 1 ∷ 2 ∷ 3 ∷ 11 ∷ []
@@ -51,6 +45,6 @@ add-answer-one room len m source =
     (pick-one addNumbers (hasData (layoutOf so-far .layout)) 2 0 refl refl)))))
 
 pub add-one : (room : List ℕ) (len : ℕ) (m : Message) (source : List ℕ) → OneOf (0 ∷ 1 ∷ 2 ∷ 3 ∷ 11 ∷ []) (addSpec room len m source .answer)
-unfolding addSpec
+unfolding addSpec among
 add-one room len m source =
-    answer-is addNumbers (addAnswer room len m source) room (len + sizeOf m) (placed room len (bytesOf source m)) (add-answer-one room len m source)
+    unless-one addNumbers (addAnswer room len m source) room _ (add-answer-one room len m source) refl

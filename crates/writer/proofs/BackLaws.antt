@@ -12,17 +12,18 @@ use Rattle.tree.proofs.Promise.{covers}
 use Rattle.wire.specs.Bytes.{begins}
 use Rattle.wire.specs.Range.{firstOf, lastOf}
 use Rattle.wire.specs.Options.{headSize, bodySize, optionsFrom, optionsSize, fixedHead, fixedTail, isFixed}
-use Rattle.wire.specs.Read.{cursor, refusing, kindOf, stepOf}
+use Rattle.wire.specs.Read.{cursor, kindOf, stepOf}
 use Rattle.wire.specs.declared.message.Options.{Options}
 use Rattle.wire.specs.declared.message.Options.the-variants.{Fixed, EndOnly, Other}
 use Rattle.wire.specs.declared.message.Message.{Message}
 use Rattle.wire.specs.declared.message.Message.the-variants.{Handshake, Data, Ack, Have, Integrity, Request, Cancel, Choke, Unchoke}
 use Rattle.wire.specs.declared.message.Step.the-variants.{Read}
-use Rattle.wire.proofs.ViewLaws.{handshake-is, data-is, ack-is, have-is, integrity-is, request-is, cancel-is, choke-is, unchoke-is}
+use Rattle.wire.proofs.ViewLaws.{refusing, handshake-is, data-is, ack-is, have-is, integrity-is, request-is, cancel-is, choke-is, unchoke-is}
 use Rattle.wire.proofs.BehindLaws.{Valued, option-size-is, options-on, options-end}
 use Rattle.writer.specs.Bytes.{bytes32, bytes64, rangeBytes}
-use Rattle.writer.specs.Message.{within, optionBytes, bytesOf, writable, writableOptions, optionSpan, sizeOf}
-use Rattle.writer.specs.Lists.{Fits}
+use Rattle.writer.specs.Message.{within, optionBytes, bytesOf, writable, writableOptions}
+use Rattle.writer.specs.Steps.{optionSpan, sizeOf}
+use Rattle.writer.specs.Lists.{HasWidths}
 use Rattle.writer.proofs.PlaceLaws.{size64, sizeRange}
 use Rattle.writer.proofs.PutLaws.{within-length}
 use Rattle.writer.proofs.SizeLaws.{lies-in}
@@ -175,7 +176,7 @@ Behind (Cancel f l) r = Unit {0}
 Behind Choke r = Unit {0}
 Behind Unchoke r = Unit {0}
 
-pub message-back : (s : List ℕ) (at : ℕ) (m : Message) → Fits m → writable (length s) m ≡ true → (r : List ℕ) → Behind m r
+pub message-back : (s : List ℕ) (at : ℕ) (m : Message) → HasWidths m → writable (length s) m ≡ true → (r : List ℕ) → Behind m r
     → stepOf at (bytesOf s m ++ r) ≡ refusing (not (allowed m)) (Read (moved at m) (cursor (at + sizeOf m)))
 unfolding bytesOf sizeOf writable
 message-back s at (Handshake a o) h w r n = options-back s at a h o w r

@@ -1,7 +1,7 @@
 -- A datagram put together from messages, without adding them one by one: it passes the checks and reads back. Assumes nothing.
 use Prim.Native.Nat.{ℕ, suc, _+_, _<_, _≤_, _^_}
 use native.Mathlib.Omega.{arith}
-use mathlib.Core.Path.{_≡_, refl, sym, ap, _∙_}
+use mathlib.Core.Path.{_≡_, sym, ap, _∙_}
 use mathlib.Core.List.{List, [], _∷_, _++_, append-assoc, append-nil}
 use mathlib.Core.Bool.{true}
 use lib.ListN.{length, length-append}
@@ -15,9 +15,9 @@ use Rattle.wire.specs.declared.message.Step.the-variants.{Read}
 use Rattle.wire.specs.declared.layout.Layout.the-variants.{Messages}
 use Rattle.wire.proofs.LocalLaws.{be32-local}
 use Rattle.writer.specs.Bytes.{bytes32}
-use Rattle.writer.specs.Message.{bytesOf, writable, sizeOf}
-use Rattle.writer.specs.Lists.{Item, encode, Fits, AllFit, Reads}
-use Rattle.writer.specs.Steps.{faultBehind}
+use Rattle.writer.specs.Message.{bytesOf, writable}
+use Rattle.writer.specs.Lists.{Item, encode, HasWidths, AllHaveWidths, Reads}
+use Rattle.writer.specs.Steps.{sizeOf, faultBehind}
 use Rattle.writer.proofs.PlaceLaws.{size32}
 use Rattle.writer.proofs.SizeLaws.{bytes-length}
 use Rattle.writer.proofs.BackLaws.{allowed, moved, Behind}
@@ -63,7 +63,7 @@ goes-behind Choke r g = tt
 goes-behind Unchoke r g = tt
 
 -- ---- one message m behind p, whose entries are es
-module _ (p s es : List ℕ) (m : Message) (f : Fits m) (can : writable (length s) m ≡ true) (low : minSize ≤ length p) (fits : length p + sizeOf m ≤ maxSize)
+module _ (p s es : List ℕ) (m : Message) (f : HasWidths m) (can : writable (length s) m ≡ true) (low : minSize ≤ length p) (fits : length p + sizeOf m ≤ maxSize)
     (so-far : layoutOf p ≡ checkedOf (Messages (length es)) es) (none : faultBehind es (be32 p 0) (length p) m ≡ 0) where
   on : (k : ℕ) → length (bytesOf s m) < k → layoutOf (p ++ bytesOf s m) ≡ layoutFrom k (p ++ bytesOf s m) es (length p)
   on = rw so-far at (joined p s m can low fits)
@@ -85,7 +85,7 @@ module _ (p s es : List ℕ) (m : Message) (f : Fits m) (can : writable (length 
       ∙ rest-is p s m can low fits f es (layoutOf (p ++ b)) on (noted es (moved (length p) m))
 
 -- ---- several messages behind p
-pub joins : (is : List Item) (p es : List ℕ) (to at : ℕ) → be32 p 0 ≡ to → length p ≡ at → AllFit is → minSize ≤ at → at + length (encode is) ≤ maxSize
+pub joins : (is : List Item) (p es : List ℕ) (to at : ℕ) → be32 p 0 ≡ to → length p ≡ at → AllHaveWidths is → minSize ≤ at → at + length (encode is) ≤ maxSize
     → layoutOf p ≡ checkedOf (Messages (length es)) es → Joining to at es is → layoutOf (p ++ encode is) ≡ checkedOf (Messages (length (notedAll at es is))) (notedAll at es is)
 joins [] p es to at d l f low short so-far j = rw (append-nil p) so-far
 joins (i ∷ is) p es to at d l f low short so-far j =
@@ -99,7 +99,7 @@ joins (i ∷ is) p es to at d l f low short so-far j =
 
 -- ---- they read back
 
-all-fit : (is : List Item) (i : Item) → AllFit is → Fits (i .message) → AllFit (is ++ (i ∷ []))
+all-fit : (is : List Item) (i : Item) → AllHaveWidths is → HasWidths (i .message) → AllHaveWidths (is ++ (i ∷ []))
 all-fit [] i f g = (g, tt)
 all-fit (x ∷ is) i f g = (f .0, all-fit is i (f .1) g)
 
@@ -114,7 +114,7 @@ encode-last (x ∷ is) i =
     ap (λ (r : List ℕ). bytesOf (x .source) (x .message) ++ r) (encode-last is i) ∙ sym (append-assoc (bytesOf (x .source) (x .message)) (encode is) (bytesOf (i .source) (i .message)))
 
 -- Messages behind a destination, and one more, which may end the datagram.
-pub composed-reads : (to : ℕ) (is : List Item) (i : Item) → to < 2 ^ 32 → AllFit is → Fits (i .message) → Joining to minSize [] is
+pub composed-reads : (to : ℕ) (is : List Item) (i : Item) → to < 2 ^ 32 → AllHaveWidths is → HasWidths (i .message) → Joining to minSize [] is
     → writable (length (i .source)) (i .message) ≡ true → faultBehind (notedAll minSize [] is) to (minSize + length (encode is)) (i .message) ≡ 0
     → minSize + length (encode is) + sizeOf (i .message) ≤ maxSize → Reads (bytes32 to ++ encode (is ++ (i ∷ []))) to (is ++ (i ∷ []))
 composed-reads to is i h f g j w none short =

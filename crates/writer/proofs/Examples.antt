@@ -16,7 +16,8 @@ use Rattle.wire.specs.declared.message.Message.the-variants.{Handshake, Data, A
 use Rattle.wire.specs.declared.message.Step.the-variants.{Read, Refused}
 use Rattle.wire.specs.declared.layout.Layout.the-variants.{HandshakeAlone}
 use Rattle.writer.specs.Bytes.{bytes32, bytes64, rangeBytes}
-use Rattle.writer.specs.Message.{optionBytes, bytesOf, writable, optionSpan, sizeOf}
+use Rattle.writer.specs.Message.{optionBytes, bytesOf, writable}
+use Rattle.writer.specs.Steps.{optionSpan, sizeOf}
 use Rattle.writer.specs.Add.{addAnswer}
 use Rattle.writer.proofs.BackLaws.{moved}
 

@@ -1,49 +1,54 @@
 -- What the crates above know of this one: of its definitions the names passed on here, the round trips, that a refused call
 -- changes nothing, and which numbers a call can give. Assumes nothing.
-use mathlib.Core.Path.{_≡_, refl}
-use mathlib.Core.Logic.{_≢_}
+use mathlib.Core.Path.{_≡_}
 use mathlib.Core.List.{List, [], _∷_, _++_}
 use mathlib.Core.Bool.{true}
-use Prim.Native.Nat.{ℕ, zero, suc, _+_, _<_, _≤_, _^_}
+use Prim.Native.Nat.{ℕ, _+_, _<_, _≤_, _^_}
+use native.Mathlib.Omega.{arith}
 use lib.ListN.{length}
 use lib.Dec.{ltb}
 use Rattle.base.specs.Pick.{pick}
+use Rattle.base.specs.Out.{outOf, Unaltered}
 use Rattle.base.specs.Among.{OneOf}
+use Rattle.base.proofs.OutLaws.{done-unaltered, unless-unaltered}
 use Rattle.wire.proofs.Promise.{be32, placed, minSize, maxSize, numberOf, layoutOf}
 use Rattle.wire.specs.declared.message.Message.{Message}
 use Rattle.writer.proofs.SizeLaws.{bytes-length}
+use Rattle.writer.proofs.ReadBackLaws.{read-over}
 use Rattle.writer.proofs.RoundTrips.{written-reads, read-writes}
 use Rattle.writer.proofs.AnswerNumberLaws as numbers
 use Rattle.writer.proofs.ComposeLaws as compose
 pub use Rattle.writer.specs.Bytes.{bytes32, bytes64}
 pub use Rattle.writer.specs.Message.{within, bytesOf}
-unfoldable pub use Rattle.writer.specs.Message.{writable, writableOptions, sizeOf, optionSpan}
-pub use Rattle.writer.specs.Add.{Written, writtenOf, decide, addAnswer, addSpec}
+unfoldable pub use Rattle.writer.specs.Message.{writable, writableOptions}
+pub use Rattle.writer.specs.Add.{addAnswer, addSpec}
 unfoldable pub use Rattle.writer.specs.Add.{beginSpec}
-pub use Rattle.writer.specs.Lists.{Item, itemOf, encode, Fits, AllFit, AreBytes, atZeroOptions, atZero, contentsOf, onStep, readAll, Reads, Rewritable, writeAll, datagramOf}
+pub use Rattle.writer.specs.Lists.{Item, itemOf, encode, HasWidths, AllHaveWidths, AreBytes, contentOf, contentsOf, onStep, readAll, Reads, Rewritable, writeAll, datagramOf}
 unfoldable pub use Rattle.writer.specs.Lists.{readFrom}
-unfoldable pub use Rattle.writer.specs.Steps.{faultBehind}
+unfoldable pub use Rattle.writer.specs.Steps.{sizeOf, optionSpan, faultBehind}
 pub use Rattle.writer.proofs.PlaceLaws.{size32}
 pub use Rattle.writer.proofs.NumberLaws.{be32-fits}
+pub use Rattle.writer.proofs.RoundTrips.{Plain, rewritable}
 pub use Rattle.writer.proofs.ComposeLaws.{Joining, notedAll}
 
 -- A message that can be written has the size that the table says.
 pub message-size : (s : List ℕ) (m : Message) → writable (length s) m ≡ true → length (bytesOf s m) ≡ sizeOf m
 message-size = bytes-length
 
+-- A keepalive has no message.
+pub read-none : (s : List ℕ) → length s ≡ minSize → readAll s ≡ []
+read-none s h = read-over (length s) s minSize (omega arith)
+
 -- ---- a refused call gives length 0 and leaves the room
-refused : (n : ℕ) (old : List ℕ) (len : ℕ) (new : List ℕ) → decide n old len new .answer ≢ 0 → (decide n old len new .len ≡ 0) × (decide n old len new .room ≡ old)
-refused zero old len new h = absurd (h refl)
-refused (suc n) old len new h = (refl, refl)
 
-pub begin-refused-same : (room : List ℕ) (to : ℕ) → beginSpec room to .answer ≢ 0 → (beginSpec room to .len ≡ 0) × (beginSpec room to .room ≡ room)
+pub begin-refused-same : (room : List ℕ) (to : ℕ) → Unaltered room (beginSpec room to)
 unfolding beginSpec
-begin-refused-same room to = refused (pick (ltb (length room) maxSize) 11 0) room minSize (placed room 0 (bytes32 to))
+begin-refused-same room to = unless-unaltered (pick (ltb (length room) maxSize) 11 0) room _ (done-unaltered room _ minSize)
 
-pub add-refused-same : (room : List ℕ) (len : ℕ) (m : Message) (source : List ℕ) → addSpec room len m source .answer ≢ 0
-    → (addSpec room len m source .len ≡ 0) × (addSpec room len m source .room ≡ room)
+pub add-refused-same : (room : List ℕ) (len : ℕ) (m : Message) (source : List ℕ) → Unaltered room (addSpec room len m source)
 unfolding addSpec
-add-refused-same room len m source = refused (addAnswer room len m source) room (len + sizeOf m) (placed room len (bytesOf source m))
+add-refused-same room len m source =
+    unless-unaltered (addAnswer room len m source) room _ (done-unaltered room _ (len + length (bytesOf source m)))
 
 -- ---- the numbers that a call can give
 
@@ -56,17 +61,17 @@ add-numbered = numbers.add-one
 -- ---- the round trips
 
 -- Every list of messages that begin and add accepted, whose numbers have their widths, reads back as exactly those messages.
-pub round-trip-written : (room : List ℕ) (to : ℕ) (is : List Item) → to < 2 ^ 32 → AllFit is → writeAll room to is .answer ≡ 0 → Reads (datagramOf (writeAll room to is)) to is
+pub round-trip-written : (room : List ℕ) (to : ℕ) (is : List Item) → to < 2 ^ 32 → AllHaveWidths is → writeAll room to is .answer ≡ 0 → Reads (datagramOf (writeAll room to is)) to is
 round-trip-written = written-reads
 
 -- Every datagram that passes the checks, with the fixed options or End alone where it is a HANDSHAKE, is byte for byte what
 -- begin and add give for the messages read from it.
 pub round-trip-read : (room s : List ℕ) → AreBytes s → maxSize ≤ length room → numberOf (layoutOf s .layout) ≡ 0 → Rewritable (layoutOf s .layout)
-    → writeAll room (be32 s 0) (readAll s) ≡ writtenOf 0 (length s) (placed room 0 s)
+    → writeAll room (be32 s 0) (readAll s) ≡ outOf 0 (length s) (placed room 0 s)
 round-trip-read = read-writes
 
 -- A datagram put together without adding reads back too: messages that join it, and one more, which may end it.
-pub composed-reads : (to : ℕ) (is : List Item) (i : Item) → to < 2 ^ 32 → AllFit is → Fits (i .message) → Joining to minSize [] is
+pub composed-reads : (to : ℕ) (is : List Item) (i : Item) → to < 2 ^ 32 → AllHaveWidths is → HasWidths (i .message) → Joining to minSize [] is
     → writable (length (i .source)) (i .message) ≡ true → faultBehind (notedAll minSize [] is) to (minSize + length (encode is)) (i .message) ≡ 0
     → minSize + length (encode is) + sizeOf (i .message) ≤ maxSize → Reads (bytes32 to ++ encode (is ++ (i ∷ []))) to (is ++ (i ∷ []))
 composed-reads = compose.composed-reads

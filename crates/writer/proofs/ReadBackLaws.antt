@@ -5,8 +5,10 @@ use native.Mathlib.Nat.{add-zero}
 use mathlib.Core.Path.{_≡_, refl, sym, ap, ap₂, _∙_}
 use mathlib.Core.List.{List, [], _∷_, _++_, append-assoc, append-nil}
 use mathlib.Core.Bool.{true, false, true≢false}
+use borrow.Author.Tests.{ne-eqb}
 use lib.ListN.{length, take, drop, length-append, length-drop}
 use lib.Seq.{drop-at, take-at, drop-append-seam, drop-append-add, length-take-le}
+use Rattle.base.specs.Out.{Out, outOf}
 use Rattle.wire.specs.Bytes.{placed}
 use Rattle.wire.specs.Options.{fixedHead, fixedTail}
 use Rattle.wire.specs.Read.{cursor, stepOf, stepAt}
@@ -21,9 +23,10 @@ use Rattle.wire.specs.declared.layout.Layout.the-variants.{Messages}
 use Rattle.wire.proofs.PlacedLaws.{placed-none, placed-then, placed-front}
 use Rattle.wire.proofs.ViewLaws.{end-is}
 use Rattle.writer.specs.Bytes.{bytes32, bytes64, rangeBytes}
-use Rattle.writer.specs.Message.{within, optionBytes, bytesOf, writable, writableOptions, sizeOf}
-use Rattle.writer.specs.Add.{Written, writtenOf, hasData, addAnswer, addSpec}
-use Rattle.writer.specs.Lists.{Item, itemOf, encode, Fits, AllFit, contentOf, contentsOf, onStep, readFrom, andThen, addAll}
+use Rattle.writer.specs.Message.{within, optionBytes, bytesOf, writable, writableOptions}
+use Rattle.writer.specs.Steps.{sizeOf}
+use Rattle.writer.specs.Add.{hasData, addAnswer, addSpec}
+use Rattle.writer.specs.Lists.{Item, itemOf, encode, HasWidths, AllHaveWidths, contentOf, contentsOf, onStep, readFrom, andThen, addAll}
 use Rattle.writer.proofs.PlaceLaws.{size64, sizeRange}
 use Rattle.writer.proofs.PutLaws.{within-length}
 use Rattle.writer.proofs.SizeLaws.{lies-in, bytes-length}
@@ -40,7 +43,7 @@ found p a w r i n ha hw =
 
 module _ (p s r : List ℕ) where
   same-options : (a : ℕ) (o : Options) → writable (length s) (Handshake a o) ≡ true
-      → contentOf (itemOf (p ++ (bytesOf s (Handshake a o) ++ r)) (moved (length p) (Handshake a o))) ≡ contentOf (itemOf s (Handshake a o))
+      → contentOf (p ++ (bytesOf s (Handshake a o) ++ r)) (moved (length p) (Handshake a o)) ≡ contentOf s (Handshake a o)
   unfolding bytesOf optionBytes writable writableOptions bytes32
   same-options a (Fixed b) w =
       let v = within s b 32 in
@@ -52,7 +55,7 @@ module _ (p s r : List ℕ) where
   same-options a EndOnly w = refl
   same-options a Other w = refl
 
-  pub same-content : (m : Message) → writable (length s) m ≡ true → contentOf (itemOf (p ++ (bytesOf s m ++ r)) (moved (length p) m)) ≡ contentOf (itemOf s m)
+  pub same-content : (m : Message) → writable (length s) m ≡ true → contentOf (p ++ (bytesOf s m ++ r)) (moved (length p) m) ≡ contentOf s m
   unfolding bytesOf writable
   same-content (Handshake a o) w = same-options a o w
   same-content (Data f l x b n) w =
@@ -85,7 +88,7 @@ read-over zero s at h = refl
 read-over (suc n) s at h = read-suc n s at End (end-is at (drop at s) (omega (arith, length-drop at s)))
 
 -- They read back, behind any bytes p.
-pub list-back : (is : List Item) → AllFit is → Chain is → (p : List ℕ) (n : ℕ) → length (p ++ encode is) < length p + n → contentsOf (readFrom n (p ++ encode is) (length p)) ≡ contentsOf is
+pub list-back : (is : List Item) → AllHaveWidths is → Chain is → (p : List ℕ) (n : ℕ) → length (p ++ encode is) < length p + n → contentsOf (readFrom n (p ++ encode is) (length p)) ≡ contentsOf is
 list-back [] f c p n h = ap contentsOf (read-over n (p ++ []) (length p) (omega (arith, length-append p [])))
 list-back (i ∷ is) f c p zero h = absurd (omega (arith, length-append p (encode (i ∷ is))))
 list-back (i ∷ is) f c p (suc n) h =
@@ -103,28 +106,32 @@ list-back (i ∷ is) f c p (suc n) h =
 
 -- ---- messages that were accepted one after another
 
+-- nothing follows a refusal
+stays : (r : Out (List ℕ)) (rest : List ℕ → ℕ → Out (List ℕ)) (w : ℕ) → r .answer ≡ suc w → andThen r rest ≡ r
+stays r rest w e = rw (ne-eqb (r .answer) 0 (λ z. omega (arith, e, z)))
+
 -- one accepted message, and what is added behind it
-one-more : (room : List ℕ) (len : ℕ) (m : Message) (source : List ℕ) (w : ℕ) → addAnswer room len m source ≡ w → (rest : List ℕ → ℕ → Written)
+one-more : (room : List ℕ) (len : ℕ) (m : Message) (source : List ℕ) (w : ℕ) → addAnswer room len m source ≡ w → (rest : List ℕ → ℕ → Out (List ℕ))
     → andThen (addSpec room len m source) rest .answer ≡ 0
-    → (addAnswer room len m source ≡ 0) × (andThen (addSpec room len m source) rest ≡ rest (placed room len (bytesOf source m)) (len + sizeOf m))
+    → (addAnswer room len m source ≡ 0) × (andThen (addSpec room len m source) rest ≡ rest (placed room len (bytesOf source m)) (len + length (bytesOf source m)))
 unfolding addSpec
 one-more room len m source zero e rest z = (e, rw e)
 one-more room len m source (suc w) e rest z =
-    absurd (omega (arith, ap (λ (r : Written). r .answer) (sym (refused e)), z))
+    absurd (omega (arith, ap (λ (r : Out (List ℕ)). r .answer) (sym (refused e)), z))
   where
-    refused : addAnswer room len m source ≡ suc w → andThen (addSpec room len m source) rest ≡ writtenOf (suc w) 0 room
-    refused q = rw q
+    refused : addAnswer room len m source ≡ suc w → andThen (addSpec room len m source) rest ≡ outOf (suc w) 0 room
+    refused q = stays (addSpec room len m source) rest w (rw q) ∙ rw q
 
 -- DATA ends a datagram: nothing is accepted behind it
-data-last : (p s : List ℕ) (c d x b n : ℕ) → Fits (Data c d x b n) → Accepted p (Data c d x b n) s → (k : ℕ) → layoutOf (p ++ bytesOf s (Data c d x b n)) .layout ≡ Messages k → ⊥
+data-last : (p s : List ℕ) (c d x b n : ℕ) → HasWidths (Data c d x b n) → Accepted p (Data c d x b n) s → (k : ℕ) → layoutOf (p ++ bytesOf s (Data c d x b n)) .layout ≡ Messages k → ⊥
 data-last p s c d x b n f a k e =
     let m = Data c d x b n in
     let on = rw (a .plain) at (joined p s m (a .can) (a .low) (a .fits)) in
     let q = rw (a .good) at (behind-step p s m (a .can) (a .low) (a .fits) f (layoutOf p .entries) (layoutOf (p ++ bytesOf s m)) on) in
     true≢false (sym (ap (λ (y : Checked). hasData (y .layout)) q) ∙ ap hasData e)
 
-accepted-behind : (p s : List ℕ) (m : Message) → Fits m → Accepted p m s → (room : List ℕ) (len : ℕ) → take len room ≡ p ++ bytesOf s m
-    → (is : List Item) → AllFit is → addAll room len is .answer ≡ 0 → Behind m (encode is)
+accepted-behind : (p s : List ℕ) (m : Message) → HasWidths m → Accepted p m s → (room : List ℕ) (len : ℕ) → take len room ≡ p ++ bytesOf s m
+    → (is : List Item) → AllHaveWidths is → addAll room len is .answer ≡ 0 → Behind m (encode is)
 accepted-behind p s (Handshake a o) f w room len e is g z = tt
 accepted-behind p s (Ack a b d) f w room len e is g z = tt
 accepted-behind p s (Have a b) f w room len e is g z = tt
@@ -140,10 +147,10 @@ accepted-behind p s (Data c d x b n) f w room len e (i ∷ is) g z =
     absurd (data-last p s c d x b n f w (a .entries) (ap (λ (y : List ℕ). layoutOf y .layout) (sym e) ∙ a .plain))
 
 -- What was accepted stands behind the datagram so far, and the rest of the room is as it was.
-pub added : (is : List Item) (room : List ℕ) (len : ℕ) → AllFit is → addAll room len is .answer ≡ 0
-    → (addAll room len is ≡ writtenOf 0 (len + length (encode is)) (placed room len (encode is))) × Chain is
+pub added : (is : List Item) (room : List ℕ) (len : ℕ) → AllHaveWidths is → addAll room len is .answer ≡ 0
+    → (addAll room len is ≡ outOf 0 (len + length (encode is)) (placed room len (encode is))) × Chain is
     × (numberOf (layoutOf (take len room) .layout) ≡ 0 → numberOf (layoutOf (take len room ++ encode is) .layout) ≡ 0)
-added [] room len f z = (ap₂ (writtenOf 0) (sym (add-zero len)) (placed-none room len), tt, λ e. rw (append-nil (take len room)) e)
+added [] room len f z = (ap₂ (outOf 0) (sym (add-zero len)) (placed-none room len), tt, λ e. rw (append-nil (take len room)) e)
 added (i ∷ is) room len f z =
     let s = i .source in let m = i .message in let b = bytesOf s m in
     let o = one-more room len m s (addAnswer room len m s) refl (λ room′ len′. addAll room′ len′ is) z in
@@ -153,12 +160,12 @@ added (i ∷ is) room len f z =
     let p = take len room in
     let l : length p ≡ len = length-take-le len room (omega (arith, t .short, t .big)) in
     let new = placed room len b in
-    let y : addAll new (len + sizeOf m) is .answer ≡ 0 = sym (ap (λ (k : Written). k .answer) (o .1)) ∙ z in
-    let r = added is new (len + sizeOf m) (f .1) y in
-    let front : take (len + sizeOf m) new ≡ p ++ b = rw (← n) (placed-front room len b (omega (arith, n, a .fits, l, t .big))) in
-    let join : placed new (len + sizeOf m) (encode is) ≡ placed room len (b ++ encode is) = placed-then room len b (encode is) (len + sizeOf m) (ap (λ (k : ℕ). len + k) n) refl refl in
-    let size : len + sizeOf m + length (encode is) ≡ len + length (b ++ encode is) = omega (arith, n, length-append b (encode is)) in (
-      o .1 ∙ r .0 ∙ ap₂ (writtenOf 0) size join,
-      (a .can, a .good, accepted-behind p s m (f .0) a new (len + sizeOf m) front is (f .1) y, r .1),
+    let y : addAll new (len + length b) is .answer ≡ 0 = sym (ap (λ (k : Out (List ℕ)). k .answer) (o .1)) ∙ z in
+    let r = added is new (len + length b) (f .1) y in
+    let front : take (len + length b) new ≡ p ++ b = placed-front room len b (omega (arith, n, a .fits, l, t .big)) in
+    let join : placed new (len + length b) (encode is) ≡ placed room len (b ++ encode is) = placed-then room len b (encode is) (len + length b) refl refl refl in
+    let size : len + length b + length (encode is) ≡ len + length (b ++ encode is) = omega (arith, length-append b (encode is)) in (
+      o .1 ∙ r .0 ∙ ap₂ (outOf 0) size join,
+      (a .can, a .good, accepted-behind p s m (f .0) a new (len + length b) front is (f .1) y, r .1),
       λ e. rw (← append-assoc p b (encode is)) (rw (← front) (r .2 (rw front (t .longer)))),
     )

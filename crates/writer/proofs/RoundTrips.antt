@@ -2,23 +2,26 @@
 use Prim.Native.Nat.{ℕ, _+_, _<_, _≤_, _^_}
 use native.Mathlib.Omega.{arith}
 use native.Mathlib.Nat.{zero-add}
-use mathlib.Core.Path.{_≡_, refl, sym, ap, _∙_}
+use mathlib.Core.Path.{_≡_, refl, sym, ap, subst, _∙_}
 use mathlib.Core.List.{List, [], _++_}
 use mathlib.Core.Bool.{Bool, true, false}
 use lib.ListN.{length, take, drop, length-append}
 use lib.Seq.{take-at, length-take-le}
 use lib.Dec.{ltb}
 use borrow.Author.Tests.{le-ltb, ltb-false}
+use Rattle.base.specs.Out.{outOf}
 use Rattle.wire.specs.Bytes.{be32, placed}
 use Rattle.wire.specs.Limits.{minSize, maxSize}
 use Rattle.wire.specs.Layout.{Checked, checkedOf, numberOf, layoutOf}
-use Rattle.wire.specs.declared.layout.Layout.the-variants.{Messages}
+use Rattle.wire.specs.declared.message.Options.the-variants.{Fixed, EndOnly, Other}
+use Rattle.wire.specs.declared.layout.Layout.{Layout}
+use Rattle.wire.specs.declared.layout.Layout.the-variants.{Fault, HandshakeAlone, Messages, MessagesAndData}
 use Rattle.wire.proofs.PlacedLaws.{placed-then, placed-front, placed-length}
 use Rattle.wire.proofs.ExtendLaws.{layout-is, over}
 use Rattle.wire.proofs.FaultLaws.{passed}
 use Rattle.writer.specs.Bytes.{bytes32}
-use Rattle.writer.specs.Add.{writtenOf, beginSpec}
-use Rattle.writer.specs.Lists.{Item, encode, AllFit, AreBytes, readAll, Reads, Rewritable, addAll, writeAll, datagramOf}
+use Rattle.writer.specs.Add.{beginSpec}
+use Rattle.writer.specs.Lists.{Item, encode, AllHaveWidths, AreBytes, readAll, Reads, Rewritable, addAll, writeAll, datagramOf}
 use Rattle.writer.proofs.PlaceLaws.{size32}
 use Rattle.writer.proofs.NumberLaws.{joined32, split-word}
 use Rattle.writer.proofs.ReadBackLaws.{added, list-back}
@@ -26,7 +29,7 @@ use Rattle.writer.proofs.WriteBackLaws.{Here, write-back}
 
 -- ---- a datagram begun
 module _ (room : List ℕ) (to : ℕ) where
-  begun : maxSize ≤ length room → beginSpec room to ≡ writtenOf 0 minSize (placed room 0 (bytes32 to))
+  begun : maxSize ≤ length room → beginSpec room to ≡ outOf 0 minSize (placed room 0 (bytes32 to))
   unfolding beginSpec
   begun big = rw (le-ltb (length room) maxSize big)
 
@@ -50,7 +53,7 @@ unfolding bytes32
 destination to r h = joined32 to h
 
 -- Every list of messages that begin and add accepted, whose numbers have their widths, reads back as exactly those messages.
-pub written-reads : (room : List ℕ) (to : ℕ) (is : List Item) → to < 2 ^ 32 → AllFit is → writeAll room to is .answer ≡ 0 → Reads (datagramOf (writeAll room to is)) to is
+pub written-reads : (room : List ℕ) (to : ℕ) (is : List Item) → to < 2 ^ 32 → AllHaveWidths is → writeAll room to is .answer ≡ 0 → Reads (datagramOf (writeAll room to is)) to is
 written-reads room to is h f z =
     let big = big-room room to is z in
     let start = placed room 0 (bytes32 to) in
@@ -70,10 +73,22 @@ written-reads room to is h f z =
       passes = rw d (rw first at good);
     }
 
+-- Layouts of datagrams that can be written again, case by case.
+abbrev pub Plain : Layout → Type 0
+Plain (Fault n) = ⊥
+Plain (HandshakeAlone a (Fixed r)) = Unit {0}
+Plain (HandshakeAlone a EndOnly) = Unit {0}
+Plain (HandshakeAlone a Other) = ⊥
+Plain (Messages k) = Unit {0}
+Plain (MessagesAndData c x b n k) = Unit {0}
+
+pub rewritable : (l : Layout) → Plain l → Rewritable l
+rewritable l p source e = subst Plain e p
+
 -- Every datagram that passes the checks, with the fixed options or End alone where it is a HANDSHAKE, is byte for byte
 -- what begin and add give for the messages read from it.
 pub read-writes : (room s : List ℕ) → AreBytes s → maxSize ≤ length room → numberOf (layoutOf s .layout) ≡ 0 → Rewritable (layoutOf s .layout)
-    → writeAll room (be32 s 0) (readAll s) ≡ writtenOf 0 (length s) (placed room 0 s)
+    → writeAll room (be32 s 0) (readAll s) ≡ outOf 0 (length s) (placed room 0 s)
 read-writes room s small big z r =
     let to = be32 s 0 in
     let p = passed s z in
@@ -92,4 +107,4 @@ read-writes room s small big z r =
     } in
     rw (begun room to big)
     (write-back (length s) s [] start minSize small here (omega arith) (rw l at z) (rw l at r)
-    ∙ ap (writtenOf 0 (length s)) (placed-then room 0 (bytes32 to) (drop minSize s) minSize (omega (arith, size32 to)) refl refl ∙ ap (placed room 0) cut))
+    ∙ ap (outOf 0 (length s)) (placed-then room 0 (bytes32 to) (drop minSize s) minSize (omega (arith, size32 to)) refl refl ∙ ap (placed room 0) cut))

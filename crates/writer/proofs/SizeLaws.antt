@@ -17,7 +17,8 @@ use Rattle.wire.specs.declared.message.Message.{Message}
 use Rattle.wire.specs.declared.message.Message.the-variants.{Handshake, Data, Ack, Have, Integrity, Request, Cancel, Choke, Unchoke}
 use Rattle.wire.proofs.message.Message as message
 use Rattle.writer.specs.Bytes.{bytes32, bytes64, rangeBytes}
-use Rattle.writer.specs.Message.{within, optionBytes, bytesOf, inBounds, writable, writableOptions, sizeOf, optionSpan}
+use Rattle.writer.specs.Message.{within, optionBytes, bytesOf, inBounds, writable, writableOptions}
+use Rattle.writer.specs.Steps.{sizeOf, optionSpan}
 use Rattle.writer.proofs.PlaceLaws.{size32, size64, sizeRange}
 use Rattle.writer.proofs.PutLaws.{within-length}
 

@@ -24,8 +24,9 @@ use Rattle.wire.specs.declared.message.Step.the-variants.{Read, End, Refused}
 use Rattle.wire.proofs.ViewLaws.{View, the-end, refused, a-handshake, a-data, an-ack, a-have, an-integrity, a-request, a-cancel, a-choke, an-unchoke}
 use Rattle.wire.proofs.BehindLaws.{only-end}
 use Rattle.writer.specs.Bytes.{bytes32, bytes64, rangeBytes}
-use Rattle.writer.specs.Message.{within, optionBytes, bytesOf, writable, writableOptions, inBounds, optionSpan, sizeOf}
-use Rattle.writer.specs.Lists.{Fits, AreBytes}
+use Rattle.writer.specs.Message.{within, optionBytes, bytesOf, writable, writableOptions, inBounds}
+use Rattle.writer.specs.Steps.{optionSpan, sizeOf}
+use Rattle.writer.specs.Lists.{HasWidths, AreBytes}
 use Rattle.writer.proofs.NumberLaws.{be32-fits, be64-fits, peel, split-word, split-long, split-range}
 use Rattle.writer.proofs.BackLaws.{allowed, movedOptions, moved, fixed-size-is}
 
@@ -45,7 +46,7 @@ pub record Split (s : List ℕ) (at : ℕ) (m : Message) (next : ℕ) : Type 0 w
   pub bytes : bytesOf s m ++ drop next s ≡ drop at s
   pub size : next ≡ at + sizeOf m
   pub can : writable (length s) m ≡ true
-  pub fits : Fits m
+  pub fits : HasWidths m
   pub good : allowed m ≡ true
   pub here : moved at m ≡ m
   pub inside : next ≤ length s

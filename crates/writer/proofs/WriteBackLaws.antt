@@ -9,6 +9,7 @@ use borrow.Author.Tests.{le-ltb, eqb-true}
 use lib.ListN.{length, take, drop, take-append-drop, length-append, length-drop}
 use lib.Seq.{take-at, length-take-le, drop-length, getD-drop}
 use Rattle.base.specs.Pick.{pick}
+use Rattle.base.specs.Out.{outOf}
 use Rattle.tree.proofs.Promise.{nodeOfRange}
 use Rattle.wire.specs.Bytes.{be32, placed}
 use Rattle.wire.specs.Limits.{minSize, maxSize}
@@ -21,10 +22,10 @@ use Rattle.wire.specs.declared.message.Message.the-variants.{Handshake, Data, A
 use Rattle.wire.specs.declared.message.Step.{Step}
 use Rattle.wire.specs.declared.message.Step.the-variants.{Read, End, Refused}
 use Rattle.wire.specs.declared.layout.Layout.the-variants.{Fault, HandshakeAlone, Messages}
-use Rattle.writer.specs.Message.{bytesOf, sizeOf}
-use Rattle.writer.specs.Add.{writtenOf, addAnswer, addSpec}
+use Rattle.writer.specs.Message.{bytesOf}
+use Rattle.writer.specs.Add.{addAnswer, addSpec}
 use Rattle.writer.specs.Lists.{Item, itemOf, AreBytes, onStep, readFrom, Rewritable, addAll}
-use Rattle.writer.specs.Steps.{faultBehind}
+use Rattle.writer.specs.Steps.{sizeOf, faultBehind}
 use Rattle.wire.proofs.PlacedLaws.{placed-none, placed-then, placed-front, placed-length}
 use Rattle.wire.proofs.LocalLaws.{be32-local}
 use Rattle.wire.proofs.ViewLaws.{View, the-end, refused, a-handshake, a-data, an-ack, a-have, an-integrity, a-request, a-cancel, a-choke, an-unchoke, view}
@@ -153,7 +154,7 @@ module _ (s es room : List ℕ) (at : ℕ) (h : Here s es room at) (m : Message)
   -- it is added
   pub step-added : (is : List Item) → addAll room at (itemOf s m ∷ is) ≡ addAll (placed room at (bytesOf s m)) next is
   unfolding addSpec
-  step-added is = rw (answer, x .size)
+  step-added is = rw (answer, x .size, bytes-length s m (x .can))
 
   new-length : length (placed room at (bytesOf s m)) ≡ length room
   new-length = placed-length room at (bytesOf s m) refl
@@ -188,18 +189,18 @@ module _ (s es room : List ℕ) (at : ℕ) (h : Here s es room at) (m : Message)
 known : (k a : ℕ) (o : Options) (next : Cursor) → numberOf (orFault k (HandshakeAlone a o)) ≡ 0 → Rewritable (orFault k (HandshakeAlone a o)) → Known (Read (Handshake a o) next)
 known zero a (Fixed r) next z w = tt
 known zero a EndOnly next z w = tt
-known zero a Other next z w = absurd w
+known zero a Other next z w = absurd (w a refl)
 known (suc k) a o next z w = absurd (omega (arith, z))
 
 -- one message, and those behind it
 module _ (n : ℕ) (s es room : List ℕ) (at : ℕ) (small : AreBytes s) (h : Here s es room at) (turns : length s < at + suc n)
     (more : (gs room′ : List ℕ) (next : ℕ) → Here s gs room′ next → length s < next + n → numberOf (layoutFrom n s gs next .layout) ≡ 0
-    → Rewritable (layoutFrom n s gs next .layout) → addAll room′ next (readFrom n s next) ≡ writtenOf 0 (length s) (placed room′ next (drop next s))) where
+    → Rewritable (layoutFrom n s gs next .layout) → addAll room′ next (readFrom n s next) ≡ outOf 0 (length s) (placed room′ next (drop next s))) where
   abbrev rest : List ℕ → ℕ → Checked
   rest gs next = layoutFrom n s gs next
 
   abbrev AllWritten : List Item → Type 0
-  AllWritten is = addAll room at is ≡ writtenOf 0 (length s) (placed room at (drop at s))
+  AllWritten is = addAll room at is ≡ outOf 0 (length s) (placed room at (drop at s))
 
   bytes-here : AreBytes (drop at s)
   bytes-here i = rw (getD-drop at s i 0) (small (at + i))
@@ -210,7 +211,7 @@ module _ (n : ℕ) (s es room : List ℕ) (at : ℕ) (small : AreBytes s) (h : H
       let none : drop next s ≡ [] = rw e (drop-length s) in
       step-added s es room at h m next x rest z (readFrom n s next)
       ∙ ap (addAll (placed room at (bytesOf s m)) next) (read-over n s next (omega (arith, e)))
-      ∙ ap₂ (writtenOf 0) e (placed-none (placed room at (bytesOf s m)) next ∙ ap (placed (placed room at (bytesOf s m)) next) (sym none) ∙ step-joined s es room at h m next x rest z)
+      ∙ ap₂ (outOf 0) e (placed-none (placed room at (bytesOf s m)) next ∙ ap (placed (placed room at (bytesOf s m)) next) (sym none) ∙ step-joined s es room at h m next x rest z)
 
   -- one that does not end the datagram
   goes : (m : Message) (next : ℕ) → Goes m → Split s at m next → numberOf (layoutStep s es at (Read m (cursor next)) rest .layout) ≡ 0
@@ -219,7 +220,7 @@ module _ (n : ℕ) (s es room : List ℕ) (at : ℕ) (small : AreBytes s) (h : H
       let e = goes-on s es at next rest m g z in
       step-added s es room at h m next x rest z (readFrom n s next)
       ∙ more (noted es m) (placed room at (bytesOf s m)) next (step-here s es room at h m next x rest z g) (omega (arith, turns, x .size, size-some m)) (rw e at z) (rw e at w)
-      ∙ ap (writtenOf 0 (length s)) (step-joined s es room at h m next x rest z)
+      ∙ ap (outOf 0 (length s)) (step-joined s es room at h m next x rest z)
 
   alone : (a : ℕ) (o : Options) (next : ℕ) → View at (drop at s) (Read (Handshake a o) (cursor next)) → numberOf (layoutStep s es at (Read (Handshake a o) (cursor next)) rest .layout) ≡ 0
       → Rewritable (layoutStep s es at (Read (Handshake a o) (cursor next)) rest .layout) → AllWritten (itemOf s (Handshake a o) ∷ readFrom n s next)
@@ -233,7 +234,7 @@ module _ (n : ℕ) (s es room : List ℕ) (at : ℕ) (small : AreBytes s) (h : H
       → AllWritten (onStep s st (λ next. readFrom n s next))
   step-back End (the-end l) z w =
       let e : at ≡ length s = omega (arith, h .inside, length-drop at s, l) in
-      ap₂ (writtenOf 0) e (placed-none room at ∙ ap (placed room at) (sym (rw e (drop-length s))))
+      ap₂ (outOf 0) e (placed-none room at ∙ ap (placed room at) (sym (rw e (drop-length s))))
   step-back Refused refused z w = absurd (omega (arith, z))
   step-back _ (a-handshake e l o) z w = alone _ _ _ (a-handshake e l o) z w
   step-back _ (a-data e l o) z w = ends _ _ (split s at bytes-here (h .inside) _ (a-data e l o) tt) (omega (arith, length-drop at s, h .inside)) z
@@ -247,7 +248,7 @@ module _ (n : ℕ) (s es room : List ℕ) (at : ℕ) (small : AreBytes s) (h : H
 
 pub write-back : (n : ℕ) (s es room : List ℕ) (at : ℕ) → AreBytes s → Here s es room at → length s < at + n
     → numberOf (layoutFrom n s es at .layout) ≡ 0 → Rewritable (layoutFrom n s es at .layout)
-    → addAll room at (readFrom n s at) ≡ writtenOf 0 (length s) (placed room at (drop at s))
+    → addAll room at (readFrom n s at) ≡ outOf 0 (length s) (placed room at (drop at s))
 unfolding layoutFrom readFrom
 write-back zero s es room at small h k z r = absurd (omega (arith, h .inside))
 write-back (suc n) s es room at small h k z r =

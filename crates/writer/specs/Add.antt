@@ -1,10 +1,12 @@
--- Beginning a datagram and adding a message to it (01, "Adding a message"). Assumes nothing.
-use Prim.Native.Nat.{ℕ, zero, suc, _+_}
+-- Beginning a datagram and adding a message to it (01, "Adding a message"): the number, the datagram's length and the
+-- room afterwards. Assumes nothing.
+use Prim.Native.Nat.{ℕ, _+_}
 use mathlib.Core.List.{List, _++_}
 use mathlib.Core.Bool.{Bool, true, false, not}
 use lib.ListN.{length, take}
 use lib.Dec.{ltb}
 use Rattle.base.specs.Pick.{pick, earlier}
+use Rattle.base.specs.Out.{Out, outOf, unless}
 use Rattle.wire.specs.Bytes.{placed}
 use Rattle.wire.specs.Limits.{minSize, maxSize}
 use Rattle.wire.specs.Layout.{numberOf, layoutOf}
@@ -12,7 +14,7 @@ use Rattle.wire.specs.declared.message.Message.{Message}
 use Rattle.wire.specs.declared.layout.Layout.{Layout}
 use Rattle.wire.specs.declared.layout.Layout.the-variants.{Fault, HandshakeAlone, Messages, MessagesAndData}
 use Rattle.writer.specs.Bytes.{bytes32}
-use Rattle.writer.specs.Message.{bytesOf, writable, sizeOf}
+use Rattle.writer.specs.Message.{bytesOf, writable}
 
 -- Whether a datagram has DATA: what is added behind it would be read as chunk bytes.
 abbrev pub hasData : Layout → Bool
@@ -34,24 +36,12 @@ addAnswer room len m bytes =
     (pick (hasData (layoutOf (take len room) .layout)) 2
     0)))))
 
--- What a call gives and leaves.
-pub record Written : Type 0 where
-  pub answer : ℕ
-  pub len : ℕ
-  pub room : List ℕ
-
-abbrev pub writtenOf : ℕ → ℕ → List ℕ → Written
-writtenOf n len room = record { answer = n; len = len; room = room }
-
--- A refusal gives length 0 and leaves the room.
-abbrev pub decide : ℕ → List ℕ → ℕ → List ℕ → Written
-decide zero old len new = writtenOf 0 len new
-decide (suc n) old len new = writtenOf (suc n) 0 old
-
 -- A datagram begins with its destination.
-unfoldable pub beginSpec : List ℕ → ℕ → Written
-beginSpec room to = decide (pick (ltb (length room) maxSize) 11 0) room minSize (placed room 0 (bytes32 to))
+unfoldable pub beginSpec : List ℕ → ℕ → Out (List ℕ)
+beginSpec room to = unless (pick (ltb (length room) maxSize) 11 0) room (outOf 0 minSize (placed room 0 (bytes32 to)))
 
 -- The message is written behind the datagram so far; what stands past it stays.
-unfoldable pub addSpec : List ℕ → ℕ → Message → List ℕ → Written
-addSpec room len m bytes = decide (addAnswer room len m bytes) room (len + sizeOf m) (placed room len (bytesOf bytes m))
+unfoldable pub addSpec : List ℕ → ℕ → Message → List ℕ → Out (List ℕ)
+addSpec room len m bytes =
+    unless (addAnswer room len m bytes) room
+    (outOf 0 (len + length (bytesOf bytes m)) (placed room len (bytesOf bytes m)))

@@ -1,5 +1,5 @@
 -- The bytes of a message: the table of 01, "Datagrams" (RFC 7574, 8). Assumes nothing.
-use Prim.Native.Nat.{ℕ, _+_, _-_}
+use Prim.Native.Nat.{ℕ, _-_}
 use mathlib.Core.List.{List, [], _∷_, _++_}
 use mathlib.Core.Bool.{Bool, true, false}
 use lib.ListN.{take, drop}
@@ -54,20 +54,3 @@ writable size (Request first last) = true
 writable size (Cancel first last) = true
 writable size Choke = true
 writable size Unchoke = true
-
--- The size of a message that can be written.
-unfoldable pub optionSpan : Options → ℕ
-optionSpan (Fixed root) = 51
-optionSpan EndOnly = 1
-optionSpan Other = 0
-
-unfoldable pub sizeOf : Message → ℕ
-sizeOf (Handshake source options) = 5 + optionSpan options
-sizeOf (Data first last time start len) = 17 + len
-sizeOf (Ack first last delay) = 17
-sizeOf (Have first last) = 9
-sizeOf (Integrity first last hash) = 41
-sizeOf (Request first last) = 9
-sizeOf (Cancel first last) = 9
-sizeOf Choke = 1
-sizeOf Unchoke = 1

@@ -1,4 +1,4 @@
--- Nothing of the papers: what adding computes on its way. Assumes nothing.
+-- Nothing of the papers: a message's size, and what adding computes on its way. Assumes nothing.
 use Prim.Native.Nat.{ℕ, _+_, _≤_}
 use mathlib.Core.Path.{_≡_}
 use mathlib.Core.List.{List}
@@ -10,12 +10,35 @@ use Rattle.tree.proofs.Promise.{nodeOfRange}
 use Rattle.wire.specs.Limits.{minSize, maxSize}
 use Rattle.wire.specs.Range.{nodeNumber}
 use Rattle.wire.specs.Layout.{seen, handshakeFault}
+use Rattle.wire.specs.declared.message.Options.{Options}
+use Rattle.wire.specs.declared.message.Options.the-variants.{Fixed, EndOnly, Other}
 use Rattle.wire.specs.declared.message.Message.{Message}
 use Rattle.wire.specs.declared.message.Message.the-variants.{Handshake, Data, Ack, Have, Integrity, Request, Cancel, Choke, Unchoke}
 use Rattle.wire.specs.declared.layout.Layout.{Layout}
 use Rattle.wire.specs.declared.layout.Layout.the-variants.{Fault, HandshakeAlone, Messages, MessagesAndData}
-use Rattle.writer.specs.Message.{writable, sizeOf}
-use Rattle.writer.specs.Lists.{Fits}
+use Rattle.writer.specs.Message.{writable}
+use Rattle.writer.specs.Lists.{HasWidths}
+
+-- ---- sizes
+
+-- The size of a message that can be written.
+unfoldable pub optionSpan : Options → ℕ
+optionSpan (Fixed root) = 51
+optionSpan EndOnly = 1
+optionSpan Other = 0
+
+unfoldable pub sizeOf : Message → ℕ
+sizeOf (Handshake source options) = 5 + optionSpan options
+sizeOf (Data first last time start len) = 17 + len
+sizeOf (Ack first last delay) = 17
+sizeOf (Have first last) = 9
+sizeOf (Integrity first last hash) = 41
+sizeOf (Request first last) = 9
+sizeOf (Cancel first last) = 9
+sizeOf Choke = 1
+sizeOf Unchoke = 1
+
+-- ---- the number for a message
 
 -- 2 for a range whose first chunk is above its last.
 abbrev pub rangeFault : ℕ → ℕ → ℕ
@@ -56,11 +79,11 @@ faultAfter (Messages k) room to len m = faultBehind (take k room) to len m
 faultAfter (MessagesAndData c x b n k) room to len m = 2
 
 -- The numbers of a message behind a datagram of this layout have their widths.
-abbrev pub FitsBehind : Layout → Message → Type 0
-FitsBehind (Fault n) m = Unit {0}
-FitsBehind (HandshakeAlone a o) m = Unit {0}
-FitsBehind (Messages k) m = Fits m
-FitsBehind (MessagesAndData c x b n k) m = Unit {0}
+abbrev pub HasWidthsBehind : Layout → Message → Type 0
+HasWidthsBehind (Fault n) m = Unit {0}
+HasWidthsBehind (HandshakeAlone a o) m = Unit {0}
+HasWidthsBehind (Messages k) m = HasWidths m
+HasWidthsBehind (MessagesAndData c x b n k) m = Unit {0}
 
 -- What an accepted message has: it fits the room, and its bytes lie in the source.
 pub record Addable (size len : ℕ) (m : Message) (source : ℕ) : Type 0 where

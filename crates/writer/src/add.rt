@@ -1,10 +1,11 @@
 // Beginning a datagram in a lent room, and adding a message to it.
 ghost use mathlib.Core.Path.{_≡_};
 ghost use lib.ListN.{length};
-ghost use Rattle.writer.specs.Add.{addAnswer, addSpec, beginSpec, writtenOf};
-ghost use Rattle.writer.specs.Lists.{Fits};
+ghost use Rattle.base.specs.Out.{outOf};
+ghost use Rattle.writer.specs.Add.{addAnswer, addSpec, beginSpec};
+ghost use Rattle.writer.specs.Lists.{HasWidths};
 ghost use Rattle.writer.specs.Steps.{rangeFault, chunkFault, nodeFault, faultBehind};
-ghost use Rattle.writer.specs.Steps.{Roomy, faultAfter, FitsBehind, Addable};
+ghost use Rattle.writer.specs.Steps.{Roomy, faultAfter, HasWidthsBehind, Addable};
 use crate::place;
 use crate::put;
 use crate::size;
@@ -51,7 +52,7 @@ fn node_fault(entries: &[u64], first: u32, last: u32) -> u32
 // The number for a message behind `len` bytes of a datagram without HANDSHAKE or DATA, with its destination and
 // entries.
 fn fault_behind(entries: &[u64], destination: u32, len: usize, message: Message) -> u32
-    ensures { λ r. ⌜ (r ≡ faultBehind (now (entries .entry)) destination len message) × Fits message ⌝ }
+    ensures { λ r. ⌜ (r ≡ faultBehind (now (entries .entry)) destination len message) × HasWidths message ⌝ }
 {
     match message {
         Message::Handshake { source, options } => {
@@ -96,7 +97,7 @@ fn fault_after(
 ) -> u32
     requires { ⌜ Roomy layout (length (now entries)) ⌝ }
     ensures { λ r. ⌜ (r ≡ faultAfter layout (now (entries .entry)) destination len message)
-        × FitsBehind layout message ⌝ }
+        × HasWidthsBehind layout message ⌝ }
 {
     match layout {
         Layout::Fault { number } => number,
@@ -152,7 +153,7 @@ pub struct Added {
 
 // Begins a datagram: its destination channel.
 pub fn begin(room: &mut [u8], destination: u32) -> Added
-    ensures { λ r. ⌜ writtenOf (r .answer) (r .len) (now (room .exit))
+    ensures { λ r. ⌜ outOf (r .answer) (r .len) (now (room .exit))
         ≡ beginSpec (now (room .entry)) destination ⌝ }
 {
     if room.len() < MAX_SIZE {
@@ -167,7 +168,7 @@ pub fn begin(room: &mut [u8], destination: u32) -> Added
 
 // Adds a message to the datagram in the first `len` bytes of the room; its hash, chunk or root is taken from `bytes`.
 pub fn add(room: &mut [u8], len: usize, message: Message, bytes: &[u8]) -> Added
-    ensures { λ r. ⌜ writtenOf (r .answer) (r .len) (now (room .exit))
+    ensures { λ r. ⌜ outOf (r .answer) (r .len) (now (room .exit))
         ≡ addSpec (now (room .entry)) len message (now (bytes .entry)) ⌝ }
 {
     let answer = add_answer(room, len, message, bytes);

@@ -3,7 +3,8 @@ ghost use mathlib.Core.Path.{_≡_};
 ghost use Prim.Native.Nat.{_+_, _≤_, _<_};
 ghost use mathlib.Core.Bool.{true};
 ghost use lib.ListN.{length};
-ghost use Rattle.writer.specs.Message.{inBounds, writable, writableOptions, optionSpan, sizeOf};
+ghost use Rattle.writer.specs.Message.{inBounds, writable, writableOptions};
+ghost use Rattle.writer.specs.Steps.{optionSpan, sizeOf};
 use wire::message::Message;
 use wire::message::Options;
 

@@ -10,9 +10,6 @@ large-buffer-requires c κs = search needs
 large-buffer-requires-2 : tie.Need-large-buffer-requires-2
 large-buffer-requires-2 c κs = search needs
 
-fresh-requires : tie.Need-fresh-requires
-fresh-requires c κs = search needs
-
 slice-aggregate-run : tie.Need-slice-aggregate-run
 slice-aggregate-run c = search needs
 
@@ -43,9 +40,11 @@ slice-aggregate-run-9 c = search needs
 slice-aggregate-run-10 : tie.Need-slice-aggregate-run-10
 slice-aggregate-run-10 c = search needs
 
+slice-aggregate-run-11 : tie.Need-slice-aggregate-run-11
+slice-aggregate-run-11 c = search needs
+
 run-requires : tie.Need-run-requires
-run-requires c κs =
-    rooms-suffice _ _ _ (omega arith) (omega arith) (omega arith) (omega arith) (omega arith) (omega arith) (omega arith) (omega arith) (omega arith)
+run-requires c κs = rooms-suffice _ _ _ (omega arith) (omega arith) (omega arith) (omega arith) (omega arith) (omega arith) (omega arith) (omega arith) (omega arith) (omega arith)
 
 returns : tie.Need-returns
 returns c = search needs
@@ -56,7 +55,6 @@ main-spec =
     (tie.spec
     large-buffer-requires
     large-buffer-requires-2
-    fresh-requires
     slice-aggregate-run
     slice-aggregate-run-2
     slice-aggregate-run-3
@@ -67,5 +65,6 @@ main-spec =
     slice-aggregate-run-8
     slice-aggregate-run-9
     slice-aggregate-run-10
+    slice-aggregate-run-11
     run-requires
     returns)

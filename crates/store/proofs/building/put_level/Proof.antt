@@ -4,7 +4,8 @@ use native.Mathlib.Omega.{arith}
 use lib.ListN.{length}
 use Rattle.verdict.specs.Room.{putHash}
 use Rattle.store.specs.Storing.{mark}
-use Rattle.store.specs.Building.{treeOf, putLevel}
+use Rattle.store.specs.Building.{treeOf}
+use Rattle.store.specs.Steps.{putLevel}
 use Rattle.verdict.proofs.RoomLaws.{length-putHash}
 use Rattle.store.proofs.StoringLaws.{length-mark}
 use Rattle.store.proofs.BuildingLaws.{level-none, level-more, length-level, filled-level, less}

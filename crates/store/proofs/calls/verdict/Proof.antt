@@ -2,7 +2,7 @@ use mathlib.Core.Path.{ap, _∙_}
 use Prim.Native.Nat.{ℕ}
 use Rattle.hash.proofs.Promise.{bytesOf}
 use Rattle.verdict.specs.Integrity.{integrityOf}
-use Rattle.verdict.specs.Verdict.{roomVerdict}
+use Rattle.verdict.specs.Steps.{roomVerdict}
 use Rattle.verdict.proofs.ClimbLaws.{judged-verdict}
 use borrow.Author.Needs.{needs}
 use Rattle.store.proofs.calls.verdict.Statement.{statement}

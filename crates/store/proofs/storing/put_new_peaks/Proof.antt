@@ -2,8 +2,9 @@ use Prim.Native.Nat.{suc}
 use borrow.Author.Tests.{not-true, not-false}
 use Rattle.verdict.specs.Room.{putHash}
 use Rattle.verdict.specs.Integrity.{integrityOf}
-use Rattle.verdict.specs.Rooms.{gotBy}
-use Rattle.store.specs.Storing.{mark, putPeaks}
+use Rattle.verdict.specs.Steps.{gotBy}
+use Rattle.store.specs.Storing.{mark}
+use Rattle.store.specs.Steps.{putPeaks}
 use Rattle.store.proofs.StoringLaws.{open-no, open-yes}
 use borrow.Author.Needs.{needs}
 use Rattle.store.proofs.storing.put_new_peaks.Statement.{statement}

@@ -4,8 +4,9 @@ use native.Mathlib.Omega.{arith}
 use lib.ListN.{length}
 use Rattle.verdict.specs.Room.{hashIn, putHash}
 use Rattle.verdict.specs.Integrity.{integrityOf}
-use Rattle.verdict.specs.Rooms.{gotBy}
-use Rattle.store.specs.Storing.{mark, putPath}
+use Rattle.verdict.specs.Steps.{gotBy}
+use Rattle.store.specs.Storing.{mark}
+use Rattle.store.specs.Steps.{putPath}
 use Rattle.verdict.proofs.RoomLaws.{length-putHash}
 use Rattle.store.proofs.StoringLaws.{path-none, path-more, length-path, length-mark}
 use borrow.Author.Needs.{needs}

@@ -3,8 +3,8 @@ use mathlib.Core.Logic.{_≢_}
 use Prim.Native.Nat.{suc, _/_, _%_, _^_}
 use Rattle.tree.specs.Node.{above}
 use Rattle.verdict.specs.Room.{putHash}
-use Rattle.verdict.specs.Integrity.{integrityOf, gotAt}
-use Rattle.verdict.specs.Rooms.{gotBy}
+use Rattle.verdict.specs.Integrity.{integrityOf}
+use Rattle.verdict.specs.Steps.{gotAt, gotBy}
 use Rattle.store.specs.Storing.{mark}
 use Rattle.store.proofs.StoringLaws.{put-one, put-none}
 use borrow.Author.Needs.{needs}

@@ -4,8 +4,9 @@ use native.Mathlib.Omega.{arith}
 use lib.ListN.{length}
 use Rattle.verdict.specs.Room.{putHash}
 use Rattle.verdict.specs.Integrity.{integrityOf}
-use Rattle.verdict.specs.Rooms.{gotBy}
-use Rattle.store.specs.Storing.{mark, putPeaks}
+use Rattle.verdict.specs.Steps.{gotBy}
+use Rattle.store.specs.Storing.{mark}
+use Rattle.store.specs.Steps.{putPeaks}
 use Rattle.verdict.proofs.RoomLaws.{length-putHash}
 use Rattle.store.proofs.StoringLaws.{peaks-none, peaks-more, length-peaks, length-mark}
 use Rattle.store.proofs.storing.put_peaks.Statement.{statement}

@@ -34,8 +34,14 @@ same-length-7 c = search needs
 same-length-8 : tie.Need-same-length-8
 same-length-8 c = search needs
 
+same-length-9 : tie.Need-same-length-9
+same-length-9 c = search needs
+
 returns-2 : tie.Need-returns-2
-returns-2 c = c .before .before .before .before .before .before .before .before .before .before .before .before .before .before .before .before .end-line .ensures ∙ input-line _ _ _ _ (c .before .before .before .before .before .before .before .before .before .before .before .before .before .before .before .before .before .before .before .before .before .before .before .before .before .if1 .left)
+returns-2 c =
+    let at-end-line = c .before .before .before .before .before .before .before .before .before .before .before .before .before .before .before .before .before .before .end-line in
+    let at-if1 = c .before .before .before .before .before .before .before .before .before .before .before .before .before .before .before .before .before .before .before .before .before .before .before .before .before .before .before .before .if1 in
+    at-end-line .ensures ∙ input-line _ _ _ _ (at-if1 .left)
 
 pub end-input-spec : {M : Type 1} → statement M
 end-input-spec =
@@ -51,4 +57,5 @@ end-input-spec =
     same-length-6
     same-length-7
     same-length-8
+    same-length-9
     returns-2)

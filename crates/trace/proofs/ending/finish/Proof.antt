@@ -1,5 +1,5 @@
-use borrow.Author.Needs.{needs}
 use Rattle.trace.proofs.StreamLaws.{finish-with}
+use borrow.Author.Needs.{needs}
 use Rattle.trace.proofs.ending.finish.Statement.{statement}
 use Rattle.trace.proofs.ending.finish.Tie as tie
 
@@ -33,8 +33,14 @@ same-length-7 c = search needs
 same-length-8 : tie.Need-same-length-8
 same-length-8 c = search needs
 
+same-length-9 : tie.Need-same-length-9
+same-length-9 c = search needs
+
 returns : tie.Need-returns
-returns c = finish-with _ _ _ _ (c .before .before .before .before .before .before .before .before .before .before .before .before .before .before .before .before .before .before .before .before .before .before .before .end-input .ensures) (c .before .before .put-end .ensures)
+returns c =
+    let at-put-end = c .before .before .put-end in
+    let at-end-input = c .before .before .before .before .before .before .before .before .before .before .before .before .before .before .before .before .before .before .before .before .before .before .before .before .before .end-input in
+    finish-with _ _ _ _ (at-end-input .ensures) (at-put-end .ensures)
 
 pub finish-spec : {M : Type 1} → statement M
 finish-spec =
@@ -50,4 +56,5 @@ finish-spec =
     same-length-6
     same-length-7
     same-length-8
+    same-length-9
     returns)

@@ -24,11 +24,15 @@ same-length-4 c = search needs
 same-length-5 : tie.Need-same-length-5
 same-length-5 c = search needs
 
-returns : tie.Need-returns
-returns c = started _ _ (c .before .before .before .before .before .before .before .before .before .before .before .before .before .before .before .before .before .before .before .before .order-of .ensures) (c .before .before .before .before .before .before .before .before .before .before .before .before .before .start .ensures) (c .if1 .taken)
-
 same-length-6 : tie.Need-same-length-6
 same-length-6 c = search needs
+
+returns : tie.Need-returns
+returns c =
+    let at-if1 = c .if1 in
+    let at-start = c .before .before .before .before .before .before .before .before .before .before .before .before .before .start in
+    let at-order-of = c .before .before .before .before .before .before .before .before .before .before .before .before .before .before .before .before .before .before .before .before .order-of in
+    started _ _ (at-order-of .ensures) (at-start .ensures) (at-if1 .taken)
 
 same-length-7 : tie.Need-same-length-7
 same-length-7 c = search needs
@@ -42,8 +46,18 @@ same-length-9 c = search needs
 same-length-10 : tie.Need-same-length-10
 same-length-10 c = search needs
 
+same-length-11 : tie.Need-same-length-11
+same-length-11 c = search needs
+
+same-length-12 : tie.Need-same-length-12
+same-length-12 c = search needs
+
 returns-2 : tie.Need-returns-2
-returns-2 c = refused _ _ (c .before .before .before .before .before .before .before .before .before .before .before .before .before .before .before .before .before .before .before .before .order-of .ensures) (c .before .before .before .before .before .before .before .before .before .before .before .before .before .start .ensures) (c .if1 .left)
+returns-2 c =
+    let at-if1 = c .if1 in
+    let at-start = c .before .before .before .before .before .before .before .before .before .before .before .before .before .start in
+    let at-order-of = c .before .before .before .before .before .before .before .before .before .before .before .before .before .before .before .before .before .before .before .before .order-of in
+    refused _ _ (at-order-of .ensures) (at-start .ensures) (at-if1 .left)
 
 pub first-line-spec : {M : Type 1} → statement M
 first-line-spec =
@@ -56,10 +70,12 @@ first-line-spec =
     same-length-3
     same-length-4
     same-length-5
-    returns
     same-length-6
+    returns
     same-length-7
     same-length-8
     same-length-9
     same-length-10
+    same-length-11
+    same-length-12
     returns-2)

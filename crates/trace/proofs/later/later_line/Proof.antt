@@ -14,13 +14,22 @@ enum-known-len : tie.Need-enum-known-len
 enum-known-len c = search needs
 
 array-share-prefix-frame : tie.Need-array-share-prefix-frame
-array-share-prefix-frame c = frame-fits _ (c .before .before .before .before .before .before .before .before .before .before .before .read .ensures) (c .before .before .before .before .before .before .before .before .len .given .1)
+array-share-prefix-frame c =
+    let at-len = c .before .before .before .before .before .before .before .before .before .len in
+    let at-read = c .before .before .before .before .before .before .before .before .before .before .before .before .read in
+    frame-fits _ (at-read .ensures) (at-len .given .1)
 
 slice-aggregate-take : tie.Need-slice-aggregate-take
-slice-aggregate-take c = frame-length _ (c .before .before .before .before .before .before .before .before .before .before .before .before .read .ensures) (c .before .before .before .before .before .before .before .before .before .len .given .1)
+slice-aggregate-take c =
+    let at-len = c .before .before .before .before .before .before .before .before .before .before .len in
+    let at-read = c .before .before .before .before .before .before .before .before .before .before .before .before .before .read in
+    frame-length _ (at-read .ensures) (at-len .given .1)
 
 take-requires : tie.Need-take-requires
-take-requires c κs = frame-clock _ (c .before .before .before .before .before .before .before .before .before .before .before .before .read .ensures) (c .before .before .before .before .before .before .before .before .before .len .given .1)
+take-requires c κs =
+    let at-len = c .before .before .before .before .before .before .before .before .before .before .len in
+    let at-read = c .before .before .before .before .before .before .before .before .before .before .before .before .before .read in
+    frame-clock _ (at-read .ensures) (at-len .given .1)
 
 enum-told : tie.Need-enum-told
 enum-told c = search needs
@@ -46,11 +55,21 @@ same-length-6 c = search needs
 same-length-7 : tie.Need-same-length-7
 same-length-7 c = search needs
 
+same-length-8 : tie.Need-same-length-8
+same-length-8 c = search needs
+
 returns : tie.Need-returns
-returns c = c .before .before .before .before .before .before .before .before .before .before .before .before .before .before .take .ensures ∙ frame-taken _ (c .before .before .before .before .before .before .before .before .before .before .before .before .before .before .before .before .before .before .before .before .before .before .before .before .before .before .before .read .ensures) (c .before .before .before .before .before .before .before .before .before .before .before .before .before .before .before .before .before .before .before .before .before .before .before .before .len .given .1) _
+returns c =
+    let at-take = c .before .before .before .before .before .before .before .before .before .before .before .before .before .before .before .before .take in
+    let at-len = c .before .before .before .before .before .before .before .before .before .before .before .before .before .before .before .before .before .before .before .before .before .before .before .before .before .before .before .len in
+    let at-read = c .before .before .before .before .before .before .before .before .before .before .before .before .before .before .before .before .before .before .before .before .before .before .before .before .before .before .before .before .before .before .read in
+    at-take .ensures ∙ frame-taken _ (at-read .ensures) (at-len .given .1) _
 
 returns-2 : tie.Need-returns-2
-returns-2 c = no-frame _ (c .before .before .before .read .ensures) (c .enum-told .given .1) _
+returns-2 c =
+    let at-enum-told = c .enum-told in
+    let at-read = c .before .before .before .read in
+    no-frame _ (at-read .ensures) (at-enum-told .given .1) _
 
 pub later-line-spec : {M : Type 1} → statement M
 later-line-spec =
@@ -70,5 +89,6 @@ later-line-spec =
     same-length-5
     same-length-6
     same-length-7
+    same-length-8
     returns
     returns-2)

@@ -19,7 +19,7 @@ take-requires : tie.Need-take-requires
 take-requires c κs = search needs
 
 cast-number : tie.Need-cast-number
-cast-number c = record { fits = taken-byte _ _ _ _ (c .before .before .before .before .before .before .before .before .before .before .before .before .before .before .before .take .ensures) }
+cast-number c = record { fits = taken-byte _ _ _ _ (c .before .before .before .before .before .before .before .before .before .before .before .before .before .before .before .before .before .take .ensures) }
 
 next-id-requires : tie.Need-next-id-requires
 next-id-requires c κs = search needs
@@ -45,8 +45,16 @@ same-length-6 c = search needs
 same-length-7 : tie.Need-same-length-7
 same-length-7 c = search needs
 
+same-length-8 : tie.Need-same-length-8
+same-length-8 c = search needs
+
 returns : tie.Need-returns
-returns c = took _ _ _ (c .before .before .before .before .before .before .before .before .before .before .before .before .before .before .before .before .before .before .before .before .before .before .before .before .before .before .before .load64 .ensures) (part 8 (c .before .before .before .before .before .before .before .before .before .before .before .before .before .before .before .before .before .before .before .before .before .before .before .before .before .before .before .before .before .before .before .before .before .before .before .before .args .frame .now)) (c .before .before .before .before .before .before .before .before .before .before .before .before .before .before .before .before .before .take .ensures) (c .next-id .ensures)
+returns c =
+    let at-next-id = c .next-id in
+    let at-take = c .before .before .before .before .before .before .before .before .before .before .before .before .before .before .before .before .before .before .take in
+    let at-load64 = c .before .before .before .before .before .before .before .before .before .before .before .before .before .before .before .before .before .before .before .before .before .before .before .before .before .before .before .before .load64 in
+    let at-args = c .before .before .before .before .before .before .before .before .before .before .before .before .before .before .before .before .before .before .before .before .before .before .before .before .before .before .before .before .before .before .before .before .before .before .before .before .before .before .args in
+    took _ _ _ (at-load64 .ensures) (part 8 (at-args .frame .now)) (at-take .ensures) (at-next-id .ensures)
 
 pub take-spec : {M : Type 1} → statement M
 take-spec =
@@ -66,4 +74,5 @@ take-spec =
     same-length-5
     same-length-6
     same-length-7
+    same-length-8
     returns)

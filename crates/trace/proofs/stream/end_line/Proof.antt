@@ -8,7 +8,10 @@ least-requires : tie.Need-least-requires
 least-requires c κs = search needs
 
 slice-aggregate-answer : tie.Need-slice-aggregate-answer
-slice-aggregate-answer c = count-length (c .before .before .before .before .before .before .before .before .before .before .before .before .before .before .before .before .before .before .args .line .now) _ _ (c .before .before .before .before .before .before .before .before .least .ensures)
+slice-aggregate-answer c =
+    let at-least = c .before .before .before .before .before .before .before .before .before .least in
+    let at-args = c .before .before .before .before .before .before .before .before .before .before .before .before .before .before .before .before .before .before .before .before .args in
+    count-length (at-args .line .now) _ _ (at-least .ensures)
 
 answer-requires : tie.Need-answer-requires
 answer-requires c κs = search needs
@@ -40,8 +43,15 @@ same-length-7 c = search needs
 same-length-8 : tie.Need-same-length-8
 same-length-8 c = search needs
 
+same-length-9 : tie.Need-same-length-9
+same-length-9 c = search needs
+
 returns : tie.Need-returns
-returns c = line-done _ _ _ _ _ _ (c .before .before .before .before .before .before .before .before .before .before .before .before .before .before .before .before .before .before .before .before .before .before .before .before .before .before .before .before .before .least .ensures) (c .before .before .before .before .before .before .before .before .before .before .before .before .before .before .before .before .before .before .before .before .answer .ensures) (c .before .before .put-answer .ensures)
+returns c =
+    let at-put-answer = c .before .before .put-answer in
+    let at-answer = c .before .before .before .before .before .before .before .before .before .before .before .before .before .before .before .before .before .before .before .before .before .before .answer in
+    let at-least = c .before .before .before .before .before .before .before .before .before .before .before .before .before .before .before .before .before .before .before .before .before .before .before .before .before .before .before .before .before .before .before .before .least in
+    line-done _ _ _ _ _ _ (at-least .ensures) (at-answer .ensures) (at-put-answer .ensures)
 
 pub end-line-spec : {M : Type 1} → statement M
 end-line-spec =
@@ -59,4 +69,5 @@ end-line-spec =
     same-length-6
     same-length-7
     same-length-8
+    same-length-9
     returns)

@@ -5,7 +5,7 @@ use lib.ListN.{length}
 use lib.Seq.{length-sets}
 use Rattle.tree.specs.Pack.{levels}
 use Rattle.tree.specs.Peaks.{peaks}
-use Rattle.tree.specs.Steps.{peaksBelow}
+use Rattle.tree.proofs.Below.{peaksBelow}
 use Rattle.tree.proofs.PeakLaws.{peaks-bits}
 use Rattle.tree.proofs.StepLaws.{peaks-short, peaks-none, LeftBelow, loop-begin, loop-few, loop-end, peaks-turn}
 use Rattle.tree.proofs.peaks.peaks.Statement.{statement}

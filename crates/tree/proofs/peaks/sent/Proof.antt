@@ -5,7 +5,7 @@ use lib.ListN.{length}
 use lib.Seq.{length-sets}
 use Rattle.tree.specs.Pack.{levels}
 use Rattle.tree.specs.Peaks.{sent}
-use Rattle.tree.specs.Steps.{sentBelow}
+use Rattle.tree.proofs.Below.{sentBelow}
 use Rattle.tree.proofs.SentLaws.{sent-is}
 use Rattle.tree.proofs.StepLaws.{sibling-short, sent-short, sent-none, LeftBelow, loop-begin, loop-few, loop-end, sent-turn}
 use Rattle.tree.proofs.peaks.sent.Statement.{statement}

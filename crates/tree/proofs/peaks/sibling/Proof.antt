@@ -1,6 +1,6 @@
 use native.Mathlib.Omega.{arith}
 use lib.Pow.{pow-pos, pow-mono}
-use Rattle.tree.proofs.NodeLaws.{other-left, other-right}
+use Rattle.tree.proofs.NodeLaws.{beside-left, beside-right}
 use borrow.Author.Needs.{needs}
 use Rattle.tree.proofs.peaks.sibling.Statement.{statement}
 use Rattle.tree.proofs.peaks.sibling.Tie as tie
@@ -35,17 +35,17 @@ add-result-2 c = omega (arith, pow-mono {i = c .before .before .before .before .
 sub-result-2 : tie.Need-sub-result-2
 sub-result-2 c =
     let a = c .before .before .before .before .args in
-    omega (arith, other-right (a .h) (a .c) (omega arith), pow-pos (a .h))
+    omega (arith, beside-right (a .h) (a .c) (omega arith), pow-pos (a .h))
 
 returns : tie.Need-returns
 returns c =
     let a = c .before .before .before .before .args in
-    omega (arith, other-left (a .h) (a .c) (omega arith), pow-pos (a .h))
+    omega (arith, beside-left (a .h) (a .c) (omega arith), pow-pos (a .h))
 
 returns-2 : tie.Need-returns-2
 returns-2 c =
     let a = c .before .before .before .before .args in
-    omega (arith, other-right (a .h) (a .c) (omega arith), pow-pos (a .h))
+    omega (arith, beside-right (a .h) (a .c) (omega arith), pow-pos (a .h))
 
 pub sibling-spec : {M : Type 1} → statement M
 sibling-spec =

@@ -2,9 +2,9 @@ use mathlib.Core.Path.{_≡_}
 use Prim.Native.Nat.{suc, _-_, _≤_}
 use native.Mathlib.Omega.{arith}
 use Rattle.tree.specs.Verdicts.{every}
-use Rattle.tree.specs.Steps.{peaksBelow}
+use Rattle.tree.proofs.Below.{peaksBelow}
 use Rattle.verdict.specs.Integrity.{integrityOf}
-use Rattle.verdict.specs.Rooms.{cameIn}
+use Rattle.verdict.specs.Steps.{cameIn}
 use Rattle.verdict.proofs.LoopLaws.{every-none, every-peak, every-end}
 use Rattle.verdict.proofs.peaks.all_came.Statement.{statement}
 use Rattle.verdict.proofs.peaks.all_came.Tie as tie

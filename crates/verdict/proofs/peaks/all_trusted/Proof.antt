@@ -2,8 +2,8 @@ use mathlib.Core.Path.{_≡_}
 use Prim.Native.Nat.{suc, _-_, _≤_}
 use native.Mathlib.Omega.{arith}
 use Rattle.tree.specs.Verdicts.{every}
-use Rattle.tree.specs.Steps.{peaksBelow}
-use Rattle.verdict.specs.Rooms.{trustedIn}
+use Rattle.tree.proofs.Below.{peaksBelow}
+use Rattle.verdict.specs.Steps.{trustedIn}
 use Rattle.verdict.proofs.LoopLaws.{every-none, every-peak, every-end}
 use Rattle.verdict.proofs.peaks.all_trusted.Statement.{statement}
 use Rattle.verdict.proofs.peaks.all_trusted.Tie as tie

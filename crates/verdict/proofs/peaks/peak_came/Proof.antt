@@ -3,7 +3,8 @@ use mathlib.Core.Logic.{_≢_}
 use Prim.Native.Nat.{_/_, _%_, _^_}
 use Rattle.tree.specs.Node.{num}
 use Rattle.tree.specs.Steps.{peakAt}
-use Rattle.verdict.specs.Integrity.{integrityOf, came}
+use Rattle.verdict.specs.Integrity.{integrityOf}
+use Rattle.verdict.specs.Steps.{came}
 use Rattle.verdict.proofs.LoopLaws.{step-skip, step-yes, step-no}
 use borrow.Author.Needs.{needs}
 use Rattle.verdict.proofs.peaks.peak_came.Statement.{statement}

@@ -1,14 +1,13 @@
 use mathlib.Core.Path.{_≡_, refl, sym, ap, _∙_}
 use mathlib.Core.List.{List}
-use Prim.Native.Nat.{ℕ, suc, _-_, _≤_}
+use Prim.Native.Nat.{ℕ, _-_, _≤_}
 use native.Mathlib.Numerals.{add-one}
 use native.Mathlib.Omega.{arith}
 use Rattle.hash.proofs.Promise.{sha256, bytesOf}
-use Rattle.tree.specs.Node.{other, above}
+use Rattle.tree.specs.Node.{siblingFrom}
 use Rattle.tree.specs.Tree.{joined, climb}
 use Rattle.verdict.specs.Integrity.{integrityOf}
-use Rattle.verdict.specs.Rooms.{gotBy}
-use Rattle.verdict.specs.Steps.{kept}
+use Rattle.verdict.specs.Steps.{gotBy, kept}
 use Rattle.verdict.proofs.ClimbLaws.{kept-none, kept-more}
 use Rattle.tree.proofs.TreeLaws.{climb-suc}
 use borrow.Author.Needs.{needs}
@@ -16,7 +15,7 @@ use Rattle.verdict.proofs.verdicts.climb.Statement.{statement}
 use Rattle.verdict.proofs.verdicts.climb.Tie as tie
 
 abbrev Inv-loop : tie.InvT-loop
-Inv-loop scratch₀ entries bytes c t acc₀ h₀ scratch acc h = (h ≤ t) × (bytesOf (acc .words) ≡ climb sha256 (gotBy (integrityOf entries bytes)) (bytesOf (acc₀ .words)) c h (above h c)) × (scratch ≡ kept scratch₀ (gotBy (integrityOf entries bytes)) (bytesOf (acc₀ .words)) c h)
+Inv-loop scratch₀ entries bytes c t acc₀ h₀ scratch acc h = (h ≤ t) × (bytesOf (acc .words) ≡ climb sha256 (gotBy (integrityOf entries bytes)) (bytesOf (acc₀ .words)) c h) × (scratch ≡ kept scratch₀ (gotBy (integrityOf entries bytes)) (bytesOf (acc₀ .words)) c h)
 
 abbrev μ-loop : tie.MeasureT-loop
 μ-loop scratch₀ entries bytes c t acc₀ h₀ scratch acc h = t - h
@@ -47,7 +46,7 @@ loop-again c = let a = c .before .before .before .before .before .before .before
     rw (add-one (l .h)) (
       omega arith,
       c .step .ensures
-          ∙ ap (λ (x : List ℕ). joined sha256 (a .c) (l .h) (above (suc (l .h)) (a .c)) x (gotBy o (l .h) (other (a .c) (l .h) (above (suc (l .h)) (a .c))))) (l .inv .1)
+          ∙ ap (λ (x : List ℕ). joined sha256 (a .c) (l .h) x (gotBy o (l .h) (siblingFrom (l .h) (a .c)))) (l .inv .1)
           ∙ sym (climb-suc sha256 (gotBy o) (bytesOf (a .v .words)) (a .c) (l .h)),
       kept-more (gotBy o) (bytesOf (a .v .words)) (a .c) (a .scratch .now) (l .h) (l .inv .2) (l .inv .1) (c .before .write .ensures),
     )

@@ -1,7 +1,8 @@
 use mathlib.Core.Path.{sym, ap, _∙_}
 use mathlib.Core.Bool.{Bool, false}
 use Rattle.base.specs.Pick.{pick}
-use Rattle.verdict.specs.Integrity.{integrityOf, came}
+use Rattle.verdict.specs.Integrity.{integrityOf}
+use Rattle.verdict.specs.Steps.{came}
 use borrow.Author.Needs.{needs}
 use Rattle.verdict.proofs.verdicts.sibling_came.Statement.{statement}
 use Rattle.verdict.proofs.verdicts.sibling_came.Tie as tie

@@ -1,17 +1,16 @@
 use mathlib.Core.Path.{_≡_, ap, _∙_}
 use Prim.Native.Nat.{ℕ, _-_, _≤_}
 use native.Mathlib.Omega.{arith}
-use Rattle.tree.specs.Node.{above}
 use Rattle.tree.specs.Peaks.{siblings}
 use Rattle.tree.specs.Verdicts.{every}
 use Rattle.verdict.specs.Integrity.{integrityOf}
-use Rattle.verdict.specs.Rooms.{cameIn}
+use Rattle.verdict.specs.Steps.{cameIn}
 use Rattle.verdict.proofs.LoopLaws.{sibs-none, sibs-more}
 use Rattle.verdict.proofs.verdicts.siblings_came.Statement.{statement}
 use Rattle.verdict.proofs.verdicts.siblings_came.Tie as tie
 
 abbrev Inv-loop : tie.InvT-loop
-Inv-loop entries bytes c t ok₀ h₀ ok h = (h ≤ t) × (ok ≡ every (cameIn (integrityOf entries bytes)) (siblings c h (above h c)))
+Inv-loop entries bytes c t ok₀ h₀ ok h = (h ≤ t) × (ok ≡ every (cameIn (integrityOf entries bytes)) (siblings c h))
 
 abbrev μ-loop : tie.MeasureT-loop
 μ-loop entries bytes c t ok₀ h₀ ok h = t - h
@@ -39,7 +38,7 @@ returns : tie.Need-returns Inv-loop μ-loop
 returns c = let a = c .before .before .before .before .args in
     let o = integrityOf (a .entries .now) (a .bytes .now) in
     let e : c .before .loop .h ≡ a .t = omega arith in
-    c .before .loop .inv .1 ∙ ap (λ (x : ℕ). every (cameIn o) (siblings (a .c) x (above x (a .c)))) e
+    c .before .loop .inv .1 ∙ ap (λ (x : ℕ). every (cameIn o) (siblings (a .c) x)) e
 
 pub siblings-came-spec : {M : Type 1} → statement M
 siblings-came-spec =

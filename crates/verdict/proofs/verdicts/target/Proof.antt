@@ -3,8 +3,8 @@ use mathlib.Core.Bool.{Bool}
 use Rattle.tree.specs.Node.{above}
 use Rattle.tree.specs.State.{isPeak}
 use Rattle.verdict.specs.Room.{hashIn}
-use Rattle.verdict.specs.Integrity.{integrityOf, gotAt}
-use Rattle.verdict.specs.Steps.{countedHash}
+use Rattle.verdict.specs.Integrity.{integrityOf}
+use Rattle.verdict.specs.Steps.{gotAt, roomCounted}
 use Rattle.verdict.proofs.LoopLaws.{counted-got, counted-old}
 use borrow.Author.Needs.{needs}
 use Rattle.verdict.proofs.verdicts.target.Statement.{statement}
@@ -19,7 +19,7 @@ read-requires c κs = search needs
 returns : tie.Need-returns
 returns c = let a = c .before .before .before .before .before .before .args in
     let o = integrityOf (a .entries .now) (a .bytes .now) in
-    c .read .ensures ∙ ap (hashIn (a .hashes .now)) (c .before .before .node .ensures) ∙ ap (λ (t : Bool). countedHash t (a .n) (a .hashes .now) o (a .t) (above (a .t) (a .c))) (sym (c .before .if1 .taken))
+    c .read .ensures ∙ ap (hashIn (a .hashes .now)) (c .before .before .node .ensures) ∙ ap (λ (t : Bool). roomCounted t (a .n) (a .hashes .now) o (a .t) (above (a .t) (a .c))) (sym (c .before .if1 .taken))
 
 is-peak-requires : tie.Need-is-peak-requires
 is-peak-requires c κs = search needs

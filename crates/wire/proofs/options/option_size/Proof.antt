@@ -36,10 +36,10 @@ add-size : tie.Need-add-size
 add-size c = search needs
 
 returns-6 : tie.Need-returns-6
-returns-6 c = (option-cut _ _ (c .before .before .before .before .before .before .before .before .if1 .left) (c .before .before .before .before .before .before .if2 .left) (c .before .before .before .before .before .if3 .left) (c .before .before .before .before .if4 .left) _ (c .before .before .before .head-size .ensures .0) (c .before .before .if5 .left) _ (c .before .body-size .ensures .0) (c .if6 .taken), search needs)
+returns-6 c = (option-cut _ _ (c .before .before .before .before .before .before .before .before .if1 .left) (c .before .before .before .before .before .before .if2 .left) (c .before .before .before .before .before .if3 .left) (c .before .before .before .before .if4 .left) _ (c .before .before .before .head-size .ensures .0) _ (c .before .body-size .ensures .0) (c .if6 .taken), search needs)
 
 returns-7 : tie.Need-returns-7
-returns-7 c = (option-whole _ _ (c .before .before .before .before .before .before .before .before .if1 .left) (c .before .before .before .before .before .before .if2 .left) (c .before .before .before .before .before .if3 .left) (c .before .before .before .before .if4 .left) _ (c .before .before .before .head-size .ensures .0) (c .before .before .if5 .left) _ (c .before .body-size .ensures .0) (c .if6 .left), search needs)
+returns-7 c = (option-whole _ _ (c .before .before .before .before .before .before .before .before .if1 .left) (c .before .before .before .before .before .before .if2 .left) (c .before .before .before .before .before .if3 .left) (c .before .before .before .before .if4 .left) _ (c .before .before .before .head-size .ensures .0) _ (c .before .body-size .ensures .0) (c .if6 .left), search needs)
 
 pub option-size-spec : {M : Type 1} → statement M
 option-size-spec =

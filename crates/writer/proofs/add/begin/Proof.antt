@@ -3,19 +3,15 @@ use Rattle.writer.proofs.add.begin.Statement.{statement}
 use Rattle.writer.proofs.add.begin.Tie as tie
 use Rattle.writer.proofs.AnswerLaws.{begin-refused, begin-done}
 
--- src/add.rt:150:9
 returns : tie.Need-returns
 returns c = begin-refused (c .before .before .args .room .now) (c .before .before .args .destination) (c .if1 .taken)
 
--- src/add.rt:152:5
 place32-requires : tie.Need-place32-requires
 place32-requires c κs = search needs
 
--- src/add.rt:146:1
 same-length : tie.Need-same-length
 same-length c = search needs
 
--- src/add.rt:146:1
 returns-2 : tie.Need-returns-2
 returns-2 c = begin-done (c .before .before .before .before .before .before .args .room .now) (c .before .before .before .before .before .before .args .destination) (c .before .before .before .before .if1 .left) (c .before .before .place32 .ensures)
 

@@ -5,53 +5,41 @@ use mathlib.Core.Path.{refl}
 use Rattle.writer.specs.Steps.{faultAfter}
 use Rattle.writer.proofs.AnswerLaws.{after-messages}
 
--- src/add.rt:95:25
 enum-known-layout : tie.Need-enum-known-layout
 enum-known-layout c = search needs
 
--- src/add.rt:99:14
 enum-told : tie.Need-enum-told
 enum-told c = search needs
 
--- src/add.rt:100:37
 enum-known-layout-2 : tie.Need-enum-known-layout-2
 enum-known-layout-2 c = search needs
 
--- src/add.rt:101:26
 sub-fault-behind : tie.Need-sub-fault-behind
 sub-fault-behind c = search needs
 
--- src/add.rt:101:26
 part-fault-behind-start : tie.Need-part-fault-behind-start
 part-fault-behind-start c = search needs
 
--- src/add.rt:101:26
 part-fault-behind-end : tie.Need-part-fault-behind-end
 part-fault-behind-end c = rw (c .before .layout2 .given .1) at (c .before .before .before .before .pre)
 
--- src/add.rt:101:13
 fault-behind-requires : tie.Need-fault-behind-requires
 fault-behind-requires c κs = search needs
 
--- src/add.rt:109:14
 enum-told-2 : tie.Need-enum-told-2
 enum-told-2 c = search needs
 
--- src/add.rt:84:1
 returns : tie.Need-returns
 unfolding faultAfter
 returns c = rw (c .before .layout .given .1) (refl, tt)
 
--- src/add.rt:84:1
 returns-2 : tie.Need-returns-2
 unfolding faultAfter
 returns-2 c = rw (c .enum-told .given .1) (refl, tt)
 
--- src/add.rt:84:1
 returns-3 : tie.Need-returns-3
 returns-3 c = after-messages (c .before .before .before .before .before .before .args .entries .now) (c .before .before .before .before .before .before .args .destination) (c .before .before .before .before .before .before .args .len) (c .before .before .before .before .before .before .args .message) (c .before .before .before .layout2 .given .1) (c .fault-behind .ensures)
 
--- src/add.rt:84:1
 returns-4 : tie.Need-returns-4
 unfolding faultAfter
 returns-4 c = rw (c .enum-told2 .given .1) (refl, tt)

@@ -3,31 +3,24 @@ use Rattle.writer.proofs.add.node_fault.Statement.{statement}
 use Rattle.writer.proofs.add.node_fault.Tie as tie
 use Rattle.writer.proofs.AnswerLaws.{node-seen, node-new, no-node}
 
--- src/add.rt:35:11
 node-of-range-requires : tie.Need-node-of-range-requires
 node-of-range-requires c κs = search needs
 
--- src/add.rt:36:25
 enum-known-b : tie.Need-enum-known-b
 enum-known-b c = search needs
 
--- src/add.rt:37:16
 seen-requires : tie.Need-seen-requires
 seen-requires c κs = search needs
 
--- src/add.rt:43:30
 enum-told : tie.Need-enum-told
 enum-told c = search needs
 
--- src/add.rt:32:1
 returns : tie.Need-returns
 returns c = node-seen (c .before .before .before .before .before .before .before .args .entries .now) (c .before .before .before .before .before .before .before .args .first) (c .before .before .before .before .before .before .before .args .last) (c .before .before .before .before .before .node-of-range .ensures) (c .before .before .before .b .given .1) (c .before .seen .ensures) (c .if1 .taken)
 
--- src/add.rt:32:1
 returns-2 : tie.Need-returns-2
 returns-2 c = node-new (c .before .before .before .before .before .before .before .args .entries .now) (c .before .before .before .before .before .before .before .args .first) (c .before .before .before .before .before .before .before .args .last) (c .before .before .before .before .before .node-of-range .ensures) (c .before .before .before .b .given .1) (c .before .seen .ensures) (c .if1 .left)
 
--- src/add.rt:32:1
 returns-3 : tie.Need-returns-3
 returns-3 c = no-node (c .before .before .before .before .args .entries .now) (c .before .before .before .before .args .first) (c .before .before .before .before .args .last) (c .before .before .node-of-range .ensures) (c .enum-told .given .1)
 

@@ -2,11 +2,9 @@ use Rattle.writer.proofs.add.range_fault.Statement.{statement}
 use Rattle.writer.proofs.add.range_fault.Tie as tie
 use borrow.Author.Tests.{lt-ltb, le-ltb}
 
--- src/add.rt:26:9
 returns : tie.Need-returns
 returns c = simp (lt-ltb _ _ (c .if1 .taken))
 
--- src/add.rt:22:1
 returns-2 : tie.Need-returns-2
 returns-2 c = simp (le-ltb _ _ (c .if1 .left))
 

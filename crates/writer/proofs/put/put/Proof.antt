@@ -1,5 +1,6 @@
 use borrow.Author.Needs.{needs}
-use Rattle.writer.specs.Message.{bytesOf, writable, sizeOf}
+use Rattle.writer.specs.Message.{bytesOf, writable}
+use Rattle.writer.specs.Steps.{sizeOf}
 use Rattle.writer.proofs.SizeLaws.{lies-in, data-in}
 use Rattle.writer.proofs.put.put.Statement.{statement}
 use Rattle.writer.proofs.put.put.Tie as tie

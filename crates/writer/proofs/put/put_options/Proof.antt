@@ -1,6 +1,7 @@
 use borrow.Author.Needs.{needs}
 use Rattle.wire.proofs.PlacedLaws.{placed-none}
-use Rattle.writer.specs.Message.{optionBytes, writableOptions, optionSpan}
+use Rattle.writer.specs.Message.{optionBytes, writableOptions}
+use Rattle.writer.specs.Steps.{optionSpan}
 use Rattle.writer.proofs.SizeLaws.{lies-in}
 use Rattle.writer.proofs.put.put_options.Statement.{statement}
 use Rattle.writer.proofs.put.put_options.Tie as tie

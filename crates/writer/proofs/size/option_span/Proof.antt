@@ -1,5 +1,5 @@
 use borrow.Author.Needs.{needs}
-use Rattle.writer.specs.Message.{optionSpan}
+use Rattle.writer.specs.Steps.{optionSpan}
 use Rattle.writer.proofs.size.option_span.Statement.{statement}
 use Rattle.writer.proofs.size.option_span.Tie as tie
 

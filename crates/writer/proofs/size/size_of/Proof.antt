@@ -1,6 +1,6 @@
 use borrow.Author.Needs.{needs}
 use native.Mathlib.Omega.{arith}
-use Rattle.writer.specs.Message.{sizeOf}
+use Rattle.writer.specs.Steps.{sizeOf}
 use Rattle.writer.proofs.SizeLaws.{data-in}
 use Rattle.writer.proofs.size.size_of.Statement.{statement}
 use Rattle.writer.proofs.size.size_of.Tie as tie

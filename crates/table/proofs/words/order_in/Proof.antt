@@ -1,0 +1,16 @@
+use Rattle.table.proofs.OrderLaws.{order-read}
+use borrow.Author.Needs.{needs}
+use Rattle.table.proofs.words.order_in.Statement.{statement}
+use Rattle.table.proofs.words.order_in.Tie as tie
+
+root-in-requires : tie.Need-root-in-requires
+root-in-requires c κs = search needs
+
+length-in-requires : tie.Need-length-in-requires
+length-in-requires c κs = search needs
+
+returns : tie.Need-returns
+returns c = order-read _ (c .before .root-in .ensures) (c .length-in .ensures)
+
+pub order-in-spec : {M : Type 1} → statement M
+order-in-spec = tie.close (tie.spec root-in-requires length-in-requires returns)

@@ -1,0 +1,15 @@
+-- What the code's loops list, height by height. Assumes nothing.
+use Prim.Native.Nat.{ℕ, zero, suc}
+use mathlib.Core.List.{List, [], _++_}
+use Rattle.tree.specs.Node.{Node}
+use Rattle.tree.specs.Steps.{peakTurn, siblingTurn}
+
+-- The peaks of heights below h.
+unfoldable pub peaksBelow : ℕ → ℕ → List Node
+peaksBelow N zero = []
+peaksBelow N (suc h) = peakTurn N h ++ peaksBelow N h
+
+-- What goes out with chunk c, of heights below h: at each height the sibling first and then the peak.
+unfoldable pub sentBelow : ℕ → ℕ → ℕ → List Node
+sentBelow N c zero = []
+sentBelow N c (suc h) = siblingTurn N c h ++ (peakTurn N h ++ sentBelow N c h)
