@@ -91,11 +91,6 @@ impl Call {
         matches!(self, Call::Begin { .. } | Call::Add { .. })
     }
 
-    /// Whether it is lent a state that it may change.
-    pub fn changes_state(&self) -> bool {
-        !self.composes() && !matches!(self, Call::Write { .. } | Call::Ask)
-    }
-
     /// Gives it to the proved code.
     pub fn to_proved(&self, state: &mut [u32], rooms: &mut Rooms) -> Told {
         match self {

@@ -79,13 +79,21 @@ impl Both {
         }
     }
 
-    /// What differs after a call that was done: the words of a new state, and
-    /// the rooms. Writing and asking leave the words as they are, also those
-    /// that no call writes.
+    /// What differs after a call that was done: the state's words, and the
+    /// rooms. A start and a building write all of the words; any other call
+    /// those of the rows that it changes, and leaves the others as they are, also
+    /// those that no call writes.
     fn after_done(&self, before: &Both, call: &Call) -> Vec<String> {
         let mut wanted = before.words.clone();
-        if call.changes_state() {
-            wanted[..STATE_WORDS].copy_from_slice(&words_of(&self.state));
+        let new = words_of(&self.state);
+        if call.starts() {
+            wanted[..STATE_WORDS].copy_from_slice(&new);
+        }
+        for i in 0..CHANNELS {
+            if self.state.rows[i] != before.state.rows[i] {
+                let at = ROWS + 4 * i;
+                wanted[at..at + 4].copy_from_slice(&new[at..at + 4]);
+            }
         }
         let mut differing = differences(&self.rooms, &self.second);
         differing.extend(difference("state", &self.words, &wanted));
@@ -149,7 +157,12 @@ impl Both {
         self.words[VERSION] == THIS_VERSION
     }
 
-    /// Whether a call would write the state in the words that it has.
+    /// The words of the state, and what stands behind it.
+    pub fn words(&self) -> &[u32] {
+        &self.words
+    }
+
+    /// Whether the words are those that calls write for such a state.
     pub fn is_canonical(&self) -> bool {
         self.words[..STATE_WORDS] == words_of(&self.state)
     }

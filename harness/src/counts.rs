@@ -38,9 +38,9 @@ pub struct Counts {
     pub short: Numbers,
     /// Where the state was of another version.
     pub versions: Numbers,
-    /// How often a chunk was written, and how often it was asked, in a state of
-    /// words that no call writes.
-    pub uncanonical: [usize; 2],
+    /// How often a channel was opened, a datagram taken in, a chunk written, and
+    /// how often it was asked, in a state of words that no call writes.
+    pub uncanonical: [usize; 4],
     /// How often a channel was opened.
     pub opened: usize,
     /// How often a chunk was stored, and how often a held one came again.
@@ -71,8 +71,10 @@ impl Counts {
             count(&mut self.versions, call, number);
         } else if !canonical && number == 0 {
             match call {
-                Call::Write { .. } => self.uncanonical[0] += 1,
-                Call::Ask => self.uncanonical[1] += 1,
+                Call::Open { .. } => self.uncanonical[0] += 1,
+                Call::Take { .. } => self.uncanonical[1] += 1,
+                Call::Write { .. } => self.uncanonical[2] += 1,
+                Call::Ask => self.uncanonical[3] += 1,
                 _ => {}
             }
         }
@@ -119,7 +121,8 @@ impl fmt::Display for Counts {
         table(f, "all", &self.numbers)?;
         table(f, "the state room too short", &self.short)?;
         table(f, "a state of another version", &self.versions)?;
-        let [written, asked] = self.uncanonical;
+        let [opened, taken, written, asked] = self.uncanonical;
+        write!(f, "{opened} channels opened, {taken} datagrams taken in, ")?;
         write!(f, "{written} chunks written, {asked} times asked, ")?;
         writeln!(f, "in a state of words that no call writes")?;
         let (opened, stored, again) = (self.opened, self.stored, self.again);

@@ -75,7 +75,7 @@ fn random_lists() {
     demand("too short", &counts.short, &OF_SHORT, OFTEN);
     demand("versions", &counts.versions, &OF_VERSIONS, IN_ODD_STATES);
     let Counts {
-        uncanonical: [written, asked],
+        uncanonical,
         opened,
         stored,
         again,
@@ -84,7 +84,7 @@ fn random_lists() {
         by_peer,
         ..
     } = counts;
-    assert!(written.min(asked) >= IN_ODD_STATES);
+    assert!(uncanonical.iter().all(|&times| times >= IN_ODD_STATES));
     assert!(opened.min(stored).min(again) >= OFTEN);
     assert!(own.min(chunks).min(by_peer) >= OFTEN);
 }

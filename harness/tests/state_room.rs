@@ -4,7 +4,7 @@
 
 use harness::calls::Call;
 use harness::channels::{Both, LENGTH, ROWS, VERSION};
-use harness::packets::{datagram, fixed, handshake, ranged, HAVE};
+use harness::packets::{datagram, fixed, handshake, ranged, CHOKE, HAVE, UNCHOKE};
 use harness::packs::Pack;
 use harness::random::Random;
 use harness::rooms::Rooms;
@@ -124,25 +124,36 @@ fn a_state_of_another_version_has_no_order() {
     }
 }
 
-/// Writing and asking leave the state's words, also where other calls write them
-/// anew.
+/// A call writes the words of the rows that it changes, and no others: words that
+/// no call writes stay where the row stays as it is.
 #[test]
 fn words_that_no_call_writes() {
-    let (_, mut store) = whole();
+    let (pack, mut store) = whole();
+    // A free row with IDs in it, and an open one whose choke mark is clear.
+    let (free, mark) = ([3, 8, 9, 7], 2);
     store.change(|state, _| {
-        state[ROWS + 4..][..4].copy_from_slice(&[3, 8, 9, 7]);
-        state[ROWS + 3] = 2;
+        state[ROWS + 4..][..4].copy_from_slice(&free);
+        state[ROWS + 3] = mark;
     });
-    let [open, take, write, ask] = running();
-    for call in [write, ask] {
-        assert_eq!(store.call("odd words", &call).number, 0);
-        assert!(!store.is_canonical(), "{call}");
-    }
-    for call in [open, take] {
+    let left = |call: &Call| {
         let mut changed = store.clone();
-        assert_eq!(changed.call("odd words", &call).number, 0);
-        assert!(changed.is_canonical(), "{call}");
+        assert_eq!(changed.call("odd words", call).number, 0, "{call}");
+        let words = changed.words();
+        (words[ROWS + 3] == mark, words[ROWS + 4..][..4] == free)
+    };
+    let [open, take_have, write, ask] = running();
+    for call in [take_have, write, ask] {
+        assert_eq!(left(&call), (true, true), "{call}");
     }
+    // The lowest free row is the one with the odd words.
+    assert_eq!(left(&open), (true, false));
+    let message = |kind: u8| take(&datagram(CHANNEL, &[vec![kind]]));
+    assert_eq!(left(&message(CHOKE)), (false, true));
+    assert_eq!(left(&message(UNCHOKE)), (true, true));
+    let again = datagram(CHANNEL, &[handshake(9, &fixed(pack.built.root()))]);
+    assert_eq!(left(&take(&again)), (true, true));
+    let closing = datagram(CHANNEL, &[handshake(0, &[0xff])]);
+    assert_eq!(left(&take(&closing)), (false, true));
 }
 
 /// A length that no order has is told by the calls on a running store, too.

@@ -1,7 +1,7 @@
 //! The calls of the loader's interface on the longest pack: building it, taking
 //! in its chunks, with all hashes and with the least, and again when they are
 //! held; writing each chunk; and datagrams that do next to nothing, which show
-//! what the state costs that is decoded and encoded.
+//! what a call costs at the least.
 
 use crate::jobs::{any_order, build, take, write, written, Ready, Task, CHANNEL};
 use harness::bench::{self, Unit, NAMES};
