@@ -100,7 +100,11 @@ size_t ppspp_peer_words(uint32_t n);
  *                     with 12, until it is started or built.
  *   words 1 to 8      the root, its bytes in groups of four, the first of them in the high bits
  *   word 9            the length
- *   words 10 to 73    16 rows of four: phase, our channel's ID, the peer's, and 1 where the peer has choked us
+ *   words 10 to 73    16 rows of four: phase, our channel's ID, the peer's, and 1 where the peer has choked us, any
+ *                     other number being read as 0
+ *
+ * A start or a build writes all of these words. Any other call writes at most the four words of one row, and those only
+ * if the row is another one then; it leaves the rest, also words that no call writes.
  *
  * In every bit row, bit i is bit i % 32 of word i / 32, the low bit first. The rooms has and wants are 16 rows of
  * PPSPP_MAP_WORDS(n) words each, one for each row of the table.
