@@ -1,7 +1,9 @@
 -- What the proofs of several functions cite.
 mod WordLaws
+mod MaskLaws
 mod RowLaws
 mod RunLaws
+mod FillLaws
+mod PartLaws
 mod CountLaws
 pub mod Promise
-pub mod ClearLaws

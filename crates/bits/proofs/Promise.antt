@@ -8,7 +8,7 @@ use mathlib.Core.List.{List}
 use mathlib.Core.Bool.{true, false}
 use lib.ListN.{length, getD}
 use Rattle.bits.proofs.RowLaws as row
-use Rattle.bits.proofs.ClearLaws.{length-words-run, words-run-in, words-run-out, cleared-before, cleared-in}
+use Rattle.bits.proofs.FillLaws.{length-fill, fill-out, cleared-in, cleared-bit, cleared-bit-out}
 use Rattle.bits.proofs.RunLaws.{setting, clearing, length-run, run-in, run-out}
 use Rattle.bits.proofs.CountLaws as counting
 pub use Rattle.bits.specs.Bits.{bitAt, setBit, clearBit, setRange, clearRange, clearWords, one, countBits, rowWords}
@@ -86,17 +86,17 @@ bitAt-clearRange-out ws a b j n = run-out _ _ clearing (b - a) a ws j (λ h l. n
 -- Clearing words keeps the row's length.
 pub length-clearWords : (ws : List ℕ) (a b : ℕ) → length (clearWords ws a b) ≡ length ws
 unfolding clearWords
-length-clearWords ws a b = length-words-run (b - a) a ws
+length-clearWords ws a b = length-fill 0 (b - a) a ws
 
 -- Clearing words clears each bit of them.
 pub bitAt-clearWords-in : (ws : List ℕ) (a b j : ℕ) → 32 * a ≤ j → j < 32 * b → bitAt (clearWords ws a b) j ≡ false
 unfolding clearWords
-bitAt-clearWords-in ws a b j h l = words-run-in (b - a) a ws j h (omega arith)
+bitAt-clearWords-in ws a b j h l = cleared-bit (b - a) a ws j h (omega arith)
 
 -- Clearing words leaves the bits outside them.
 pub bitAt-clearWords-out : (ws : List ℕ) (a b j : ℕ) → (32 * a ≤ j → j < 32 * b → ⊥) → bitAt (clearWords ws a b) j ≡ bitAt ws j
 unfolding clearWords
-bitAt-clearWords-out ws a b j n = words-run-out (b - a) a ws j (λ h l. n h (omega arith))
+bitAt-clearWords-out ws a b j n = cleared-bit-out (b - a) a ws j (λ h l. n h (omega arith))
 
 -- Word by word: those cleared are 0, and the others stay.
 pub clearWords-in : (ws : List ℕ) (a b i : ℕ) → a ≤ i → i < b → getD (clearWords ws a b) i 0 ≡ 0
@@ -105,7 +105,7 @@ clearWords-in ws a b i h l = cleared-in (b - a) a ws i h (omega arith)
 
 pub clearWords-before : (ws : List ℕ) (a b i : ℕ) → i < a → getD (clearWords ws a b) i 0 ≡ getD ws i 0
 unfolding clearWords
-clearWords-before ws a b i h = cleared-before (b - a) a ws i h
+clearWords-before ws a b i h = fill-out 0 (b - a) a ws i (λ p q. omega arith)
 
 -- ---- how many
 

@@ -1,6 +1,5 @@
 -- One bit of a row: what setting or clearing it does to that bit, to the others and to the row's length. Assumes nothing.
 use Prim.Native.Nat.{ℕ, _-_, _*_, _/_, _%_, _^_, _≤_, _<_}
-use native.Mathlib.Nat.{one-mul, mod-eq-of-lt, mod-lt, zero-lt-suc}
 use native.Mathlib.Omega.{arith}
 use native.Mathlib.Decide.{decLt, ℕ-discrete}
 use mathlib.Core.Path.{_≡_, refl, ap}
@@ -10,10 +9,9 @@ use mathlib.Core.Bool.{true, false}
 use lib.ListN.{length, getD, set, length-set, List·getD-eq-default}
 use lib.Seq.{getD-set-same, getD-set-other, set-out}
 use lib.Dec.{eqb}
-use lib.Pow.{pow-lt}
 use lib.Bits.{bitAnd, bitOr, and-mask}
 use Rattle.bits.specs.Bits.{bit, bitAt, withBit, withoutBit, setBit, clearBit}
-use Rattle.bits.proofs.WordLaws.{bit-of-zero, withBit-same, withBit-other, withoutBit-same, withoutBit-other}
+use Rattle.bits.proofs.WordLaws.{shl-one, bit-of-zero, withBit-same, withBit-other, withoutBit-same, withoutBit-other}
 
 -- ---- what the code computes where the row has the word
 
@@ -21,17 +19,13 @@ pub test-is : (ws : List ℕ) (i : ℕ) → eqb (bitAnd (getD ws (i / 32) 0 / 2 
 unfolding bitAt bit
 test-is ws i = rw (and-mask (getD ws (i / 32) 0 / 2 ^ (i % 32)) 1)
 
--- The mask of one bit.
-mask : (i : ℕ) → 1 * 2 ^ (i % 32) % 2 ^ 32 ≡ 2 ^ (i % 32)
-mask i = rw one-mul (mod-eq-of-lt (pow-lt (mod-lt i (zero-lt-suc 31))))
-
 pub set-is : (ws : List ℕ) (i : ℕ) → set ws (i / 32) (bitOr (getD ws (i / 32) 0) (1 * 2 ^ (i % 32) % 2 ^ 32)) ≡ setBit ws i
 unfolding setBit withBit
-set-is ws i = rw mask
+set-is ws i = rw (shl-one 32 (i % 32) (omega arith))
 
 pub clear-is : (ws : List ℕ) (i : ℕ) → set ws (i / 32) (bitAnd (getD ws (i / 32) 0) (2 ^ 32 - 1 - 1 * 2 ^ (i % 32) % 2 ^ 32)) ≡ clearBit ws i
 unfolding clearBit withoutBit
-clear-is ws i = rw mask
+clear-is ws i = rw (shl-one 32 (i % 32) (omega arith))
 
 -- ---- past the row
 

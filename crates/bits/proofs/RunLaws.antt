@@ -1,6 +1,6 @@
 -- A run of bits, for any change of one bit; setting and clearing are the two. Assumes nothing.
 use Prim.Native.Nat.{ℕ, zero, suc, _+_, _-_, _*_, _≤_, _<_}
-use native.Mathlib.Nat.{sub-self}
+use native.Mathlib.Nat.{add-suc, add-zero, add-assoc}
 use native.Mathlib.Omega.{arith}
 use native.Mathlib.Decide.{ℕ-discrete}
 use mathlib.Core.Path.{_≡_, refl, _∙_}
@@ -44,21 +44,32 @@ module _ (f : List ℕ → ℕ → List ℕ) (v : Bool) (c : Change f v) where
   run-out (suc n) a ws j h =
       c .other (run f n a ws) (a + n) j (λ e. h (omega arith) (omega arith)) ∙ run-out n a ws j (λ p q. h p (omega arith))
 
--- ---- the loop that makes a run
+-- ---- from one place up to another
 
-pub run-none : (f : List ℕ → ℕ → List ℕ) (a : ℕ) (ws : List ℕ) → ws ≡ run f (a - a) a ws
+-- Two runs, one behind the other.
+pub run-append : (f : List ℕ → ℕ → List ℕ) (m n a : ℕ) (ws : List ℕ)
+    → run f n (a + m) (run f m a ws) ≡ run f (m + n) a ws
 unfolding run
-run-none f a ws = rw (sub-self a)
+run-append f m zero a ws = rw add-zero
+run-append f m (suc n) a ws = rw (add-suc m n, run-append f m n a ws, add-assoc a m n)
 
-module _ (f : List ℕ → ℕ → List ℕ) (a i : ℕ) (ws : List ℕ) where
-  -- One turn changes bit i.
-  pub run-turn : {us vs : List ℕ} → a ≤ i → us ≡ run f (i - a) a ws → vs ≡ f us i → vs ≡ run f (i + 1 - a) a ws
+module _ (f : List ℕ → ℕ → List ℕ) (a b : ℕ) (ws : List ℕ) where
+  pub run-none : b ≤ a → ws ≡ run f (b - a) a ws
   unfolding run
-  run-turn h e g =
-      let more : i + 1 - a ≡ suc (i - a) = omega arith in
-      let at : a + (i - a) ≡ i = omega arith in
-      rw (more, at, ← e) g
+  run-none h = let z : b - a ≡ 0 = omega arith in rw z
 
-  -- The loop ended at b, or had no turn.
-  pub run-end : (b : ℕ) {us : List ℕ} → i - a ≤ b - a → b ≤ i → us ≡ run f (i - a) a ws → us ≡ run f (b - a) a ws
-  run-end b h l e = let k : b - a ≡ i - a = omega arith in rw k e
+  -- From a up to b, then from b up to c.
+  pub run-join : (c : ℕ) {us vs : List ℕ} → a ≤ b → b ≤ c
+      → us ≡ run f (b - a) a ws → vs ≡ run f (c - b) b us → vs ≡ run f (c - a) a ws
+  run-join c h l e g =
+      let more : c - a ≡ b - a + (c - b) = omega arith in
+      let at : a + (b - a) ≡ b = omega arith in
+      rw (more, ← run-append f (b - a) (c - b) a ws, at, ← e) g
+
+  -- From a up to b, then at b: a turn of a loop.
+  pub run-turn : {us : List ℕ} → a ≤ b → us ≡ run f (b - a) a ws → f us b ≡ run f (b + 1 - a) a ws
+  unfolding run
+  run-turn h e =
+      let more : b + 1 - a ≡ suc (b - a) = omega arith in
+      let at : a + (b - a) ≡ b = omega arith in
+      rw (more, at, ← e)

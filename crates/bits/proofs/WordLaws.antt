@@ -1,7 +1,7 @@
 -- The bits of one word: of or, and, complement and a power of two, then of a word with a bit set and with it clear.
 -- Assumes nothing.
-use Prim.Native.Nat.{ℕ, zero, suc, _-_, _/_, _%_, _^_, _<_}
-use native.Mathlib.Nat.{mod-lt, zero-lt-suc, div-one}
+use Prim.Native.Nat.{ℕ, zero, suc, _-_, _*_, _/_, _%_, _^_, _<_}
+use native.Mathlib.Nat.{one-mul, mod-eq-of-lt, mod-lt, zero-lt-suc, div-one}
 use native.Mathlib.Numerals.{one-add}
 use native.Mathlib.Omega.{arith}
 use mathlib.Core.Path.{_≡_, refl, sym, ap, _∙_}
@@ -10,25 +10,29 @@ use lib.Pow.{pow-lt, shr-shr}
 use lib.Bits.{bitAnd, bitOr, and-shr, or-shr, and-mod, or-mod, or-zero-r, and-zero-r}
 use Rattle.bits.specs.Bits.{bit, withBit, withoutBit}
 
-bit-lt : (w k : ℕ) → bit w k < 2
+pub bit-lt : (w k : ℕ) → bit w k < 2
 unfolding bit
 bit-lt w k = mod-lt (w / 2 ^ k) (zero-lt-suc 1)
 
+-- One shifted by less than the width, as the code has it.
+pub shl-one : (n k : ℕ) → k < n → 1 * 2 ^ k % 2 ^ n ≡ 2 ^ k
+shl-one n k h = rw one-mul (mod-eq-of-lt (pow-lt h))
+
 -- ---- bit by bit
 
-bit-low : (w : ℕ) → bit w 0 ≡ w % 2
+pub bit-low : (w : ℕ) → bit w 0 ≡ w % 2
 unfolding bit
 bit-low w = rw div-one
 
-bit-suc : (w k : ℕ) → bit w (suc k) ≡ bit (w / 2) k
+pub bit-suc : (w k : ℕ) → bit w (suc k) ≡ bit (w / 2) k
 unfolding bit
 bit-suc w k = ap (λ (n : ℕ). n % 2) (ap (λ (m : ℕ). w / 2 ^ m) (sym (one-add k)) ∙ sym (shr-shr w 1 k))
 
-bit-or : (a b k : ℕ) → bit (bitOr a b) k ≡ bitOr (bit a k) (bit b k)
+pub bit-or : (a b k : ℕ) → bit (bitOr a b) k ≡ bitOr (bit a k) (bit b k)
 unfolding bit
 bit-or a b k = rw or-shr (or-mod (a / 2 ^ k) (b / 2 ^ k) 1)
 
-bit-and : (a b k : ℕ) → bit (bitAnd a b) k ≡ bitAnd (bit a k) (bit b k)
+pub bit-and : (a b k : ℕ) → bit (bitAnd a b) k ≡ bitAnd (bit a k) (bit b k)
 unfolding bit
 bit-and a b k = rw and-shr (and-mod (a / 2 ^ k) (b / 2 ^ k) 1)
 
@@ -51,7 +55,7 @@ bit-pow-other (suc k) zero n = bit-low (2 ^ suc k) ∙ omega arith
 bit-pow-other (suc k) (suc j) n = bit-suc (2 ^ suc k) j ∙ rw half (bit-pow-other k j (λ e. n (ap suc e)))
 
 -- The complement in m bits has the other bit at each place.
-bit-not : (m a j : ℕ) → a < 2 ^ m → j < m → bit (2 ^ m - 1 - a) j ≡ 1 - bit a j
+pub bit-not : (m a j : ℕ) → a < 2 ^ m → j < m → bit (2 ^ m - 1 - a) j ≡ 1 - bit a j
 bit-not zero a j h l = absurd (omega arith)
 bit-not (suc m) a zero h l = rw (bit-low (2 ^ suc m - 1 - a), bit-low a) (omega arith)
 bit-not (suc m) a (suc j) h l =
@@ -60,7 +64,7 @@ bit-not (suc m) a (suc j) h l =
 
 -- ---- a word with a bit changed
 
-or-one : (x : ℕ) → x < 2 → bitOr x 1 ≡ 1
+pub or-one : (x : ℕ) → x < 2 → bitOr x 1 ≡ 1
 or-one zero h = refl
 or-one (suc zero) h = refl
 or-one (suc (suc x)) h = absurd (omega arith)

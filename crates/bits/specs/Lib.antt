@@ -1,2 +1,3 @@
 -- Rows of bits in lent words.
 pub mod Bits
+pub mod Steps

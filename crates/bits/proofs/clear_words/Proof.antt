@@ -1,25 +1,35 @@
-use lib.ListN.{length}
 use Prim.Native.Nat.{_-_, _≤_}
 use native.Mathlib.Omega.{arith}
+use mathlib.Core.Path.{_≡_, refl}
+use lib.ListN.{length, length-set}
 use borrow.Author.Needs.{needs}
-use mathlib.Core.Path.{_≡_, ap, _∙_}
 use Rattle.bits.specs.Bits.{run, clearWords}
-use Rattle.bits.proofs.RunLaws.{run-none, run-turn, run-end}
-use Rattle.bits.proofs.ClearLaws.{clearAt, length-words-run}
+use Rattle.bits.proofs.RunLaws.{run-none, run-turn}
+use Rattle.bits.proofs.FillLaws.{fillAt, fill-end}
 use Rattle.bits.proofs.clear_words.Statement.{statement}
 use Rattle.bits.proofs.clear_words.Tie as tie
 
 abbrev Inv-loop : tie.InvT-loop
-Inv-loop ws₀ from upto w₀ ws w = (from ≤ w) × (w - from ≤ upto - from) × (ws ≡ run clearAt (w - from) from ws₀)
+Inv-loop ws₀ from upto end w₀ ws w =
+    (length ws ≡ length ws₀)
+    × (from ≤ w)
+    × (w - from ≤ upto - from)
+    × (ws ≡ run (fillAt 0) (w - from) from ws₀)
 
 abbrev μ-loop : tie.MeasureT-loop
-μ-loop ws₀ from upto w₀ ws w = upto - w
+μ-loop ws₀ from upto end w₀ ws w = end - w
+
+least-requires : tie.Need-least-requires Inv-loop μ-loop
+least-requires c κs = search needs
 
 loop-holds : tie.Need-loop-holds Inv-loop μ-loop
-loop-holds c = (omega arith, omega arith, run-none clearAt (c .before .args .from) _)
+loop-holds c = (refl, omega arith, omega arith, run-none _ (c .before .before .args .from) _ _ (omega arith))
 
-clear-word-requires : tie.Need-clear-word-requires Inv-loop μ-loop
-clear-word-requires c κs = search needs
+mul-ws : tie.Need-mul-ws Inv-loop μ-loop
+mul-ws c = omega arith
+
+slice-write-ws : tie.Need-slice-write-ws Inv-loop μ-loop
+slice-write-ws c = omega arith
 
 add-w : tie.Need-add-w Inv-loop μ-loop
 add-w c = omega arith
@@ -29,15 +39,22 @@ loop-less c = omega arith
 
 loop-again : tie.Need-loop-again Inv-loop μ-loop
 loop-again c =
-    let l = c .before .before .before .before .before in
-    (omega arith, omega arith, run-turn clearAt _ (l .loop .w) _ (l .loop .inv .0) (l .loop .inv .2) (c .before .before .clear-word .ensures))
+    let l = c .before .loop in (
+      simp length-set (omega arith),
+      omega arith,
+      omega arith,
+      run-turn (fillAt 0) _ (l .w) _ (l .inv .1) (l .inv .3),
+    )
 
 same-length : tie.Need-same-length Inv-loop μ-loop
-same-length c = ap length (c .before .loop .inv .2) ∙ length-words-run _ _ _
+same-length c = omega arith
 
 returns : tie.Need-returns Inv-loop μ-loop
 unfolding clearWords
-returns c = run-end clearAt _ (c .before .loop .w) _ _ (omega arith) (omega arith) (c .before .loop .inv .2)
+returns c =
+    let l = c .before .loop in
+    let s = c .before .before .before .before .args in
+    fill-end 0 (s .from) (s .upto) (l .w) _ (l .inv .1) (l .inv .2) (omega arith) (l .inv .3)
 
 pub clear-words-spec : {M : Type 1} → statement M
 clear-words-spec =
@@ -45,8 +62,10 @@ clear-words-spec =
     (tie.spec
     Inv-loop
     μ-loop
+    least-requires
     loop-holds
-    clear-word-requires
+    mul-ws
+    slice-write-ws
     add-w
     loop-less
     loop-again
