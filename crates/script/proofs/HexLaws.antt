@@ -3,13 +3,14 @@ use Prim.Native.Nat.{ℕ, suc, _+_, _-_, _*_, _/_, _%_, _<_, _≤_}
 use native.Mathlib.Omega.{arith}
 use mathlib.Core.Path.{_≡_, refl}
 use mathlib.Core.List.{List, [], _∷_}
-use mathlib.Core.Bool.{true, false}
+use mathlib.Core.Bool.{Bool, true, false}
 use lib.ListN.{length, getD, set, take, drop, length-drop}
 use lib.Seq.{sets, take-all}
 use lib.Dec.{ltb}
-use borrow.Author.Tests.{lt-ltb, le-ltb, ltb-true}
-use Rattle.base.proofs.PickLaws.{both-true}
-use Rattle.script.specs.Hex.{between, digitOf, digitFor, allDigits, decoded, encoded}
+use borrow.Author.Tests.{lt-ltb, le-ltb}
+use Rattle.base.specs.Pick.{pick}
+use Rattle.script.specs.Hex.{between, digitOf, digitFor, allDigits, encoded}
+use Rattle.script.specs.Steps.{paired}
 
 -- The part of a slice from an index on, as the code has it.
 pub part : (n : ℕ) (t : List ℕ) → take (length t - n) (drop n t) ≡ drop n t
@@ -69,33 +70,33 @@ module _ (x : ℕ) where
 
 -- ---- digits in a row
 
-pub digits-end : (r : List ℕ) → length r ≤ 0 → allDigits r ≡ true
+-- All so far, and all from here on: the first two, and the others.
+pub digits-two : (r : List ℕ) (all : Bool) {x y : ℕ} {a b : Bool} {s : List ℕ} → 1 < length r
+    → x ≡ digitOf (getD r 0 0) → y ≡ digitOf (getD r 1 0) → s ≡ drop 2 r
+    → a ≡ pick (ltb x 16) all false → b ≡ pick (ltb y 16) a false
+    → pick b (allDigits s) false ≡ pick all (allDigits r) false
 unfolding allDigits
-digits-end [] h = refl
-digits-end (c ∷ s) h = absurd (omega arith)
+digits-two [] all h e f g i j = absurd (omega arith)
+digits-two (c ∷ []) all h e f g i j = absurd (omega arith)
+digits-two (c ∷ d ∷ s) all {x} {y} h e f g i j = rw (← e, ← f, g, j, i) (go (ltb x 16) (ltb y 16) all)
+  where
+    go : (m n all : Bool) → pick (pick n (pick m all false) false) (allDigits s) false
+        ≡ pick all (pick m (pick n (allDigits s) false) false) false
+    go true true all = refl
+    go true false true = refl
+    go true false false = refl
+    go false true true = refl
+    go false true false = refl
+    go false false true = refl
+    go false false false = refl
 
--- The first character is no digit.
-pub digits-off : (r : List ℕ) → 0 < length r → 15 < digitOf (getD r 0 0) → allDigits r ≡ false
+-- None is left.
+pub digits-end : (r : List ℕ) (all : Bool) → length r ≤ 1 → length r % 2 ≡ 0 → all ≡ pick all (allDigits r) false
 unfolding allDigits
-digits-off [] h k = absurd (omega arith)
-digits-off (c ∷ s) h k = rw (le-ltb (digitOf c) 16 k)
-
--- It is one.
-pub digits-on : (r : List ℕ) → 0 < length r → digitOf (getD r 0 0) ≤ 15 → allDigits r ≡ allDigits (drop 1 r)
-unfolding allDigits
-digits-on [] h k = absurd (omega arith)
-digits-on (c ∷ s) h k = rw (lt-ltb (digitOf c) 16 (omega arith))
-
--- The first two of digits.
-pub digits-two : (r : List ℕ) → 1 < length r → allDigits r ≡ true
-    → (digitOf (getD r 0 0) < 16) × (digitOf (getD r 1 0) < 16) × (allDigits (drop 2 r) ≡ true)
-unfolding allDigits
-digits-two [] h e = absurd (omega arith)
-digits-two (c ∷ []) h e = absurd (omega arith)
-digits-two (c ∷ d ∷ s) h e =
-    let p = both-true (ltb (digitOf c) 16) (allDigits (d ∷ s)) e in
-    let q = both-true (ltb (digitOf d) 16) (allDigits s) (p .1) in
-    (ltb-true (digitOf c) 16 (p .0), ltb-true (digitOf d) 16 (q .0), q .1)
+digits-end [] true h e = refl
+digits-end [] false h e = refl
+digits-end (c ∷ []) all h e = absurd (omega arith)
+digits-end (c ∷ d ∷ s) all h e = absurd (omega arith)
 
 -- ---- bytes stored from a place of a room on
 
@@ -106,19 +107,20 @@ two : (n : ℕ) → n + 2 ≡ suc (suc n)
 two n = omega arith
 
 -- The byte of the first two digits, then the others.
-pub decode-two : (r room : List ℕ) (at : ℕ) {x y : ℕ} {s : List ℕ} → 1 < length r → x ≡ digitOf (getD r 0 0) → y ≡ digitOf (getD r 1 0) → s ≡ drop 2 r
-    → sets (set room at (x * 16 + y)) (at + 1) (decoded s) ≡ sets room at (decoded r)
-unfolding decoded
-decode-two [] room at h e f g = absurd (omega arith)
-decode-two (c ∷ []) room at h e f g = absurd (omega arith)
-decode-two (c ∷ d ∷ s) room at h e f g = rw (e, f, g, one at)
+pub pair-two : (r room : List ℕ) (at : ℕ) {x y : ℕ} {s : List ℕ} → 1 < length r
+    → x ≡ digitOf (getD r 0 0) → y ≡ digitOf (getD r 1 0) → s ≡ drop 2 r
+    → sets (set room at (x % 16 * 16 + y % 16)) (at + 1) (paired s) ≡ sets room at (paired r)
+unfolding paired
+pair-two [] room at h e f g = absurd (omega arith)
+pair-two (c ∷ []) room at h e f g = absurd (omega arith)
+pair-two (c ∷ d ∷ s) room at h e f g = rw (e, f, g, one at)
 
 -- No two are left.
-pub decode-end : (r room : List ℕ) (at : ℕ) → length r ≤ 1 → room ≡ sets room at (decoded r)
-unfolding decoded
-decode-end [] room at h = refl
-decode-end (c ∷ []) room at h = refl
-decode-end (c ∷ d ∷ s) room at h = absurd (omega arith)
+pub pair-end : (r room : List ℕ) (at : ℕ) → length r ≤ 1 → room ≡ sets room at (paired r)
+unfolding paired
+pair-end [] room at h = refl
+pair-end (c ∷ []) room at h = refl
+pair-end (c ∷ d ∷ s) room at h = absurd (omega arith)
 
 -- The two digits of a byte.
 pub encode-byte : (room : List ℕ) (at n : ℕ) {x y : ℕ} → x ≡ digitFor (n / 16) → y ≡ digitFor (n % 16)

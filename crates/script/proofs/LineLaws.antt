@@ -1,13 +1,13 @@
 -- Laws of lines: where the first ends, what is kept of it, and lines added to a room. Assumes nothing.
-use Prim.Native.Nat.{ℕ, zero, suc, _+_, _-_, _*_, _/_, _%_, _<_, _≤_, min}
+use Prim.Native.Nat.{ℕ, zero, suc, _+_, _-_, _*_, _/_, _%_, _<_, _≤_, min, compare·suc-suc}
 use native.Mathlib.Omega.{arith}
 use mathlib.Core.Path.{_≡_, refl, sym, ap, _∙_}
 use mathlib.Core.List.{List, [], _∷_, _++_}
 use mathlib.Core.Bool.{Bool, true, false}
-use lib.ListN.{length, getD, set, take, drop, length-set, length-append, length-take}
-use lib.Seq.{sets, drop-cons, drop-nil, take-nil, length-sets, length-take-le}
-use lib.Dec.{leb, eqb}
-use borrow.Author.Tests.{eq-eqb, ne-eqb, le-leb, lt-leb, leb-true, leb-false}
+use lib.ListN.{length, getD, set, take, drop, length-set, length-drop, length-append, length-take}
+use lib.Seq.{sets, drop-cons, drop-nil, drop-drop, take-nil, length-sets, length-take-le}
+use lib.Dec.{ltb, leb, eqb}
+use borrow.Author.Tests.{lt-ltb, ltb-false, eq-eqb, ne-eqb, le-leb, lt-leb, leb-true, leb-false}
 use Rattle.base.specs.Pick.{pick}
 use Rattle.script.specs.Hex.{encoded}
 use Rattle.script.specs.Lines.{beforeFeed, filled, fitting, kept}
@@ -41,6 +41,58 @@ module _ (s : List ℕ) (at : ℕ) where
   pub feed-on : at < length s → (getD s at 0 ≡ 10 → ⊥) → at + 1 + beforeFeed (drop (at + 1) s) ≡ at + beforeFeed (drop at s)
   unfolding beforeFeed
   feed-on h e = rw (drop-cons s at 0 h, ne-eqb (getD s at 0) 10 e, one at) (omega arith)
+
+-- Found before, or among those from here on: the first, or one of the others.
+pub found-one : (r : List ℕ) (found : Bool) {a : Bool} {s : List ℕ} → 0 < length r
+    → a ≡ pick (eqb (getD r 0 0) 10) true found → s ≡ drop 1 r
+    → pick a true (ltb (beforeFeed s) (length s)) ≡ pick found true (ltb (beforeFeed r) (length r))
+unfolding beforeFeed
+found-one [] found h e g = absurd (omega arith)
+found-one (c ∷ s) found h e g = rw (e, g) (go (eqb c 10) found)
+  where
+    go : (b found : Bool) → pick (pick b true found) true (ltb (beforeFeed s) (length s))
+        ≡ pick found true (ltb (pick b 0 (suc (beforeFeed s))) (suc (length s)))
+    go true true = refl
+    go true false = sym (lt-ltb 0 (suc (length s)) (omega arith))
+    go false true = refl
+    go false false = rw (compare·suc-suc (suc (beforeFeed s)) (length s))
+
+-- Nothing is left.
+pub found-end : (r : List ℕ) (found : Bool) → length r ≤ 0 → found ≡ pick found true (ltb (beforeFeed r) (length r))
+unfolding beforeFeed
+found-end [] true h = refl
+found-end [] false h = refl
+found-end (c ∷ s) found h = absurd (omega arith)
+
+-- Where no line feed is among the first n, the first stands behind them.
+feed-behind : (n : ℕ) (s : List ℕ) → n ≤ length s → n ≤ beforeFeed (take n s) → n + beforeFeed (drop n s) ≡ beforeFeed s
+unfolding beforeFeed
+feed-behind zero s h k = omega arith
+feed-behind (suc n) [] h k = absurd (omega arith)
+feed-behind (suc n) (c ∷ s) h k = go (eqb c 10) k (feed-behind n s (omega arith))
+  where
+    go : (b : Bool) → suc n ≤ pick b 0 (suc (beforeFeed (take n s)))
+        → (n ≤ beforeFeed (take n s) → n + beforeFeed (drop n s) ≡ beforeFeed s)
+        → suc n + beforeFeed (drop n s) ≡ pick b 0 (suc (beforeFeed s))
+    go true k rest = absurd (omega arith)
+    go false k rest = let e = rest (omega arith) in omega arith
+
+-- So it is with those behind a place, as the code has them.
+pub feed-clear : (s : List ℕ) (at n : ℕ) → at + n ≤ length s
+    → ltb (beforeFeed (take (at + n - at) (drop at s))) (length (take (at + n - at) (drop at s))) ≡ false
+    → at + n + beforeFeed (drop (at + n) s) ≡ at + beforeFeed (drop at s)
+feed-clear s at n h = rw (count, ← drop-drop n at s) clear
+  where
+    count : at + n - at ≡ n
+    count = omega arith
+
+    clear : ltb (beforeFeed (take n (drop at s))) (length (take n (drop at s))) ≡ false
+        → at + n + beforeFeed (drop n (drop at s)) ≡ at + beforeFeed (drop at s)
+    clear e =
+        let left : n ≤ length (drop at s) = omega (arith, length-drop at s) in
+        let k = ltb-false (beforeFeed (take n (drop at s))) (length (take n (drop at s))) e in
+        let f = feed-behind n (drop at s) left (omega (arith, length-take-le n (drop at s) left)) in
+        omega arith
 
 pub feed-nothing : beforeFeed [] ≡ 0
 unfolding beforeFeed

@@ -17,13 +17,13 @@ pub use Rattle.script.specs.Steps.{Framed, framed, frameSpec}
 pub use Rattle.script.specs.Answers.{answerLine, closingLine, lineSize, fits, appended}
 pub use Rattle.script.proofs.RoomLaws.{added, added-size, added-bound, Keeps, keeps-nothing, keeps-part}
 
--- In a room for the longest line, bytes are those of a frame, at the front of the room; else the room is as it was.
+-- In a room for the longest line, bytes are those of a frame, at the front of the room; none means that it is no frame.
 module _ (least most : ℕ) (line room : List ℕ) (wide : most / 2 ≤ length room) {left : List ℕ} where
   pub bytes-mean : {len : ℕ} → framed (Bytes len) left ≡ frameSpec least most line room
       → (isFrame least most line ≡ true) × (least / 2 ≤ len) × (len ≤ length left) × (take len left ≡ decoded line)
   bytes-mean = frames.bytes-mean least most line room wide
 
-  pub bad-means : framed Bad left ≡ frameSpec least most line room → (isFrame least most line ≡ false) × (left ≡ room)
+  pub bad-means : framed Bad left ≡ frameSpec least most line room → isFrame least most line ≡ false
   bad-means = frames.bad-means least most line room wide
 
 -- A line that is too long is no frame.

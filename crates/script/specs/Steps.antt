@@ -1,12 +1,12 @@
 -- Nothing of the papers: a frame read to a room. Assumes nothing.
-use Prim.Native.Nat.{ℕ, _/_}
-use mathlib.Core.List.{List}
+use Prim.Native.Nat.{ℕ, _+_, _*_, _/_, _%_}
+use mathlib.Core.List.{List, [], _∷_}
 use lib.Dec.{leb}
 use lib.ListN.{length}
 use lib.Seq.{sets}
 use Rattle.base.specs.Pick.{pick}
-use Rattle.script.specs.Hex.{decoded}
-use Rattle.script.specs.Frames.{isFrame}
+use Rattle.script.specs.Hex.{digitOf, allDigits}
+use Rattle.script.specs.Frames.{hasLength}
 use Rattle.script.specs.declared.frames.Frame.{Frame}
 use Rattle.script.specs.declared.frames.Frame.the-variants.{Bytes, Bad}
 
@@ -18,10 +18,18 @@ pub record Framed : Type 0 where
 abbrev pub framed : Frame → List ℕ → Framed
 framed f room = record { frame = f; room = room }
 
--- The bytes stand at the front of the room; a line that is no frame, or one for a larger room, leaves it as it is.
+-- What the characters of a line leave in a room, two a byte; one that is no digit counts as 0. Of digits it is `decoded`.
+unfoldable pub paired : List ℕ → List ℕ
+paired [] = []
+paired (c ∷ []) = []
+paired (c ∷ d ∷ s) = (digitOf c % 16 * 16 + digitOf d % 16) ∷ paired s
+
+-- The bytes stand at the front of the room, of a line with another character too; a line of another length, or one for
+-- a larger room, leaves it as it is.
 unfoldable pub frameSpec : (least most : ℕ) → List ℕ → List ℕ → Framed
 frameSpec least most line room =
-    pick (isFrame least most line)
-    (pick (leb (length line / 2) (length room)) (framed (Bytes (length line / 2)) (sets room 0 (decoded line)))
+    pick (hasLength least most (length line))
+    (pick (leb (length line / 2) (length room))
+    (framed (pick (allDigits line) (Bytes (length line / 2)) Bad) (sets room 0 (paired line)))
     (framed Bad room))
     (framed Bad room)

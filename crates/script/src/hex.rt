@@ -1,11 +1,14 @@
 // Hexadecimal digits: either case is read, lower case is written.
 ghost use mathlib.Core.Path.{_≡_};
-ghost use mathlib.Core.Bool.{true};
+ghost use mathlib.Core.Bool.{false};
 ghost use mathlib.Core.List.{[], _∷_};
 ghost use Prim.Native.Nat.{_+_, _≤_, _<_, _/_, _%_};
+ghost use lib.Dec.{ltb};
 ghost use lib.ListN.{length};
 ghost use lib.Seq.{sets};
-ghost use Rattle.script.specs.Hex.{digitOf, digitFor, allDigits, decoded, encoded};
+ghost use Rattle.base.specs.Pick.{pick};
+ghost use Rattle.script.specs.Hex.{digitOf, digitFor, allDigits, encoded};
+ghost use Rattle.script.specs.Steps.{paired};
 
 // The value of a digit, 16 for any other character.
 fn digit(c: u8) -> u8
@@ -32,33 +35,33 @@ fn digit(c: u8) -> u8
     16
 }
 
-// Whether every character is a digit.
-pub(crate) fn all_digits(s: &[u8]) -> bool
-    ensures { λ r. ⌜ r ≡ allDigits (now (s .entry)) ⌝ }
+// Whether all were digits so far, and this value is of one.
+fn still_all(all: bool, value: u8) -> bool
+    ensures { λ r. ⌜ r ≡ pick (ltb value 16) all false ⌝ }
 {
-    let mut rest = s;
-    while 0 < rest.len() {
-        if 15 < digit(rest[0]) {
-            return false;
-        }
-        rest = &rest[1..];
-    }
-    true
+    if value < 16 { all } else { false }
 }
 
-// The bytes of digits, two each, at the front of a room.
-pub(crate) fn decode(digits: &[u8], room: &mut [u8])
-    requires { ⌜ allDigits (now digits) ≡ true ⌝ }
+// The bytes of characters, two each, at the front of a room; whether all are digits. Nothing leaves the loop before its
+// end: so it is compiled without branches, for sixteen bytes at a time.
+pub(crate) fn decode(digits: &[u8], room: &mut [u8]) -> bool
+    requires { ⌜ length (now digits) % 2 ≡ 0 ⌝ }
     requires { ⌜ length (now digits) / 2 ≤ length (now room) ⌝ }
-    ensures { λ _. ⌜ now (room .exit) ≡ sets (now (room .entry)) 0 (decoded (now (digits .entry))) ⌝ }
+    ensures { λ r. ⌜ (r ≡ allDigits (now (digits .entry)))
+        × (now (room .exit) ≡ sets (now (room .entry)) 0 (paired (now (digits .entry)))) ⌝ }
 {
     let mut rest = digits;
     let mut at: usize = 0;
+    let mut all = true;
     while 1 < rest.len() {
-        room[at] = digit(rest[0]) * 16 + digit(rest[1]);
+        let high = digit(rest[0]);
+        let low = digit(rest[1]);
+        room[at] = high % 16 * 16 + low % 16;
+        all = still_all(still_all(all, high), low);
         rest = &rest[2..];
         at += 1;
     }
+    all
 }
 
 // The digit of a value.

@@ -1,13 +1,51 @@
 // Lines in the blocks that input comes in.
 ghost use mathlib.Core.Path.{_≡_};
-ghost use Prim.Native.Nat.{min};
+ghost use mathlib.Core.Bool.{true};
+ghost use Prim.Native.Nat.{_+_, min};
+ghost use lib.Dec.{ltb, eqb};
+ghost use lib.ListN.{length, drop};
+ghost use Rattle.base.specs.Pick.{pick};
 ghost use Rattle.script.specs.Lines.{filled, beforeFeed, kept};
+
+// Whether a line feed was found before, or this character is one.
+fn or_feed(found: bool, c: u8) -> bool
+    ensures { λ r. ⌜ r ≡ pick (eqb c 10) true found ⌝ }
+{
+    if c == b'\n' { true } else { found }
+}
+
+// Whether there is a line feed among characters. Nothing leaves the loop before its end, as in `hex::decode`.
+fn has_feed(part: &[u8]) -> bool
+    ensures { λ r. ⌜ r ≡ ltb (beforeFeed (now (part .entry))) (length (now (part .entry))) ⌝ }
+{
+    let mut rest = part;
+    let mut found = false;
+    while 0 < rest.len() {
+        found = or_feed(found, rest[0]);
+        rest = &rest[1..];
+    }
+    found
+}
+
+// How far no line feed stands at the front of a block, 32 characters at a time. The search goes on there.
+fn skip(block: &[u8]) -> usize
+    ensures { λ r. ⌜ r + beforeFeed (drop r (now (block .entry))) ≡ beforeFeed (now (block .entry)) ⌝ }
+{
+    let mut at: usize = 0;
+    while 32 <= block.len() - at {
+        if has_feed(&block[at..at + 32]) {
+            return at;
+        }
+        at += 32;
+    }
+    at
+}
 
 // How many characters stand before the first line feed, all where there is none.
 pub fn before_feed(block: &[u8]) -> usize
     ensures { λ r. ⌜ r ≡ beforeFeed (now (block .entry)) ⌝ }
 {
-    let mut at: usize = 0;
+    let mut at = skip(block);
     while at < block.len() {
         if block[at] == b'\n' {
             return at;

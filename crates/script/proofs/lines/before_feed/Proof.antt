@@ -14,8 +14,11 @@ Inv-loop block at₀ at = at + beforeFeed (drop at block) ≡ beforeFeed block
 abbrev μ-loop : tie.MeasureT-loop
 μ-loop block at₀ at = length block - at
 
+skip-requires : tie.Need-skip-requires Inv-loop μ-loop
+skip-requires c κs = search needs
+
 loop-holds : tie.Need-loop-holds Inv-loop μ-loop
-loop-holds c = omega arith
+loop-holds c = c .skip .ensures
 
 shared-slice-read-if1 : tie.Need-shared-slice-read-if1 Inv-loop μ-loop
 shared-slice-read-if1 c = search needs
@@ -41,6 +44,7 @@ before-feed-spec =
     (tie.spec
     Inv-loop
     μ-loop
+    skip-requires
     loop-holds
     shared-slice-read-if1
     returns
