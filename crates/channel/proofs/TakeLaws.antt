@@ -4,18 +4,20 @@ use native.Mathlib.Nat.{mul-le-mul-left}
 use native.Mathlib.Omega.{arith}
 use mathlib.Core.Path.{_≡_, refl, sym, ap, _∙_}
 use mathlib.Core.Logic.{_≢_}
-use mathlib.Core.Bool.{Bool, true, false}
+use mathlib.Core.Bool.{Bool, true, false, not, true≢false}
 use mathlib.Core.List.{List, []}
-use borrow.Author.Tests.{eqb-true}
-use lib.Dec.{eqb}
+use borrow.Author.Tests.{le-leb, lt-leb, not-true, not-false}
+use lib.Dec.{leb, eqb}
 use lib.ListN.{length, take, drop}
 use Rattle.bits.proofs.Promise.{rowWords, row-words}
-use Rattle.wire.proofs.Promise.{be32, placed, minSize, layoutOf, Says, layout-data, layout-entries, layout-passed, layout-told, length-told, entries-told, numberOf, checkedOf, checkSpec, entryWords}
+use Rattle.wire.proofs.Promise.{be32, placed, minSize, Checked, layoutOf, Says, layout-data, layout-entries, layout-passed, layout-told, length-told, entries-told, numberOf, checkedOf, checkSpec, entryWords, hasSize, size-refused, Fronted, front-layout, front-survey, noSurvey, surveyAll, surveySpec, survey-passed}
 use Rattle.wire.specs.declared.message.Options.{Options}
+use Rattle.wire.specs.declared.survey.Survey.{Survey}
+use Rattle.wire.specs.declared.pass.Front.{Front}
 use Rattle.wire.specs.declared.layout.Layout.{Layout}
 use Rattle.wire.specs.declared.layout.Layout.the-variants.{Fault, HandshakeAlone, Messages, MessagesAndData}
 use Rattle.writer.proofs.Promise.{within, readAll}
-use Rattle.effects.proofs.Promise.{anyPast, Peer, peerOf, effects, allQuiet, quiet-effects, keepalive-within}
+use Rattle.effects.proofs.Promise.{anyPast, Peer, peerOf, effects, past-survey, quiet-survey}
 use Rattle.replies.proofs.Promise.{ackReply}
 use Rattle.table.proofs.Promise.{rowCount, rowOf, rowAt, flag, putRow, orderIn, messagesAnswer, flag-same, put-row-same}
 use Rattle.table.specs.declared.rows.Row.{Row}
@@ -25,6 +27,8 @@ use Rattle.store.proofs.Promise.{earlier-not, Rooms, countOf, lengthAnswer, len
 use Rattle.channel.specs.World.{Channels, channelsOf, World, Out, outOf, beside, orderRoot, orderLength, chunkCount, tableRows, rowBit}
 use Rattle.channel.specs.Answers.{ownRoomsAnswer}
 use Rattle.channel.specs.Take.{rowFor, handshakeTaken, messagesNumber, withMark, affected, messagesTaken, delay, acknowledgement, replied, dataBy, storeOut, dataTaken, byLayout, takeSpec}
+use Rattle.channel.specs.Steps.{Ruled, ruledOf, ruledBy}
+use Rattle.channel.specs.declared.outcome.Outcome.{Outcome}
 use Rattle.base.proofs.OutLaws.{unless-not, unless-done}
 
 -- ---- the row that a datagram goes to
@@ -51,24 +55,19 @@ module _ (st : List ℕ) (s : List ℕ) {to k : ℕ} {alive : Bool} (te : to ≡
   unfolding messagesNumber
   messages-table d = table-number ∙ earlier-not (messagesAnswer (tableRows st) (be32 s 0) (eqb (length s) minSize)) _ (λ z. d (table-number ∙ z))
 
-  -- None, of a keepalive.
-  pub messages-keepalive : k ≡ 0 → alive ≡ true → 0 ≡ messagesNumber st s
-  unfolding messagesNumber
-  messages-keepalive z a = rw (sym table-number ∙ z, keepalive-within (chunkCount st) s (eqb-true (length s) minSize (sym ae ∙ a)))
-
-  module _ (z : k ≡ 0) {n : ℕ} {b : Bool} (ne : n ≡ chunkCount st) (be : b ≡ anyPast n (readAll s)) where
-    past-is : anyPast (chunkCount st) (readAll s) ≡ b
-    past-is = sym (be ∙ ap (λ (x : ℕ). anyPast x (readAll s)) ne)
+  module _ (z : k ≡ 0) (good : lengthAnswer (orderLength st) ≡ 0) {n : ℕ} {v : Survey} (ne : n ≡ chunkCount st) (ve : v ≡ surveyAll s) where
+    past-is : anyPast (chunkCount st) (readAll s) ≡ leb n (v .highest)
+    past-is = rw (ne, ve) (past-survey (chunkCount st) s (omega (arith, length-accepted (orderLength st) good .0)))
 
     -- 7.
-    pub messages-past : b ≡ true → 7 ≡ messagesNumber st s
+    pub messages-past : n ≤ v .highest → 7 ≡ messagesNumber st s
     unfolding messagesNumber
-    messages-past e = rw (sym table-number ∙ z, past-is ∙ e)
+    messages-past h = rw (sym table-number ∙ z, past-is ∙ le-leb n (v .highest) h)
 
     -- None.
-    pub messages-none : b ≡ false → 0 ≡ messagesNumber st s
+    pub messages-none : v .highest < n → 0 ≡ messagesNumber st s
     unfolding messagesNumber
-    messages-none e = rw (sym table-number ∙ z, past-is ∙ e)
+    messages-none h = rw (sym table-number ∙ z, past-is ∙ lt-leb n (v .highest) h)
 
 -- ---- their effects
 
@@ -116,11 +115,12 @@ pub affected-beside : (st st′ : List ℕ) (has wants h v reply s : List ℕ) �
 unfolding affected
 affected-beside st st′ has wants h v reply s e = ap (λ (ch : Channels). channelsOf (ch .state) (ch .has) (ch .wants) reply) e
 
--- Quiet messages leave the channels as they are.
-pub quiet-affected : (st : List ℕ) (has wants s : List ℕ) → allQuiet (readAll s) ≡ true → channelsOf st has wants [] ≡ affected (channelsOf st has wants []) s
+-- Messages without an effect leave the channels as they are.
+pub quiet-affected : (st : List ℕ) (has wants s : List ℕ) {v : Survey} → v ≡ surveyAll s → not (v .effective) ≡ true → channelsOf st has wants [] ≡ affected (channelsOf st has wants []) s
 unfolding affected
-quiet-affected st has wants s q =
-    rw (quiet-effects (rowBit (chunkCount st) (rowFor st s)) (readAll s) (peerOf has wants (rowAt (tableRows st) (rowFor st s) .choked)) q, put-row-same st (rowFor st s))
+quiet-affected st has wants s {v} e h =
+    let q : surveyAll s .effective ≡ false = ap (λ (x : Survey). x .effective) (sym e) ∙ not-true (v .effective) h in
+    rw (quiet-survey (rowBit (chunkCount st) (rowFor st s)) s (peerOf has wants (rowAt (tableRows st) (rowFor st s) .choked)) q, put-row-same st (rowFor st s))
 
 -- ---- messages without DATA
 
@@ -208,11 +208,16 @@ pub take-refused : (w : World) (clock id : ℕ) (s : List ℕ) {k : ℕ} → k �
 unfolding takeSpec
 take-refused w clock id s e d = ap (λ (x : ℕ). outOf x 0 w) e ∙ unless-not (ownRoomsAnswer w) w _ (λ z. d (e ∙ z))
 
--- Otherwise it goes by its layout.
-pub take-laid : (w : World) (clock id : ℕ) (s : List ℕ) {k : ℕ} {l : Layout} {out : Out World} → k ≡ ownRoomsAnswer w → k ≡ 0 → l ≡ layoutOf s .layout
-    → out ≡ byLayout w clock id s l → out ≡ takeSpec w clock id s
+-- Otherwise it goes by its layout:
+pub take-laid : (w : World) (clock id : ℕ) (s : List ℕ) {k : ℕ} {out : Out World} → k ≡ ownRoomsAnswer w → k ≡ 0
+    → out ≡ byLayout w clock id s (layoutOf s .layout) → out ≡ takeSpec w clock id s
 unfolding takeSpec
-take-laid w clock id s e z le p = p ∙ ap (byLayout w clock id s) le ∙ unless-done (ownRoomsAnswer w) w _ (sym e ∙ z)
+take-laid w clock id s e z p = p ∙ unless-done (ownRoomsAnswer w) w _ (sym e ∙ z)
+
+-- 1 for its size.
+pub laid-unsized : (w : World) (clock id : ℕ) (s : List ℕ) {b : Bool} → b ≡ hasSize (length s) → not b ≡ true → outOf 1 0 w ≡ byLayout w clock id s (layoutOf s .layout)
+unfolding byLayout
+laid-unsized w clock id s {b} e h = rw (size-refused s (sym e ∙ not-true b h))
 
 -- What the layout pass told of a datagram.
 module _ (room s : List ℕ) {l : Layout} {after : List ℕ} (e : checkedOf l after ≡ checkSpec room s) where
@@ -220,9 +225,13 @@ module _ (room s : List ℕ) {l : Layout} {after : List ℕ} (e : checkedOf l af
   pub laid : {m : Layout} → l ≡ m → m ≡ layoutOf s .layout
   laid q = sym q ∙ layout-told room s e
 
-  -- One that is not refused has its destination.
+  -- One that is not refused has its destination,
   pub laid-long : {m : Layout} → l ≡ m → numberOf m ≡ 0 → minSize ≤ length s
   laid-long q z = layout-passed s (ap numberOf (sym (laid q)) ∙ z) .0
+
+  -- and its survey is that of all its messages.
+  pub laid-survey : {m : Layout} → l ≡ m → numberOf m ≡ 0 → {v : Survey} → v ≡ surveySpec s → v ≡ surveyAll s
+  laid-survey q z g = g ∙ survey-passed s (ap numberOf (sym (laid q)) ∙ z)
 
   module _ {c x b n k : ℕ} (q : l ≡ MessagesAndData c x b n k) where
     -- DATA's chunk lies in the datagram.
@@ -246,18 +255,57 @@ module _ (room s : List ℕ) {l : Layout} {after : List ℕ} (e : checkedOf l af
 -- ---- by its layout
 
 module _ (w : World) (clock id : ℕ) (s : List ℕ) where
-  pub laid-fault : (n : ℕ) → outOf n 0 w ≡ byLayout w clock id s (Fault n)
-  unfolding byLayout
-  laid-fault n = refl
+  pub by-layout : {l : Layout} → l ≡ layoutOf s .layout → {r : Ruled} → r ≡ ruledBy w clock id s l → r ≡ ruledBy w clock id s (layoutOf s .layout)
+  by-layout le p = p ∙ ap (ruledBy w clock id s) le
 
-  pub laid-handshake : (a : ℕ) (o : Options) {out : Out Channels} → out ≡ handshakeTaken (w .channels) id s a o → beside (w .rooms) out ≡ byLayout w clock id s (HandshakeAlone a o)
-  unfolding byLayout
-  laid-handshake a o e = ap (beside (w .rooms)) e
+  -- Done, or refused.
+  module _ {answer len : ℕ} {alone : Bool} {v : Survey} {o : Outcome} (p : (answer ≡ o .answer) × (len ≡ o .len) × (alone ≡ false) × (v ≡ noSurvey)) where
+    settled-by : {after : World} {out : Out World} → outOf (o .answer) (o .len) after ≡ out
+        → ruledOf (outOf answer len after) alone (v .highest) (v .effective) ≡ record { out = out; alone = false; survey = noSurvey }
+    settled-by e = rw (p .0, p .1, p .2, p .3) (ap (λ (x : Out World). record { out = x; alone = false; survey = noSurvey }) e)
 
-  pub laid-messages : (k : ℕ) {out : Out Channels} → out ≡ messagesTaken (w .channels) s → beside (w .rooms) out ≡ byLayout w clock id s (Messages k)
-  unfolding byLayout
-  laid-messages k e = ap (beside (w .rooms)) e
+    pub laid-fault : (n : ℕ) → o .answer ≡ n → o .len ≡ 0 → ruledOf (outOf answer len w) alone (v .highest) (v .effective) ≡ ruledBy w clock id s (Fault n)
+    unfolding byLayout
+    laid-fault n e f = settled-by (rw (e, f))
 
-  pub laid-data : (c x b n k : ℕ) (es : List ℕ) {out : Out World} → es ≡ layoutOf s .entries → out ≡ dataTaken w clock s es c x b n → out ≡ byLayout w clock id s (MessagesAndData c x b n k)
+    pub laid-handshake : (a : ℕ) (h : Options) {after : Channels} → outOf (o .answer) (o .len) after ≡ handshakeTaken (w .channels) id s a h
+        → ruledOf (outOf answer len (record { rooms = w .rooms; channels = after })) alone (v .highest) (v .effective) ≡ ruledBy w clock id s (HandshakeAlone a h)
+    unfolding byLayout
+    laid-handshake a h e = settled-by (ap (beside (w .rooms)) e)
+
+    pub laid-data : (c x b n k : ℕ) (es : List ℕ) → es ≡ layoutOf s .entries → {after : World} → outOf (o .answer) (o .len) after ≡ dataTaken w clock s es c x b n
+        → ruledOf (outOf answer len after) alone (v .highest) (v .effective) ≡ ruledBy w clock id s (MessagesAndData c x b n k)
+    unfolding byLayout
+    laid-data c x b n k es f e = settled-by (e ∙ ap (λ (y : List ℕ). dataTaken w clock s y c x b n) f)
+
+  -- Messages are left.
+  pub laid-left : {answer len : ℕ} {alone : Bool} {v u : Survey} → (answer ≡ 0) × (len ≡ 0) × (alone ≡ true) × (v ≡ u) → u ≡ surveyAll s
+      → (k : ℕ) → ruledOf (outOf answer len w) alone (v .highest) (v .effective) ≡ ruledBy w clock id s (Messages k)
+  laid-left p e k = rw (p .0, p .1, p .2, p .3, e)
+
+  -- Plain messages alone.
+  pub laid-plain : (f : Front) → Fronted s f → f .at ≡ length s → {answer len : ℕ} {alone : Bool} {v : Survey} → (answer ≡ 0) × (len ≡ 0) × (alone ≡ true) × (v ≡ f .survey)
+      → ruledOf (outOf answer len w) alone (v .highest) (v .effective) ≡ ruledBy w clock id s (layoutOf s .layout)
+  laid-plain f q h p = laid-left p (sym (front-survey s f q h)) 0 ∙ ap (λ (c : Checked). ruledBy w clock id s (c .layout)) (sym (front-layout s f q h))
+
+  -- A ruling that is the call's outcome.
+  pub ruled-done : (l : Layout) {answer len : ℕ} {alone : Bool} {v : Survey} {after : World} → ruledOf (outOf answer len after) alone (v .highest) (v .effective) ≡ ruledBy w clock id s l
+      → not alone ≡ true → outOf answer len after ≡ byLayout w clock id s l
+  ruled-done (Fault n) e h = ap (λ (r : Ruled). r .out) e
+  ruled-done (HandshakeAlone a o) e h = ap (λ (r : Ruled). r .out) e
+  ruled-done (Messages k) {alone = alone} e h = absurd (true≢false (sym (ap (λ (r : Ruled). r .alone) e) ∙ not-true alone h))
+  ruled-done (MessagesAndData c x b n k) e h = ap (λ (r : Ruled). r .out) e
+
+  -- One that leaves messages: nothing is done yet, and their survey is told.
+  pub ruled-left : (l : Layout) {answer len : ℕ} {alone : Bool} {v : Survey} {after : World} → ruledOf (outOf answer len after) alone (v .highest) (v .effective) ≡ ruledBy w clock id s l
+      → not alone ≡ false → (after ≡ w) × (v ≡ surveyAll s) × (byLayout w clock id s l ≡ beside (w .rooms) (messagesTaken (w .channels) s))
   unfolding byLayout
-  laid-data c x b n k es f e = e ∙ ap (λ (y : List ℕ). dataTaken w clock s y c x b n) f
+  ruled-left (Fault n) {alone = alone} e h = absurd (true≢false (sym (not-false alone h) ∙ ap (λ (r : Ruled). r .alone) e))
+  ruled-left (HandshakeAlone a o) {alone = alone} e h = absurd (true≢false (sym (not-false alone h) ∙ ap (λ (r : Ruled). r .alone) e))
+  ruled-left (Messages k) e h = (ap (λ (r : Ruled). r .out .after) e, ap (λ (r : Ruled). r .survey) e, refl)
+  ruled-left (MessagesAndData c x b n k) {alone = alone} e h = absurd (true≢false (sym (not-false alone h) ∙ ap (λ (r : Ruled). r .alone) e))
+
+  -- The messages that were left, taken.
+  pub left-taken : {after : World} → after ≡ w → byLayout w clock id s (layoutOf s .layout) ≡ beside (w .rooms) (messagesTaken (w .channels) s)
+      → {out : Out Channels} → out ≡ messagesTaken (after .channels) s → beside (after .rooms) out ≡ byLayout w clock id s (layoutOf s .layout)
+  left-taken {after} e f g = ap (beside (after .rooms)) g ∙ ap (λ (x : World). beside (x .rooms) (messagesTaken (x .channels) s)) e ∙ sym f

@@ -6,3 +6,4 @@ pub mod Starting
 pub mod Write
 pub mod Ask
 pub mod Reply
+pub mod Steps

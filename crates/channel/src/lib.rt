@@ -8,4 +8,5 @@ pub mod starting; // start a store, build a whole one
 pub mod taking; // take in a datagram
 pub mod writing; // write the datagram of one chunk
 mod handshakes; // a HANDSHAKE taken in
+mod messages; // other messages taken in
 mod rooms; // the numbers 12 and 11

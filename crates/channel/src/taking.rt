@@ -1,157 +1,61 @@
 // Taking in a datagram: its checks in 01's order, then its effects and its reply.
 ghost use mathlib.Core.Path.{_≡_};
-ghost use mathlib.Core.Bool.{true};
-ghost use mathlib.Core.List.{[]};
-ghost use Prim.Native.Nat.{_+_, _≤_};
+ghost use mathlib.Core.Bool.{true, false};
+ghost use Prim.Native.Nat.{_≤_};
 ghost use lib.ListN.{length};
-ghost use Rattle.wire.proofs.Promise.{placed, minSize, maxSize};
-ghost use Rattle.writer.proofs.Promise.{readAll};
-ghost use Rattle.effects.proofs.Promise.{allQuiet};
+ghost use Rattle.wire.proofs.Promise.{maxSize, layoutOf, noSurvey, Fronted};
 ghost use Rattle.store.proofs.Promise.{lengthAnswer};
-ghost use Rattle.table.proofs.Promise.{rowCount};
-ghost use Rattle.channel.specs.World.{channelsOf, worldOf, outOf, orderLength};
-ghost use Rattle.channel.specs.Take.{rowFor, messagesNumber, affected, messagesTaken};
-ghost use Rattle.channel.specs.Take.{acknowledgement, dataTaken, takeSpec};
+ghost use Rattle.channel.specs.World.{worldOf, outOf, orderLength};
+ghost use Rattle.channel.specs.Take.{takeSpec};
+ghost use Rattle.channel.specs.Steps.{ruledOf, ruledBy};
 use crate::handshakes;
+use crate::messages;
 use crate::outcome::Outcome;
 use crate::rooms;
-use store::calls;
-use table::answers;
-use table::rows::Row;
 use table::words;
-use tree::pack;
-use wire::bytes;
-use wire::layout;
 use wire::layout::Layout;
 use wire::limits::ENTRIES;
-use wire::limits::MIN_SIZE;
+use wire::pass;
+use wire::pass::Front;
+use wire::survey::Survey;
 
-// What the channel says to messages other than a HANDSHAKE.
-struct Judged {
-    // 5, 3 or 7; or 0.
-    number: u32,
-    // If set, they have no effect on the channel.
-    quiet: bool,
+// What taking in a datagram gives; or that it has messages without DATA, which are still to be taken, with their survey.
+struct Ruling {
+    answer: u32,
+    len: usize,
+    alone: bool,
+    survey: Survey,
 }
 
-// The row that a datagram goes to, or 16. It is found once a call, and handed on.
-fn row_for(state: &[u32], datagram: &[u8]) -> usize
-    requires { ⌜ minSize ≤ length (now datagram) ⌝ }
-    ensures { λ r. ⌜ (r ≡ rowFor (now (state .entry)) (now (datagram .entry))) × (r ≤ rowCount) ⌝ }
+// It is done, or refused.
+fn ruled(outcome: Outcome) -> Ruling
+    ensures { λ r. ⌜ (r .answer ≡ outcome .answer) × (r .len ≡ outcome .len) × (r .alone ≡ false) × (r .survey ≡ noSurvey) ⌝ }
 {
-    words::row_of(state, bytes::load32(datagram, 0))
+    Ruling {
+        answer: outcome.answer,
+        len: outcome.len,
+        alone: false,
+        survey: Survey {
+            highest: 0,
+            effective: false,
+        },
+    }
 }
 
-fn judge(state: &[u32], i: usize, datagram: &[u8]) -> Judged
-    requires { ⌜ minSize ≤ length (now datagram) ⌝ }
-    requires { ⌜ i ≡ rowFor (now state) (now datagram) ⌝ }
-    ensures { λ r. ⌜ (r .number ≡ messagesNumber (now (state .entry)) (now (datagram .entry)))
-        × (r .quiet ≡ true → allQuiet (readAll (now (datagram .entry))) ≡ true) ⌝ }
+// Messages are left.
+fn messages_left(survey: Survey) -> Ruling
+    ensures { λ r. ⌜ (r .answer ≡ 0) × (r .len ≡ 0) × (r .alone ≡ true) × (r .survey ≡ survey) ⌝ }
 {
-    let keepalive = datagram.len() == MIN_SIZE;
-    let refused = answers::messages_answer(state, i, bytes::load32(datagram, 0), keepalive);
-    if refused != 0 {
-        return Judged {
-            number: refused,
-            quiet: false,
-        };
-    }
-    if keepalive {
-        return Judged {
-            number: 0,
-            quiet: true,
-        };
-    }
-    let found = effects::survey(datagram, pack::chunk_count(words::length_in(state)));
-    if found.past {
-        return Judged {
-            number: 7,
-            quiet: false,
-        };
-    }
-    Judged {
-        number: 0,
-        quiet: found.quiet,
+    Ruling {
+        answer: 0,
+        len: 0,
+        alone: true,
+        survey,
     }
 }
 
-// The effects of messages on the channel that they go to.
-fn apply_messages(state: &mut [u32], i: usize, has: &mut [u32], wants: &mut [u32], datagram: &[u8])
-    requires { ⌜ lengthAnswer (orderLength (now state)) ≡ 0 ⌝ }
-    requires { ⌜ (i ≡ rowFor (now state) (now datagram)) × (i ≤ rowCount) ⌝ }
-    ensures { λ _. ⌜ channelsOf (now (state .exit)) (now (has .exit)) (now (wants .exit)) []
-        ≡ affected
-        (channelsOf (now (state .entry)) (now (has .entry)) (now (wants .entry)) [])
-        (now (datagram .entry)) ⌝ }
-{
-    let row = words::row_at(state, i);
-    let n = bits::row_words(pack::chunk_count(words::length_in(state)) as u64) as usize;
-    let choked = effects::apply(has, wants, 32 * (n * i), row.choked, datagram);
-    if words::flag(choked) == words::flag(row.choked) {
-        return;
-    }
-    let phase = row.phase;
-    let marked = Row {
-        phase,
-        id: row.id,
-        peer: row.peer,
-        choked,
-    };
-    words::put_row(state, i, marked);
-}
-
-// Messages without DATA.
-fn messages(
-    state: &mut [u32],
-    has: &mut [u32],
-    wants: &mut [u32],
-    reply: &[u8],
-    datagram: &[u8],
-) -> Outcome
-    requires { ⌜ lengthAnswer (orderLength (now state)) ≡ 0 ⌝ }
-    requires { ⌜ minSize ≤ length (now datagram) ⌝ }
-    ensures { λ r. ⌜ outOf (r .answer) (r .len)
-        (channelsOf (now (state .exit)) (now (has .exit)) (now (wants .exit)) (now (reply .entry)))
-        ≡ messagesTaken
-        (channelsOf (now (state .entry)) (now (has .entry)) (now (wants .entry)) (now (reply .entry)))
-        (now (datagram .entry)) ⌝ }
-{
-    let i = row_for(state, datagram);
-    let judged = judge(state, i, datagram);
-    let answer = judged.number;
-    if answer != 0 {
-        return Outcome { answer, len: 0 };
-    }
-    if judged.quiet {
-        return Outcome { answer: 0, len: 0 };
-    }
-    apply_messages(state, i, has, wants, datagram);
-    Outcome { answer: 0, len: 0 }
-}
-
-// The ACK of chunk c, to the peer of the channel that it came on; its length.
-fn acknowledge(
-    state: &[u32],
-    i: usize,
-    reply: &mut [u8],
-    clock: u64,
-    c: u32,
-    timestamp: u64,
-    datagram: &[u8],
-) -> usize
-    requires { ⌜ maxSize ≤ length (now reply) ⌝ }
-    requires { ⌜ i ≡ rowFor (now state) (now datagram) ⌝ }
-    ensures { λ r. ⌜ (r ≡ length (acknowledgement (now (state .entry)) (now (datagram .entry)) clock c timestamp))
-        × (now (reply .exit) ≡ placed (now (reply .entry)) 0
-        (acknowledgement (now (state .entry)) (now (datagram .entry)) clock c timestamp)) ⌝ }
-{
-    let row = words::row_at(state, i);
-    let delay = std::num::wrapping_sub_u64(clock, timestamp);
-    replies::ack(reply, row.peer, c, c, delay)
-}
-
-// Messages with DATA, whose chunk has `len` bytes from `start` on and whose INTEGRITY messages are in `entries`.
-fn take_chunk(
+// A datagram that has others than plain messages: its scratch is made here alone.
+fn rule_behind(
     state: &mut [u32],
     chunks: &mut [u8],
     map: &mut [u32],
@@ -161,62 +65,114 @@ fn take_chunk(
     wants: &mut [u32],
     reply: &mut [u8],
     clock: u64,
-    c: u32,
-    timestamp: u64,
-    start: usize,
-    len: usize,
-    entries: &[u64],
+    id: u32,
     datagram: &[u8],
-) -> Outcome
+    front: Front,
+) -> Ruling
     requires { ⌜ lengthAnswer (orderLength (now state)) ≡ 0 ⌝ }
     requires { ⌜ maxSize ≤ length (now reply) ⌝ }
-    requires { ⌜ minSize ≤ length (now datagram) ⌝ }
-    requires { ⌜ start + len ≤ length (now datagram) ⌝ }
-    ensures { λ r. ⌜ outOf (r .answer) (r .len)
+    requires { ⌜ Fronted (now datagram) front ⌝ }
+    ensures { λ r. ⌜ ruledOf (outOf (r .answer) (r .len)
         (worldOf (now (state .exit)) (now (chunks .exit)) (now (map .exit)) (now (hashes .exit))
-        (now (trusted .exit)) (now (has .exit)) (now (wants .exit)) (now (reply .exit)))
-        ≡ dataTaken
+        (now (trusted .exit)) (now (has .exit)) (now (wants .exit)) (now (reply .exit))))
+        (r .alone) (r .survey .highest) (r .survey .effective)
+        ≡ ruledBy
         (worldOf (now (state .entry)) (now (chunks .entry)) (now (map .entry)) (now (hashes .entry))
         (now (trusted .entry)) (now (has .entry)) (now (wants .entry)) (now (reply .entry)))
-        clock (now (datagram .entry)) (now (entries .entry)) c timestamp start len ⌝ }
+        clock id (now (datagram .entry)) (layoutOf (now (datagram .entry)) .layout) ⌝ }
 {
-    let end = start + len;
-    let i = row_for(state, datagram);
-    let judged = judge(state, i, datagram);
-    let refused = judged.number;
-    if refused != 0 {
-        return Outcome {
-            answer: refused,
+    let mut entries = [0u64; ENTRIES];
+    let pass = pass::rest(datagram, &mut entries, front);
+    let survey = pass.survey;
+    let found = pass.layout;
+    match found {
+        Layout::Fault { number } => ruled(Outcome {
+            answer: number,
             len: 0,
-        };
+        }),
+        Layout::HandshakeAlone { source, options } => ruled(handshakes::handshake(
+            state,
+            has,
+            wants,
+            reply,
+            id,
+            source,
+            options,
+            datagram,
+        )),
+        Layout::Messages { entries: _ } => messages_left(survey),
+        Layout::MessagesAndData {
+            chunk,
+            timestamp,
+            start,
+            len,
+            entries: n,
+        } => ruled(messages::take_chunk(
+            state,
+            chunks,
+            map,
+            hashes,
+            trusted,
+            has,
+            wants,
+            reply,
+            clock,
+            chunk,
+            timestamp,
+            start,
+            len,
+            &entries[0..n],
+            datagram,
+            survey,
+        )),
     }
-    let order = words::order_in(state);
-    let answer = calls::take(
-        order,
+}
+
+// A datagram of sound size. Its messages, if it has no DATA, are left to the caller: they are taken at one place, which the
+// compiler puts in line.
+fn rule(
+    state: &mut [u32],
+    chunks: &mut [u8],
+    map: &mut [u32],
+    hashes: &mut [u32],
+    trusted: &mut [u32],
+    has: &mut [u32],
+    wants: &mut [u32],
+    reply: &mut [u8],
+    clock: u64,
+    id: u32,
+    datagram: &[u8],
+    front: Front,
+) -> Ruling
+    requires { ⌜ lengthAnswer (orderLength (now state)) ≡ 0 ⌝ }
+    requires { ⌜ maxSize ≤ length (now reply) ⌝ }
+    requires { ⌜ Fronted (now datagram) front ⌝ }
+    ensures { λ r. ⌜ ruledOf (outOf (r .answer) (r .len)
+        (worldOf (now (state .exit)) (now (chunks .exit)) (now (map .exit)) (now (hashes .exit))
+        (now (trusted .exit)) (now (has .exit)) (now (wants .exit)) (now (reply .exit))))
+        (r .alone) (r .survey .highest) (r .survey .effective)
+        ≡ ruledBy
+        (worldOf (now (state .entry)) (now (chunks .entry)) (now (map .entry)) (now (hashes .entry))
+        (now (trusted .entry)) (now (has .entry)) (now (wants .entry)) (now (reply .entry)))
+        clock id (now (datagram .entry)) (layoutOf (now (datagram .entry)) .layout) ⌝ }
+{
+    if front.at == datagram.len() {
+        return messages_left(front.survey);
+    }
+    rule_behind(
+        state,
         chunks,
         map,
         hashes,
         trusted,
-        c,
-        &datagram[start..end],
-        entries,
+        has,
+        wants,
+        reply,
+        clock,
+        id,
         datagram,
-    );
-    if answer != 0 {
-        return Outcome { answer, len: 0 };
-    }
-    let sent = acknowledge(state, i, reply, clock, c, timestamp, datagram);
-    if judged.quiet {
-        return Outcome {
-            answer: 0,
-            len: sent,
-        };
-    }
-    apply_messages(state, i, has, wants, datagram);
-    Outcome {
-        answer: 0,
-        len: sent,
-    }
+        front,
+    )
 }
 
 // Takes in a datagram at a clock; `id` is for a channel that it may open.
@@ -258,38 +214,29 @@ pub fn take(
             len: 0,
         };
     }
-    let mut entries = [0u64; ENTRIES];
-    match layout::check(datagram, &mut entries) {
-        Layout::Fault { number } => Outcome {
-            answer: number,
-            len: 0,
-        },
-        Layout::HandshakeAlone { source, options } => {
-            handshakes::handshake(state, has, wants, reply, id, source, options, datagram)
-        }
-        Layout::Messages { entries: _ } => messages(state, has, wants, reply, datagram),
-        Layout::MessagesAndData {
-            chunk,
-            timestamp,
-            start,
-            len,
-            entries: n,
-        } => take_chunk(
-            state,
-            chunks,
-            map,
-            hashes,
-            trusted,
-            has,
-            wants,
-            reply,
-            clock,
-            chunk,
-            timestamp,
-            start,
-            len,
-            &entries[0..n],
-            datagram,
-        ),
+    if !pass::has_size(datagram) {
+        return Outcome { answer: 1, len: 0 };
     }
+    let front = pass::plain_front(datagram);
+    let ruling = rule(
+        state,
+        chunks,
+        map,
+        hashes,
+        trusted,
+        has,
+        wants,
+        reply,
+        clock,
+        id,
+        datagram,
+        front,
+    );
+    if !ruling.alone {
+        return Outcome {
+            answer: ruling.answer,
+            len: ruling.len,
+        };
+    }
+    messages::take_messages(state, has, wants, reply, datagram, ruling.survey)
 }

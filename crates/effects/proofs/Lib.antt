@@ -1,5 +1,5 @@
 -- What the proofs of several functions cite.
-pub mod ReadLaws
+pub mod SurveyLaws
 pub mod EffectLaws
 pub mod LengthLaws
 pub mod Promise

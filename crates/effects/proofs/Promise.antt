@@ -1,35 +1,24 @@
--- What the crates above know of this one: of its definitions the names passed on here, that quiet messages change nothing,
--- and that rooms stay as long as they are. Assumes nothing.
-use Prim.Native.Nat.{ℕ}
+-- What the crates above know of this one: of its definitions the names passed on here, what the survey of a datagram says of
+-- its messages, and that rooms stay as long as they are. Assumes nothing.
+use Prim.Native.Nat.{ℕ, _<_}
 use mathlib.Core.Path.{_≡_}
-use mathlib.Core.Bool.{true, false}
+use mathlib.Core.Bool.{false}
 use mathlib.Core.List.{List}
-use lib.ListN.{length}
-use Rattle.wire.proofs.Promise.{minSize}
-use Rattle.writer.proofs.Promise.{Item, readAll, read-none}
-use Rattle.effects.proofs.EffectLaws as laws
-use Rattle.effects.proofs.ReadLaws as reading
+use lib.Dec.{leb}
+use Rattle.wire.proofs.Promise.{surveyAll}
+use Rattle.writer.proofs.Promise.{Item, readAll}
+use Rattle.effects.proofs.SurveyLaws as surveys
 use Rattle.effects.proofs.LengthLaws as lengths
 pub use Rattle.effects.specs.Effects.{anyPast, Peer, peerOf, effects}
-pub use Rattle.effects.specs.Steps.{allQuiet, quietWithin}
 pub use Rattle.effects.proofs.LengthLaws.{SameLengths}
 
--- Quiet messages change neither has, wants nor the mark.
-pub quiet-effects : (b : ℕ) (is : List Item) (m : Peer) → allQuiet is ≡ true → effects b is m ≡ m
-quiet-effects = laws.quiet-effects
+-- The survey that the checks of a datagram give tells whether a range reaches past the last of N chunks,
+pub past-survey : (N : ℕ) (s : List ℕ) → 0 < N → anyPast N (readAll s) ≡ leb N (surveyAll s .highest)
+past-survey = surveys.past-survey
 
--- Messages that are quiet within the pack are quiet.
-pub quiet-means : (N : ℕ) (is : List Item) → quietWithin N is ≡ true → allQuiet is ≡ true
-quiet-means = reading.quiet-means
-
--- A keepalive has no message: none past the pack, and all of them quiet.
-pub keepalive-within : (N : ℕ) (s : List ℕ) → length s ≡ minSize → anyPast N (readAll s) ≡ false
-unfolding anyPast
-keepalive-within N s h = rw (read-none s h)
-
-pub keepalive-quiet : (s : List ℕ) → length s ≡ minSize → allQuiet (readAll s) ≡ true
-unfolding allQuiet
-keepalive-quiet s h = rw (read-none s h)
+-- and whether the messages have an effect: where it says none, they change neither has, wants nor the mark.
+pub quiet-survey : (b : ℕ) (s : List ℕ) (m : Peer) → surveyAll s .effective ≡ false → effects b (readAll s) m ≡ m
+quiet-survey = surveys.quiet-survey
 
 -- Both rooms stay as long as they are.
 pub effects-lengths : (b : ℕ) (is : List Item) (m : Peer) → SameLengths m (effects b is m)

@@ -1,136 +1,19 @@
-// What the messages of a datagram do to a channel: whether their ranges lie in the pack, and what they change of what
-// the peer has, what it wants and the choke mark.
+// What the messages of a datagram do to a channel: what they change of what the peer has, what it wants and the choke
+// mark.
 ghost use mathlib.Core.Path.{_≡_};
-ghost use mathlib.Core.Bool.{false};
-ghost use Rattle.base.specs.Pick.{pick};
-ghost use Prim.Native.Nat.{_<_, _^_};
-ghost use Rattle.wire.proofs.Promise.{stepAt};
+ghost use Prim.Native.Nat.{_≤_, _<_, _^_};
+ghost use lib.ListN.{length, getD};
+ghost use Rattle.wire.proofs.Promise.{stepAt, plainMessage};
+ghost use Rattle.wire.specs.declared.message.Message.the-variants.{Have};
 ghost use Rattle.writer.proofs.Promise.{readAll};
-ghost use Rattle.effects.specs.Effects.{past, anyPast, peerOf, effect, effects};
-ghost use Rattle.effects.specs.Steps.{isQuiet, quietWithin, turnOf, turned};
+ghost use Rattle.effects.specs.Effects.{peerOf, effect, effects};
+ghost use Rattle.effects.specs.Steps.{isHave, turnOf, turned};
 use wire::limits::MIN_SIZE;
 use wire::message::Cursor;
-use wire::message::Message;
 use wire::message::Step;
+use wire::plain;
+use wire::range;
 use wire::read;
-
-// Whether a message's range reaches past the last of n chunks.
-fn past(message: Message, n: u32) -> bool
-    ensures { λ r. ⌜ r ≡ past n message ⌝ }
-{
-    match message {
-        Message::Handshake {
-            source: _,
-            options: _,
-        } => false,
-        Message::Data {
-            first: _,
-            last,
-            timestamp: _,
-            start: _,
-            len: _,
-        } => n <= last,
-        Message::Ack {
-            first: _,
-            last,
-            delay: _,
-        } => n <= last,
-        Message::Have { first: _, last } => n <= last,
-        Message::Integrity {
-            first: _,
-            last,
-            hash: _,
-        } => n <= last,
-        Message::Request { first: _, last } => n <= last,
-        Message::Cancel { first: _, last } => n <= last,
-        Message::Choke => false,
-        Message::Unchoke => false,
-    }
-}
-
-// Whether a message changes neither has, wants nor the mark.
-fn is_quiet(message: Message) -> bool
-    ensures { λ r. ⌜ r ≡ isQuiet message ⌝ }
-{
-    match message {
-        Message::Handshake {
-            source: _,
-            options: _,
-        } => true,
-        Message::Data {
-            first: _,
-            last: _,
-            timestamp: _,
-            start: _,
-            len: _,
-        } => true,
-        Message::Ack {
-            first: _,
-            last: _,
-            delay: _,
-        } => false,
-        Message::Have { first: _, last: _ } => false,
-        Message::Integrity {
-            first: _,
-            last: _,
-            hash: _,
-        } => true,
-        Message::Request { first: _, last: _ } => false,
-        Message::Cancel { first: _, last: _ } => false,
-        Message::Choke => false,
-        Message::Unchoke => false,
-    }
-}
-
-// Whether messages that were quiet so far are so with one more.
-fn stays_quiet(quiet: bool, message: Message) -> bool
-    ensures { λ r. ⌜ r ≡ pick quiet (isQuiet message) false ⌝ }
-{
-    if quiet {
-        return is_quiet(message);
-    }
-    false
-}
-
-// What a pass over the messages of a datagram found.
-pub struct Found {
-    // A range reaches past the last chunk.
-    pub past: bool,
-    // None does, and no message changes has, wants or the mark: most datagrams with a chunk are so.
-    pub quiet: bool,
-}
-
-// The ranges of a datagram's messages against n chunks, and whether the messages are quiet.
-pub fn survey(datagram: &[u8], n: u32) -> Found
-    ensures { λ r. ⌜ (r .past ≡ anyPast n (readAll (now (datagram .entry))))
-        × (r .quiet ≡ quietWithin n (readAll (now (datagram .entry)))) ⌝ }
-{
-    let mut at: usize = MIN_SIZE;
-    let mut left: usize = datagram.len();
-    let mut quiet = true;
-    while 0 < left {
-        left = left - 1;
-        match read::read(datagram, Cursor { at }) {
-            Step::Read { message, next } => {
-                if past(message, n) {
-                    return Found {
-                        past: true,
-                        quiet: false,
-                    };
-                }
-                quiet = stays_quiet(quiet, message);
-                at = next.at;
-            }
-            Step::End => {
-                return Found { past: false, quiet };
-            }
-            Step::Refused => {
-                return Found { past: false, quiet };
-            }
-        }
-    }
-    Found { past: false, quiet }
-}
 
 // HAVE and ACK: the peer has the chunks, and wants them no more.
 fn have(
@@ -143,7 +26,7 @@ fn have(
 ) -> bool
     requires { ⌜ base < 2 ^ 32 ⌝ }
     ensures { λ r. ⌜ peerOf (now (has .exit)) (now (wants .exit)) r
-        ≡ effect base (Message.Have first last) (peerOf (now (has .entry)) (now (wants .entry)) choked) ⌝ }
+        ≡ effect base (Have first last) (peerOf (now (has .entry)) (now (wants .entry)) choked) ⌝ }
 {
     let from = base + first as usize;
     let upto = base + last as usize + 1;
@@ -152,37 +35,44 @@ fn have(
     choked
 }
 
-// One message's effect; whether the peer choked us afterwards. The channel's bits begin at `base`.
-fn apply_one(
-    has: &mut [u32],
-    wants: &mut [u32],
-    base: usize,
-    choked: bool,
-    message: Message,
-) -> bool
-    requires { ⌜ base < 2 ^ 32 ⌝ }
-    ensures { λ r. ⌜ peerOf (now (has .exit)) (now (wants .exit)) r
-        ≡ effect base message (peerOf (now (has .entry)) (now (wants .entry)) choked) ⌝ }
+// Whether a type is that of HAVE or ACK.
+fn is_have(kind: u8) -> bool
+    ensures { λ r. ⌜ r ≡ isHave kind ⌝ }
 {
-    match message {
-        Message::Ack {
-            first,
-            last,
-            delay: _,
-        } => have(has, wants, base, choked, first, last),
-        Message::Have { first, last } => have(has, wants, base, choked, first, last),
-        Message::Request { first, last } => {
-            bits::set_range(wants, base + first as usize, base + last as usize + 1);
-            choked
-        }
-        Message::Cancel { first, last } => {
-            bits::clear_range(wants, base + first as usize, base + last as usize + 1);
-            choked
-        }
-        Message::Choke => true,
-        Message::Unchoke => false,
-        _ => choked,
+    if kind == 3 {
+        return true;
     }
+    kind == 2
+}
+
+// The effect of a plain message, which `rest` begins with; whether the peer choked us afterwards. The channel's bits begin
+// at `base`.
+fn apply_plain(has: &mut [u32], wants: &mut [u32], base: usize, choked: bool, rest: &[u8]) -> bool
+    requires { ⌜ base < 2 ^ 32 ⌝ }
+    requires { ⌜ 1 ≤ length (now rest) ⌝ }
+    requires { ⌜ (getD (now rest) 0 0 ≤ 9 → 9 ≤ length (now rest)) ⌝ }
+    ensures { λ r. ⌜ peerOf (now (has .exit)) (now (wants .exit)) r
+        ≡ effect base (plainMessage (now (rest .entry))) (peerOf (now (has .entry)) (now (wants .entry)) choked) ⌝ }
+{
+    let kind = rest[0];
+    if 9 < kind {
+        return kind == 10;
+    }
+    let chunks = range::read(rest);
+    if is_have(kind) {
+        return have(has, wants, base, choked, chunks.first, chunks.last);
+    }
+    let from = base + chunks.first as usize;
+    let upto = base + chunks.last as usize + 1;
+    if kind == 8 {
+        bits::set_range(wants, from, upto);
+        return choked;
+    }
+    if kind == 9 {
+        bits::clear_range(wants, from, upto);
+        return choked;
+    }
+    false
 }
 
 // Where the pass stands after a message.
@@ -207,9 +97,17 @@ fn apply_turn(
         ≡ turned base (peerOf (now (has .entry)) (now (wants .entry)) choked) left
         (stepAt (now (datagram .entry)) at) ⌝ }
 {
+    let size = plain::size(datagram, at);
+    if size != 0 {
+        return Turn {
+            choked: apply_plain(has, wants, base, choked, &datagram[at..]),
+            at: at + size,
+            left,
+        };
+    }
     match read::read(datagram, Cursor { at }) {
-        Step::Read { message, next } => Turn {
-            choked: apply_one(has, wants, base, choked, message),
+        Step::Read { message: _, next } => Turn {
+            choked,
             at: next.at,
             left,
         },

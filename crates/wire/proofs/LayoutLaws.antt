@@ -4,19 +4,20 @@ use native.Mathlib.Omega.{arith}
 use native.Mathlib.Numerals.{add-one}
 use mathlib.Core.Path.{_≡_, refl, sym, ap, _∙_}
 use mathlib.Core.List.{List, [], _∷_}
-use mathlib.Core.Bool.{Bool, true, false}
+use mathlib.Core.Bool.{Bool, true, false, true≢false}
 use lib.ListN.{length, getD, take, drop, set, length-drop}
 use lib.Seq.{drop-drop, getD-drop}
-use lib.Dec.{eqb}
-use borrow.Author.Tests.{lt-ltb, le-ltb, eq-eqb, ne-eqb}
+use lib.Dec.{ltb, eqb}
+use borrow.Author.Tests.{le-ltb, eq-eqb, ne-eqb, ltb-false, eqb-true}
 use Rattle.base.specs.Pick.{pick}
 use Rattle.wire.specs.Bytes.{be32, placed}
 use Rattle.wire.specs.Limits.{minSize, maxSize}
-use Rattle.wire.specs.Layout.{Checked, checkedOf, seen, isEndOnly, handshakeFault, orFault, handshakeLayout, layoutOf}
-use Rattle.wire.specs.Steps.{checkSpec, turnedOf, noted, passSpec}
+use Rattle.wire.specs.Layout.{checkedOf, seen, isEndOnly, handshakeFault, orFault, numberOf, handshakeLayout, layoutFrom, layoutOf}
+use Rattle.wire.specs.Steps.{hasSize, noSurvey, turnedOf, over, noted, checkSpec}
 use Rattle.wire.specs.declared.message.Options.{Options}
 use Rattle.wire.specs.declared.layout.Layout.the-variants.{Fault, HandshakeAlone}
-use Rattle.wire.specs.declared.layout.Turn.the-variants.{On, Over}
+use Rattle.wire.specs.declared.survey.Survey.{Survey}
+use Rattle.wire.specs.declared.pass.Turn.the-variants.{On}
 
 -- ---- whether a node is among the entries: one turn of the search, and its end
 
@@ -124,38 +125,62 @@ module _ (s : List ℕ) (at next a : ℕ) (o : Options) where
       pub alone-good : w ≡ 0 → HandshakeAlone a o ≡ handshakeLayout s at next a o
       alone-good h = sym (opened ∙ rw h)
 
+  -- one that passes stands alone
+  pub alone-whole : numberOf (handshakeLayout s at next a o) ≡ 0 → (at ≡ minSize) × (next ≡ length s)
+  unfolding handshakeLayout
+  alone-whole = by (eqb at minSize) (eqb next (length s)) refl refl
+    where
+      by : (x y : Bool) → eqb at minSize ≡ x → eqb next (length s) ≡ y
+          → numberOf (orFault (pick x (pick y (handshakeFault (be32 s 0) a o) 3) 3) (HandshakeAlone a o)) ≡ 0 → (at ≡ minSize) × (next ≡ length s)
+      by true true p q e = (eqb-true at minSize p, eqb-true next (length s) q)
+      by true false p q e = absurd (omega (arith, e))
+      by false y p q e = absurd (omega (arith, e))
+
 -- ---- an INTEGRITY
 
-module _ (room : List ℕ) (used node hash next : ℕ) (b : Bool) (e : b ≡ seen node (take (used - 0) (drop 0 room))) where
+module _ (room : List ℕ) (used : ℕ) (v : Survey) (node hash next : ℕ) (b : Bool) (e : b ≡ seen node (take (used - 0) (drop 0 room))) where
   -- the entries, which the code has as a part of a slice
   came : b ≡ seen node (take used room)
   came = let q : used - 0 ≡ used = omega arith in rw q at e
 
   -- its node came before
-  pub note-seen : b ≡ true → turnedOf (Over (Fault 2)) room ≡ noted room used node hash next
+  pub note-seen : b ≡ true → {w : Survey} → w ≡ noSurvey → over (Fault 2) w room ≡ noted room used v node hash next
   unfolding noted
-  note-seen p = let q = came in simp (← q, p)
+  note-seen p g = let q = came in simp (← q, p, g)
 
   -- its node is stored, with the place of its hash
-  pub note-new : b ≡ false → turnedOf (On next (used + 2)) (set (set room used node) (used + 1) hash) ≡ noted room used node hash next
+  pub note-new : b ≡ false → turnedOf (On next (used + 2) v) (set (set room used node) (used + 1) hash) ≡ noted room used v node hash next
   unfolding noted placed
   note-new p = let q = came in rw (add-one used) (simp (← q, p))
 
--- ---- the whole check: the size, the messages
+-- ---- the size
 
-module _ (room s : List ℕ) where
-  -- the datagram is too short
-  pub check-low : length s < minSize → checkedOf (Fault 1) room ≡ checkSpec room s
-  unfolding checkSpec layoutOf placed
-  check-low h = simp (lt-ltb (length s) minSize h)
+-- a sound one
+pub sized : (n : ℕ) → hasSize n ≡ true → (minSize ≤ n) × (n ≤ maxSize)
+unfolding hasSize
+sized n = by (ltb n minSize) (ltb maxSize n) refl refl
+  where
+    by : (a b : Bool) → ltb n minSize ≡ a → ltb maxSize n ≡ b → pick a false (pick b false true) ≡ true → (minSize ≤ n) × (n ≤ maxSize)
+    by true b p q e = absurd (true≢false (sym e))
+    by false true p q e = absurd (true≢false (sym e))
+    by false false p q e = (ltb-false n minSize p, ltb-false maxSize n q)
 
-  module _ (low : minSize ≤ length s) where
-    -- the datagram is too long
-    pub check-high : maxSize < length s → checkedOf (Fault 1) room ≡ checkSpec room s
-    unfolding checkSpec layoutOf placed
-    check-high h = simp (le-ltb (length s) minSize low, lt-ltb maxSize (length s) h)
+-- the messages decide
+pub layout-sized : (s : List ℕ) → minSize ≤ length s → length s ≤ maxSize → layoutOf s ≡ layoutFrom (length s) s [] minSize
+unfolding layoutOf
+layout-sized s low high = simp (le-ltb (length s) minSize low, le-ltb maxSize (length s) high)
 
-    -- the messages decide
-    pub check-good : length s ≤ maxSize → {c : Checked} → c ≡ passSpec room s → c ≡ checkSpec room s
-    unfolding checkSpec layoutOf passSpec
-    check-good h e = e ∙ simp (le-ltb (length s) minSize low, le-ltb maxSize (length s) h)
+-- any other is refused with 1
+pub layout-unsized : (s : List ℕ) → hasSize (length s) ≡ false → layoutOf s ≡ checkedOf (Fault 1) []
+unfolding layoutOf hasSize
+layout-unsized s = by (ltb (length s) minSize) (ltb maxSize (length s))
+  where
+    by : (a b : Bool) → pick a false (pick b false true) ≡ false
+        → pick a (checkedOf (Fault 1) []) (pick b (checkedOf (Fault 1) []) (layoutFrom (length s) s [] minSize)) ≡ checkedOf (Fault 1) []
+    by true b e = refl
+    by false true e = refl
+    by false false e = absurd (true≢false e)
+
+pub check-unsized : (room s : List ℕ) → hasSize (length s) ≡ false → checkedOf (Fault 1) room ≡ checkSpec room s
+unfolding checkSpec placed
+check-unsized room s h = rw (layout-unsized s h)

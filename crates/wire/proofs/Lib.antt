@@ -5,6 +5,9 @@ pub mod OptionsLaws
 pub mod ReadLaws
 pub mod SpanLaws
 pub mod LayoutLaws
+pub mod PlainLaws
+pub mod SurveyLaws
+pub mod TurnLaws
 pub mod PassLaws
 pub mod TagLaws
 pub mod ViewLaws

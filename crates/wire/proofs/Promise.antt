@@ -2,22 +2,31 @@
 -- passes the checks. Assumes nothing.
 use mathlib.Core.Path.{_≡_}
 use mathlib.Core.List.{List, [], _∷_}
-use Prim.Native.Nat.{ℕ, _≤_}
-use lib.ListN.{length, take}
+use mathlib.Core.Bool.{true, false}
+use Prim.Native.Nat.{ℕ, _+_, _≤_}
+use lib.ListN.{length, getD, take, drop}
 use Rattle.base.specs.Among.{OneOf}
 use Rattle.wire.proofs.FaultLaws.{numbered, passed}
 use Rattle.wire.proofs.NumberLaws as numbers
 use Rattle.wire.proofs.AloneLaws as alone
 use Rattle.wire.proofs.CountLaws.{entries-fit}
 use Rattle.wire.proofs.DataLaws as data-laws
+use Rattle.wire.proofs.LayoutLaws as layouts
+use Rattle.wire.proofs.PlainLaws as plains
+use Rattle.wire.proofs.SurveyLaws as surveys
+use Rattle.wire.specs.declared.message.Step.the-variants.{Read}
 use Rattle.wire.specs.declared.layout.Layout.{Layout}
+use Rattle.wire.specs.declared.layout.Layout.the-variants.{Fault, Messages}
+use Rattle.wire.specs.declared.survey.Survey.{Survey}
+use Rattle.wire.specs.declared.pass.Front.{Front}
 pub use Rattle.wire.specs.Bytes.{be32, be64, placed}
 pub use Rattle.wire.specs.Limits.{minSize, maxSize}
 pub use Rattle.wire.specs.Options.{fixedHead, fixedTail}
 pub use Rattle.wire.specs.Read.{stepNumber, cursor, stepAt}
 pub use Rattle.wire.specs.Layout.{Checked, checkedOf, numberOf, isEndOnly, layoutOf}
-pub use Rattle.wire.specs.Steps.{entryWords, checkSpec}
+pub use Rattle.wire.specs.Steps.{entryWords, hasSize, checkSpec, Fronted, surveyOf, noSurvey, surveyed, surveyStep, surveyAll, surveySpec, rangeOf, plainSize}
 unfoldable pub use Rattle.wire.specs.Layout.{seen, handshakeFault}
+unfoldable pub use Rattle.wire.specs.Steps.{naming, surveyFrom, plainMessage}
 pub use Rattle.wire.proofs.FaultLaws.{Passed, Numbered}
 pub use Rattle.wire.proofs.AloneLaws.{Alone}
 pub use Rattle.wire.proofs.CountLaws.{Says}
@@ -46,6 +55,36 @@ layout-entries = entries-fit
 -- The chunk of its DATA reaches to its end.
 pub layout-data : (s : List ℕ) → ToEnd (layoutOf s .layout) (length s)
 layout-data = data-laws.to-end
+
+-- A sound size is from 4 to 2,048 bytes; any other is refused with 1.
+pub size-sound : (n : ℕ) → hasSize n ≡ true → (minSize ≤ n) × (n ≤ maxSize)
+size-sound = layouts.sized
+
+pub size-refused : (s : List ℕ) → hasSize (length s) ≡ false → layoutOf s ≡ checkedOf (Fault 1) []
+size-refused = layouts.layout-unsized
+
+-- Where a pass over the plain messages at the front ends with the datagram, there are no others, and it has all of them.
+pub front-layout : (s : List ℕ) (f : Front) → Fronted s f → f .at ≡ length s → layoutOf s ≡ checkedOf (Messages 0) []
+front-layout = surveys.front-layout
+
+pub front-survey : (s : List ℕ) (f : Front) → Fronted s f → f .at ≡ length s → surveyAll s ≡ f .survey
+front-survey = surveys.front-survey
+
+-- The survey of the checks is that of all messages, unless it is refused.
+pub survey-passed : (s : List ℕ) → numberOf (layoutOf s .layout) ≡ 0 → surveySpec s ≡ surveyAll s
+survey-passed = surveys.survey-passed
+
+-- A plain message is told by its size: it is the one that its bytes say, and the next stands behind it.
+pub plain-read : (s : List ℕ) (at : ℕ) {n : ℕ} → n ≡ plainSize (stepAt s at) → (n ≡ 0 → ⊥) → stepAt s at ≡ Read (plainMessage (drop at s)) (cursor (at + n))
+plain-read = plains.plain-read
+
+-- It lies in the datagram.
+pub plain-inside : (s : List ℕ) (at : ℕ) {n : ℕ} → n ≡ plainSize (stepAt s at) → (n ≡ 0 → ⊥) → at + n ≤ length s
+plain-inside = plains.size-inside
+
+-- One of a type up to 9 has a range.
+pub plain-range : (s : List ℕ) (at : ℕ) {n : ℕ} → n ≡ plainSize (stepAt s at) → (n ≡ 0 → ⊥) → getD (drop at s) 0 0 ≤ 9 → 9 ≤ length (drop at s)
+plain-range = plains.size-range
 
 -- The checks with a room for the entries: the layout is the datagram's.
 pub layout-told : (room s : List ℕ) {l : Layout} {after : List ℕ} → checkedOf l after ≡ checkSpec room s → l ≡ layoutOf s .layout

@@ -30,15 +30,15 @@ use Rattle.wire.proofs.BytesLaws.{part}
 pub range-is : (t : List ℕ) {f l : ℕ} → f ≡ firstOf t → l ≡ lastOf t → _≡_ {A = Range} (record { first = f; last = l }) (rangeOf t)
 range-is t p q = cc
 
-first-is : (t : List ℕ) {r : Range} → r ≡ rangeOf t → r .first ≡ firstOf t
+pub first-is : (t : List ℕ) {r : Range} → r ≡ rangeOf t → r .first ≡ firstOf t
 first-is t e = ap (λ (x : Range). x .first) e
 
-last-is : (t : List ℕ) {r : Range} → r ≡ rangeOf t → r .last ≡ lastOf t
+pub last-is : (t : List ℕ) {r : Range} → r ≡ rangeOf t → r .last ≡ lastOf t
 last-is t e = ap (λ (x : Range). x .last) e
 
 -- whether a range is a node's, from the node found
 module _ (f l : ℕ) where
-  node-covers : {n : RangeNode} {x : ℕ} → n ≡ nodeOfRange f l → n ≡ Node x → covers (f + l) f l ≡ true
+  pub node-covers : {n : RangeNode} {x : ℕ} → n ≡ nodeOfRange f l → n ≡ Node x → covers (f + l) f l ≡ true
   unfolding nodeOfRange
   node-covers {n} {x} e g = by (covers (f + l) f l) (sym e ∙ g)
     where
@@ -55,7 +55,7 @@ module _ (f l : ℕ) where
       by true h = cc
       by false h = cc
 
-  no-node-covers : {n : RangeNode} → n ≡ nodeOfRange f l → n ≡ NoNode → covers (f + l) f l ≡ false
+  pub no-node-covers : {n : RangeNode} → n ≡ nodeOfRange f l → n ≡ NoNode → covers (f + l) f l ≡ false
   unfolding nodeOfRange
   no-node-covers {n} e g = by (covers (f + l) f l) (sym e ∙ g)
     where

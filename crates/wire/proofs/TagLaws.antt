@@ -7,12 +7,12 @@ use denote.Enum.Declared.{tagOf}
 use Rattle.wire.proofs.layout.Layout as layout
 use Rattle.wire.proofs.message.Message as message
 use Rattle.wire.specs.Layout.{numberOf}
-use Rattle.wire.specs.Steps.{turnedOf, turnOn}
+use Rattle.wire.specs.Steps.{noSurvey, passOf, lastOn}
 use Rattle.wire.specs.declared.message.Message.{Message}
 use Rattle.wire.specs.declared.message.Message.the-variants.{Handshake, Data, Ack, Have, Integrity, Request, Cancel, Choke, Unchoke}
 use Rattle.wire.specs.declared.layout.Layout.{Layout}
 use Rattle.wire.specs.declared.layout.Layout.the-variants.{Fault, HandshakeAlone, Messages, MessagesAndData}
-use Rattle.wire.specs.declared.layout.Turn.the-variants.{On}
+use Rattle.wire.specs.declared.survey.Survey.{Survey}
 
 -- not refused
 abbrev sound : List ℕ
@@ -25,18 +25,18 @@ number-sound (HandshakeAlone a o) h = refl
 number-sound (Messages k) h = refl
 number-sound (MessagesAndData c x b n k) h = refl
 
--- neither HANDSHAKE nor DATA nor INTEGRITY
-abbrev plain : List ℕ
-plain = 2 ∷ 3 ∷ 5 ∷ 6 ∷ 7 ∷ 8 ∷ []
+-- neither HANDSHAKE nor DATA
+abbrev others : List ℕ
+others = 2 ∷ 3 ∷ 4 ∷ 5 ∷ 6 ∷ 7 ∷ 8 ∷ []
 
--- the pass goes on
-pub turn-plain : (s room : List ℕ) (used at next : ℕ) (m : Message) → OneOf plain (tagOf message.the-type m) → turnedOf (On next used) room ≡ turnOn s room used at next m
-turn-plain s room used at next (Handshake a o) h = absurd (miss plain 0 tt h)
-turn-plain s room used at next (Data f l x b n) h = absurd (miss plain 1 tt h)
-turn-plain s room used at next (Ack f l d) h = refl
-turn-plain s room used at next (Have f l) h = refl
-turn-plain s room used at next (Integrity f l d) h = absurd (miss plain 4 tt h)
-turn-plain s room used at next (Request f l) h = refl
-turn-plain s room used at next (Cancel f l) h = refl
-turn-plain s room used at next Choke h = refl
-turn-plain s room used at next Unchoke h = refl
+pub last-other : (s : List ℕ) (used at : ℕ) (v : Survey) (next : ℕ) (m : Message) → OneOf others (tagOf message.the-type m)
+    → {w : Survey} → w ≡ noSurvey → passOf (Fault 2) w ≡ lastOn s used at v next m
+last-other s used at v next (Handshake a o) h e = absurd (miss others 0 tt h)
+last-other s used at v next (Data f l x b n) h e = absurd (miss others 1 tt h)
+last-other s used at v next (Ack f l d) h e = rw e
+last-other s used at v next (Have f l) h e = rw e
+last-other s used at v next (Integrity f l d) h e = rw e
+last-other s used at v next (Request f l) h e = rw e
+last-other s used at v next (Cancel f l) h e = rw e
+last-other s used at v next Choke h e = rw e
+last-other s used at v next Unchoke h e = rw e

@@ -11,7 +11,7 @@ pub struct Range {
 }
 
 // The range behind a message's type.
-pub(crate) fn read(rest: &[u8]) -> Range
+pub fn read(rest: &[u8]) -> Range
     requires { ⌜ 9 ≤ length (now rest) ⌝ }
     ensures { λ r. ⌜ r ≡ rangeOf (now (rest .entry)) ⌝ }
 {

@@ -12,6 +12,7 @@ ghost use mathlib.Core.Path.{_≡_};
 ghost use Rattle.wire_c.specs.Calls.{laidOf, layoutTold};
 use wire::layout;
 use wire::limits::ENTRIES;
+use wire::pass;
 
 // The number of a datagram's layout. Unless it is refused, `out` gets six words: 1 for a HANDSHAKE alone, 2 for
 // messages without DATA, 3 for messages with DATA; four for the fields of that HANDSHAKE or DATA, else zeros; and how
@@ -27,7 +28,7 @@ pub extern "C" fn wire_layout(datagram: &[u8], entries: &mut [u64], out: &mut [u
     if entries.len() < ENTRIES {
         return 11;
     }
-    let found = layout::check_into(datagram, entries);
+    let found = pass::check(datagram, entries);
     words::put_layout(out, found);
     layout::number(found)
 }

@@ -2,27 +2,33 @@
 use Prim.Native.Nat.{ℕ, zero, suc, _+_, _-_, _<_, _≤_}
 use native.Mathlib.Omega.{arith}
 use native.Mathlib.Nat.{sub-zero}
-use mathlib.Core.Path.{_≡_, refl, sym, ap, _∙_}
-use mathlib.Core.List.{List, _++_}
+use mathlib.Core.Path.{_≡_, refl, sym, ap, ap₂, _∙_}
+use mathlib.Core.List.{List, [], _∷_, _++_}
 use mathlib.Core.Bool.{Bool, true, false, not}
-use lib.ListN.{length, take, length-append}
+use lib.ListN.{length, take, drop, length-append}
 use lib.Seq.{length-take-le}
-use borrow.Author.Tests.{lt-ltb, le-ltb, eq-eqb, ne-eqb, not-false}
+use borrow.Author.Tests.{lt-ltb, le-ltb, eq-eqb, ne-eqb, not-true, not-false}
+use types.Run.{OneOf, miss}
+use denote.Enum.Declared.{tagOf}
 use Rattle.base.specs.Pick.{pick, earlier}
 use Rattle.base.specs.Out.{outOf, unless}
 use Rattle.tree.proofs.Promise.{nodeOfRange}
 use Rattle.tree.specs.declared.bin.RangeNode.{RangeNode}
 use Rattle.tree.specs.declared.bin.RangeNode.the-variants.{Node, NoNode}
+use Rattle.wire.proofs.message.Message as message
 use Rattle.wire.specs.Bytes.{be32, placed}
 use Rattle.wire.specs.Limits.{minSize, maxSize}
 use Rattle.wire.specs.Layout.{Checked, checkedOf, numberOf, seen, handshakeFault, layoutOf}
-use Rattle.wire.specs.Steps.{entryWords, checkSpec}
+use Rattle.wire.specs.Range.{nodeNumber}
+use Rattle.wire.specs.Steps.{entryWords, hasSize, checkSpec, Fronted}
+use Rattle.wire.specs.declared.pass.Front.{Front}
 use Rattle.wire.specs.declared.message.Options.{Options}
 use Rattle.wire.specs.declared.message.Message.{Message}
-use Rattle.wire.specs.declared.message.Message.the-variants.{Handshake}
+use Rattle.wire.specs.declared.message.Message.the-variants.{Handshake, Data, Ack, Have, Integrity, Request, Cancel, Choke, Unchoke}
 use Rattle.wire.specs.declared.layout.Layout.{Layout}
 use Rattle.wire.specs.declared.layout.Layout.the-variants.{Fault, HandshakeAlone, Messages, MessagesAndData}
-use Rattle.wire.proofs.ReadLaws.{node-sum}
+use Rattle.wire.proofs.LayoutLaws.{layout-unsized}
+use Rattle.wire.proofs.SurveyLaws.{front-layout}
 use Rattle.wire.proofs.ExtendLaws.{Extended}
 use Rattle.wire.proofs.FaultLaws.{Passed, passed, too-long}
 use Rattle.wire.proofs.CountLaws.{Says, entries-fit}
@@ -31,43 +37,103 @@ use Rattle.writer.specs.Bytes.{bytes32}
 use Rattle.writer.specs.Message.{bytesOf, writable}
 use Rattle.writer.specs.Add.{hasData, addAnswer, beginSpec, addSpec}
 use Rattle.writer.specs.Lists.{HasWidths}
-use Rattle.writer.specs.Steps.{sizeOf, nodeFault, faultBehind, Roomy, faultAfter, HasWidthsBehind, Addable}
+use Rattle.writer.specs.Steps.{sizeOf, faultBehind, nodeOf, ownFault, seenFault, behindOf, beforeNumbers, beforeOf, Addable}
+use Rattle.writer.specs.declared.add.Before.{Before}
 use Rattle.writer.proofs.SizeLaws.{bytes-length}
 use Rattle.writer.proofs.AcceptLaws.{size-some}
 use Rattle.writer.proofs.AddLaws.{joined, behind-number}
 
--- ---- the room for entries
-roomy : (l : Layout) (k size : ℕ) → Says l k → k ≤ size → Roomy l size
-roomy (Fault n) k size h o = tt
-roomy (HandshakeAlone a b) k size h o = tt
-roomy (Messages j) k size h o = omega (arith, h)
-roomy (MessagesAndData c x b n j) k size h o = tt
-
--- it has those of the datagram so far
-pub has-entries : (p : List ℕ) (size : ℕ) → entryWords ≤ size → {l : Layout} → l ≡ layoutOf p .layout → Roomy l size
-has-entries p size h e = let f = entries-fit p in rw e (roomy (layoutOf p .layout) (length (layoutOf p .entries)) size (f .0) (omega (arith, f .1)))
-
 -- ---- the number behind the datagram so far, by its layout
+
 same-number : (n : ℕ) → n ≡ earlier n 0
 same-number zero = refl
 same-number (suc n) = refl
 
-module _ (p source : List ℕ) (m : Message) (can : writable (length source) m ≡ true) (low : minSize ≤ length p) (room : length p + sizeOf m ≤ maxSize) where
-  after : (l : Layout) (gs : List ℕ) (c : Checked) (es : List ℕ) → Passed l → Says l (length gs) → take (length gs) es ≡ gs → HasWidthsBehind l m
-      → Extended p (bytesOf source m) l gs c → faultAfter l es (be32 p 0) (length p) m ≡ earlier (numberOf (c .layout)) (pick (hasData l) 2 0)
-  unfolding faultAfter
-  after (Fault n) gs c es q k w f x = absurd q
-  after (HandshakeAlone a o) gs c es q k w f x = rw (x (omega (arith, bytes-length source m can, size-some m)))
-  after (Messages j) gs c es q k w f x =
-      rw (k, w) (sym (behind-number p source m can low room f gs c x) ∙ same-number (numberOf (c .layout)))
-  after (MessagesAndData a b d n j) gs c es q k w f x = rw x
+-- a message's own number, and whether its node came before
+parts : (es : List ℕ) (to len : ℕ) (m : Message) → faultBehind es to len m ≡ earlier (seenFault es (nodeOf m)) (ownFault to len m)
+unfolding faultBehind seen
+parts es to len (Handshake a o) = refl
+parts es to len (Data f l x b n) = refl
+parts es to len (Ack f l d) = refl
+parts es to len (Have f l) = refl
+parts es to len (Integrity f l h) = by (nodeOfRange f l) refl
+  where
+    some : (b : Bool) → pick b 2 0 ≡ earlier (pick b 2 0) 0
+    some true = refl
+    some false = refl
 
-  pub after-is : {l : Layout} → l ≡ layoutOf p .layout → numberOf l ≡ 0 → (es : List ℕ) → take (length (layoutOf p .entries)) es ≡ layoutOf p .entries → HasWidthsBehind l m
-      → faultAfter l es (be32 p 0) (length p) m ≡ earlier (numberOf (layoutOf (p ++ bytesOf source m) .layout)) (pick (hasData l) 2 0)
-  after-is {l} e z es w f =
-      rw e
-      (after (layoutOf p .layout) (layoutOf p .entries) (layoutOf (p ++ bytesOf source m)) es (passed p (ap numberOf (sym e) ∙ z) .2) (entries-fit p .0) w (rw e at f)
-      (joined p source m can low room))
+    no-less : (b : Bool) → _≡_ {A = ℕ} 2 (earlier (pick b 2 0) 2)
+    no-less true = refl
+    no-less false = refl
+
+    by : (r : RangeNode) → nodeOfRange f l ≡ r → earlier (nodeNumber r) (pick (seen (f + l) es) 2 0) ≡ earlier (pick (seen (f + l) es) 2 0) (earlier (nodeNumber r) (pick (seen (f + l) []) 2 0))
+    by (Node b) e = some (seen (f + l) es)
+    by NoNode e = no-less (seen (f + l) es)
+parts es to len (Request f l) = refl
+parts es to len (Cancel f l) = refl
+parts es to len Choke = refl
+parts es to len Unchoke = refl
+
+module _ (p source : List ℕ) (m : Message) (can : writable (length source) m ≡ true) (low : minSize ≤ length p) (room : length p + sizeOf m ≤ maxSize) (widths : HasWidths m) where
+  after : (l : Layout) (gs : List ℕ) (c : Checked) → Passed l → Extended p (bytesOf source m) l gs c
+      → earlier (behindOf l gs (nodeOf m)) (ownFault (be32 p 0) (length p) m) ≡ earlier (numberOf (c .layout)) (pick (hasData l) 2 0)
+  after (Fault n) gs c q x = absurd q
+  after (HandshakeAlone a o) gs c q x = rw (x (omega (arith, bytes-length source m can, size-some m)))
+  after (Messages j) gs c q x =
+      sym (parts gs (be32 p 0) (length p) m) ∙ sym (behind-number p source m can low room widths gs c x) ∙ same-number (numberOf (c .layout))
+  after (MessagesAndData a b d n j) gs c q x = rw x
+
+  after-is : (l : Layout) → l ≡ layoutOf p .layout → numberOf l ≡ 0
+      → earlier (behindOf l (layoutOf p .entries) (nodeOf m)) (ownFault (be32 p 0) (length p) m)
+      ≡ earlier (numberOf (layoutOf (p ++ bytesOf source m) .layout)) (pick (hasData l) 2 0)
+  after-is l e z = rw e (after (layoutOf p .layout) (layoutOf p .entries) (layoutOf (p ++ bytesOf source m)) (passed p (ap numberOf (sym e) ∙ z) .2) (joined p source m can low room))
+
+-- ---- what the datagram so far says
+
+-- it has another size
+pub before-unsized : (s : List ℕ) (r : RangeNode) {b : Bool} → b ≡ hasSize (length s) → not b ≡ true → beforeNumbers 1 0 ≡ beforeOf (layoutOf s) r
+before-unsized s r {b} e h = rw (layout-unsized s (sym e ∙ not-true b h))
+
+-- none but plain messages
+pub before-plain : (s : List ℕ) (r : RangeNode) (f : Front) → Fronted s f → f .at ≡ length s → beforeNumbers 0 0 ≡ beforeOf (layoutOf s) r
+unfolding seen
+before-plain s r f p e = rw (front-layout s f p e) (none r)
+  where
+    none : (r : RangeNode) → beforeNumbers 0 0 ≡ beforeOf (checkedOf (Messages 0) []) r
+    none (Node b) = refl
+    none NoNode = refl
+
+-- by its layout, as a pass told it
+module _ (old s : List ℕ) (r : RangeNode) {l : Layout} {es : List ℕ} (e : checkedOf l es ≡ checkSpec old s) where
+  told : {m : Layout} → l ≡ m → m ≡ layoutOf s .layout
+  told q = sym q ∙ layout-told old s e
+
+  pub before-fault : {n : ℕ} → l ≡ Fault n → beforeNumbers n 0 ≡ beforeOf (layoutOf s) r
+  before-fault q = rw (← told q)
+
+  pub before-handshake : {a : ℕ} {o : Options} → l ≡ HandshakeAlone a o → beforeNumbers 0 3 ≡ beforeOf (layoutOf s) r
+  before-handshake q = rw (← told q)
+
+  pub before-data : {c x b n k : ℕ} → l ≡ MessagesAndData c x b n k → beforeNumbers 0 2 ≡ beforeOf (layoutOf s) r
+  before-data q = rw (← told q)
+
+  module _ {k : ℕ} (q : l ≡ Messages k) where
+    counted : k ≡ length (layoutOf s .entries)
+    counted = says (entries-fit s .0) (told q)
+      where
+        says : {m : Layout} {j : ℕ} → Says m j → Messages k ≡ m → k ≡ j
+        says g f = rw (← f) at g
+
+    module _ (h : entryWords ≤ length old) where
+      -- the entries lie in the room
+      pub before-few : k ≤ length es
+      before-few = omega (arith, counted, entries-fit s .1, length-told old s e)
+
+      pub before-messages : {n : ℕ} → n ≡ seenFault (take (k - 0) (drop 0 es)) r → beforeNumbers 0 n ≡ beforeOf (layoutOf s) r
+      before-messages p =
+          let z : k - 0 ≡ k = omega arith in
+          let g : take (k - 0) (drop 0 es) ≡ layoutOf s .entries = rw (z, counted) (entries-told old s e h) in
+          rw (p, g, ← told q)
 
 -- ---- the tests of adding, in their order
 module _ (room : List ℕ) (len : ℕ) (m : Message) (bytes : List ℕ) where
@@ -80,7 +146,21 @@ module _ (room : List ℕ) (len : ℕ) (m : Message) (bytes : List ℕ) where
     unfolding addAnswer
     add-size h = simp (le-ltb (length room) maxSize big, lt-ltb maxSize len h)
 
-    module _ (short : len ≤ maxSize) (l : Layout) (le : l ≡ layoutOf (take len room) .layout) where
+    module _ (short : len ≤ maxSize) {x : Before} (xe : x ≡ beforeOf (layoutOf (take (len - 0) room)) (nodeOf m)) where
+      l : Layout
+      l = layoutOf (take len room) .layout
+
+      at-len : take (len - 0) room ≡ take len room
+      at-len = ap (λ (k : ℕ). take k room) (sub-zero len)
+
+      fault-is : x .fault ≡ numberOf l
+      unfolding l
+      fault-is = ap (λ (y : Before). y .fault) xe ∙ ap (λ (t : List ℕ). numberOf (layoutOf t .layout)) at-len
+
+      behind-is : x .behind ≡ behindOf l (layoutOf (take len room) .entries) (nodeOf m)
+      unfolding l
+      behind-is = ap (λ (y : Before). y .behind) xe ∙ ap (λ (t : List ℕ). behindOf (layoutOf t .layout) (layoutOf t .entries) (nodeOf m)) at-len
+
       so-far-length : length (take len room) ≡ len
       so-far-length = length-take-le len room (omega arith)
 
@@ -88,19 +168,19 @@ module _ (room : List ℕ) (len : ℕ) (m : Message) (bytes : List ℕ) where
       tests = pick (not (writable (length bytes) m)) 2 (earlier (numberOf (layoutOf (take len room ++ bytesOf bytes m) .layout)) (pick (hasData l) 2 0))
 
       tested : addAnswer room len m bytes ≡ earlier (numberOf l) tests
-      unfolding addAnswer tests
-      tested = simp (le-ltb (length room) maxSize big, le-ltb maxSize len short, ← le)
+      unfolding addAnswer tests l
+      tested = simp (le-ltb (length room) maxSize big, le-ltb maxSize len short)
 
-      pub add-so-far : {w : ℕ} → w ≡ numberOf l → (w ≡ 0 → ⊥) → w ≡ addAnswer room len m bytes
-      add-so-far {w} e p = stop w p ∙ ap (λ (k : ℕ). earlier k tests) e ∙ sym tested
+      pub add-so-far : (x .fault ≡ 0 → ⊥) → x .fault ≡ addAnswer room len m bytes
+      add-so-far p = stop (x .fault) p ∙ ap (λ (k : ℕ). earlier k tests) fault-is ∙ sym tested
         where
           stop : (k : ℕ) → (k ≡ 0 → ⊥) → k ≡ earlier k tests
           stop zero q = absurd (q refl)
           stop (suc k) q = refl
 
-      module _ {w : ℕ} (we : w ≡ numberOf l) (z : w ≡ 0) {b : Bool} (be : b ≡ writable (length bytes) m) where
+      module _ (z : x .fault ≡ 0) {b : Bool} (be : b ≡ writable (length bytes) m) where
         sound : numberOf l ≡ 0
-        sound = sym we ∙ z
+        sound = sym fault-is ∙ z
 
         pub add-unwritable : not b ≡ true → 2 ≡ addAnswer room len m bytes
         unfolding tests
@@ -111,7 +191,11 @@ module _ (room : List ℕ) (len : ℕ) (m : Message) (bytes : List ℕ) where
           able = sym be ∙ not-false b can
 
           low : minSize ≤ length (take len room)
-          low = passed (take len room) (ap numberOf (sym le) ∙ sound) .0
+          unfolding l
+          low = passed (take len room) sound .0
+
+          pub add-low : minSize ≤ length (take (len - 0) room)
+          add-low = rw at-len low
 
           left : addAnswer room len m bytes ≡ earlier (numberOf (layoutOf (take len room ++ bytesOf bytes m) .layout)) (pick (hasData l) 2 0)
           unfolding tests
@@ -127,12 +211,23 @@ module _ (room : List ℕ) (len : ℕ) (m : Message) (bytes : List ℕ) where
               pub add-fits : Addable (length room) len m (length bytes)
               add-fits = record { fits = omega (arith, ne, fits, short); room = big; can = able }
 
-              pub add-after : (es : List ℕ) → take (length (layoutOf (take len room) .entries)) es ≡ layoutOf (take len room) .entries → HasWidthsBehind l m
-                  → {d r : ℕ} → d ≡ be32 (take len room) 0 → r ≡ faultAfter l es d len m → r ≡ addAnswer room len m bytes
-              add-after es w f {d} {r} de re =
-                  let k = so-far-length in
-                  let a = after-is (take len room) bytes m able low (omega (arith, k, fits, ne)) le sound es w f in
-                  re ∙ ap (λ (x : ℕ). faultAfter l es x len m) de ∙ ap (λ (x : ℕ). faultAfter l es (be32 (take len room) 0) x m) (sym k) ∙ a ∙ sym left
+              module _ (widths : HasWidths m) where
+                both : addAnswer room len m bytes ≡ earlier (x .behind) (ownFault (be32 (take len room) 0) len m)
+                unfolding l
+                both =
+                    let k = so-far-length in
+                    let a = after-is (take len room) bytes m able low (omega (arith, k, fits, ne)) widths l refl sound in
+                    left ∙ sym a ∙ ap₂ earlier (sym behind-is) (ap (λ (y : ℕ). ownFault (be32 (take len room) 0) y m) k)
+
+                pub add-behind : (x .behind ≡ 0 → ⊥) → x .behind ≡ addAnswer room len m bytes
+                add-behind p = stop (x .behind) p ∙ sym both
+                  where
+                    stop : (k : ℕ) → (k ≡ 0 → ⊥) → k ≡ earlier k (ownFault (be32 (take len room) 0) len m)
+                    stop zero q = absurd (q refl)
+                    stop (suc k) q = refl
+
+                pub add-own : x .behind ≡ 0 → {d r : ℕ} → d ≡ be32 (take (len - 0) room) 0 → r ≡ ownFault d len m → r ≡ addAnswer room len m bytes
+                add-own p {d} {r} de re = re ∙ ap (λ (y : ℕ). ownFault y len m) (de ∙ ap (λ (t : List ℕ). be32 t 0) at-len) ∙ sym (both ∙ rw p)
 
   -- the whole call
   module _ {w : ℕ} (e : w ≡ addAnswer room len m bytes) where
@@ -158,51 +253,42 @@ module _ (room : List ℕ) (to : ℕ) where
   unfolding beginSpec
   begin-done h q = simp (le-ltb (length room) maxSize h) (ap (outOf 0 4) q)
 
--- ---- a message behind others, as the code tests it
-module _ (es : List ℕ) (f l : ℕ) {r : RangeNode} (e : r ≡ nodeOfRange f l) where
-  pub node-seen : {b : ℕ} → r ≡ Node b → {t : Bool} → t ≡ seen b es → t ≡ true → 2 ≡ nodeFault es f l
-  node-seen g p q = rw (← e, g, ← node-sum f l e g, ← p, q)
-
-  pub node-new : {b : ℕ} → r ≡ Node b → {t : Bool} → t ≡ seen b es → t ≡ false → 0 ≡ nodeFault es f l
-  node-new g p q = rw (← e, g, ← node-sum f l e g, ← p, q)
-
-  pub no-node : r ≡ NoNode → 2 ≡ nodeFault es f l
-  no-node g = rw (← e, g)
+-- ---- a message by itself, as the code tests it
 
 -- a HANDSHAKE behind the destination alone, or behind a message
-module _ (es : List ℕ) (to len a : ℕ) (o : Options) where
-  pub handshake-behind : (len ≡ minSize → ⊥) → 3 ≡ faultBehind es to len (Handshake a o)
+module _ (to len a : ℕ) (o : Options) where
+  pub handshake-behind : (len ≡ minSize → ⊥) → 3 ≡ ownFault to len (Handshake a o)
   unfolding faultBehind
   handshake-behind h = rw (ne-eqb len minSize h)
 
-  pub handshake-first : len ≡ minSize → {r : ℕ} → r ≡ handshakeFault to a o → r ≡ faultBehind es to len (Handshake a o)
+  pub handshake-first : len ≡ minSize → {r : ℕ} → r ≡ handshakeFault to a o → r ≡ ownFault to len (Handshake a o)
   unfolding faultBehind
   handshake-first h e = e ∙ rw (eq-eqb len minSize h)
 
--- ---- parts of slices, as the code has them
-pub cut : (n : ℕ) (l : List ℕ) → take (n - 0) l ≡ take n l
-cut n l = ap (λ (k : ℕ). take k l) (sub-zero n)
+-- whether a node came before
+pub seen-node : (es : List ℕ) {r : RangeNode} {b : ℕ} → r ≡ Node b → {t : Bool} → t ≡ seen b es → {x : Bool} → t ≡ x → pick {A = ℕ} x 2 0 ≡ seenFault es r
+seen-node es e p q = rw (e, ← p, q)
 
--- behind messages without HANDSHAKE or DATA
-pub after-messages : (es : List ℕ) (to len : ℕ) (m : Message) {l : Layout} {n : ℕ} → l ≡ Messages n → {r : ℕ} → (r ≡ faultBehind (take (n - 0) es) to len m) × HasWidths m
-    → (r ≡ faultAfter l es to len m) × HasWidthsBehind l m
-unfolding faultAfter
-after-messages es to len m {n = n} e p = rw e (p .0 ∙ ap (λ (gs : List ℕ). faultBehind gs to len m) (cut n es), p .1)
+-- the node of any other message than INTEGRITY
+abbrev others : List ℕ
+others = 0 ∷ 1 ∷ 2 ∷ 3 ∷ 5 ∷ 6 ∷ 7 ∷ 8 ∷ []
 
--- the checks of the first bytes of a room
-module _ (old room : List ℕ) (len : ℕ) {l : Layout} {es : List ℕ} (e : checkedOf l es ≡ checkSpec old (take (len - 0) room)) where
-  at-len : checkedOf l es ≡ checkSpec old (take len room)
-  at-len = e ∙ ap (checkSpec old) (cut len room)
+pub no-node-of : (m : Message) → OneOf others (tagOf message.the-type m) → NoNode ≡ nodeOf m
+no-node-of (Handshake a o) h = refl
+no-node-of (Data f l x b n) h = refl
+no-node-of (Ack f l d) h = refl
+no-node-of (Have f l) h = refl
+no-node-of (Integrity f l d) h = absurd (miss others 4 tt h)
+no-node-of (Request f l) h = refl
+no-node-of (Cancel f l) h = refl
+no-node-of Choke h = refl
+no-node-of Unchoke h = refl
 
-  pub front-layout : l ≡ layoutOf (take len room) .layout
-  front-layout = layout-told old (take len room) at-len
+-- what the datagram so far says to the message
+pub told-of : (s : List ℕ) (m : Message) {x : Before} {r : RangeNode} → x ≡ beforeOf (layoutOf s) r → r ≡ nodeOf m → x ≡ beforeOf (layoutOf s) (nodeOf m)
+told-of s m e p = e ∙ ap (beforeOf (layoutOf s)) p
 
-  pub front-length : length es ≡ length old
-  front-length = length-told old (take len room) at-len
-
-  pub front-entries : entryWords ≤ length old → take (length (layoutOf (take len room) .entries)) es ≡ layoutOf (take len room) .entries
-  front-entries = entries-told old (take len room) at-len
-
--- they have a destination
-pub front-low : (room : List ℕ) (len : ℕ) {l : Layout} → l ≡ layoutOf (take len room) .layout → {w : ℕ} → w ≡ numberOf l → w ≡ 0 → minSize ≤ length (take (len - 0) room)
-front-low room len e we z = rw (cut len room) (passed (take len room) (ap numberOf (sym e) ∙ sym we ∙ z) .0)
+-- INTEGRITY
+pub node-own : (to len f l h : ℕ) {r : ℕ} → r ≡ nodeNumber (nodeOfRange f l) → r ≡ ownFault to len (Integrity f l h)
+unfolding faultBehind seen
+node-own to len f l h e = e ∙ same-number (nodeNumber (nodeOfRange f l))

@@ -1,11 +1,12 @@
 -- What the crates above know of this one: of its definitions the names passed on here, the round trips, that a refused call
 -- changes nothing, and which numbers a call can give. Assumes nothing.
-use mathlib.Core.Path.{_≡_}
+use mathlib.Core.Path.{_≡_, sym, ap, _∙_}
 use mathlib.Core.List.{List, [], _∷_, _++_}
 use mathlib.Core.Bool.{true}
 use Prim.Native.Nat.{ℕ, _+_, _<_, _≤_, _^_}
 use native.Mathlib.Omega.{arith}
-use lib.ListN.{length}
+use lib.ListN.{length, take}
+use lib.Seq.{take-length}
 use lib.Dec.{ltb}
 use Rattle.base.specs.Pick.{pick}
 use Rattle.base.specs.Out.{outOf, Unaltered}
@@ -13,12 +14,14 @@ use Rattle.base.specs.Among.{OneOf}
 use Rattle.base.proofs.OutLaws.{done-unaltered, unless-unaltered}
 use Rattle.wire.proofs.Promise.{be32, placed, minSize, maxSize, numberOf, layoutOf}
 use Rattle.wire.specs.declared.message.Message.{Message}
+use Rattle.wire.specs.declared.message.Message.the-variants.{Integrity}
 use Rattle.writer.proofs.SizeLaws.{bytes-length}
 use Rattle.writer.proofs.ReadBackLaws.{read-over}
 use Rattle.writer.proofs.RoundTrips.{written-reads, read-writes}
 use Rattle.writer.proofs.AnswerNumberLaws as numbers
 use Rattle.writer.proofs.ComposeLaws as compose
-pub use Rattle.writer.specs.Bytes.{bytes32, bytes64}
+pub use Rattle.writer.specs.Bytes.{bytes64, rangeBytes}
+unfoldable pub use Rattle.writer.specs.Bytes.{bytes32}
 pub use Rattle.writer.specs.Message.{within, bytesOf}
 unfoldable pub use Rattle.writer.specs.Message.{writable, writableOptions}
 pub use Rattle.writer.specs.Add.{addAnswer, addSpec}
@@ -26,7 +29,7 @@ unfoldable pub use Rattle.writer.specs.Add.{beginSpec}
 pub use Rattle.writer.specs.Lists.{Item, itemOf, encode, HasWidths, AllHaveWidths, AreBytes, contentOf, contentsOf, onStep, readAll, Reads, Rewritable, writeAll, datagramOf}
 unfoldable pub use Rattle.writer.specs.Lists.{readFrom}
 unfoldable pub use Rattle.writer.specs.Steps.{sizeOf, optionSpan, faultBehind}
-pub use Rattle.writer.proofs.PlaceLaws.{size32}
+pub use Rattle.writer.proofs.PlaceLaws.{size32, sizeRange}
 pub use Rattle.writer.proofs.NumberLaws.{be32-fits}
 pub use Rattle.writer.proofs.RoundTrips.{Plain, rewritable}
 pub use Rattle.writer.proofs.ComposeLaws.{Joining, notedAll}
@@ -34,6 +37,11 @@ pub use Rattle.writer.proofs.ComposeLaws.{Joining, notedAll}
 -- A message that can be written has the size that the table says.
 pub message-size : (s : List ℕ) (m : Message) → writable (length s) m ≡ true → length (bytesOf s m) ≡ sizeOf m
 message-size = bytes-length
+
+-- An INTEGRITY message is its type and range, and then its hash.
+pub integrity-bytes : (s : List ℕ) (f l : ℕ) → length s ≡ 32 → bytesOf s (Integrity f l 0) ≡ rangeBytes 4 f l ++ s
+unfolding bytesOf
+integrity-bytes s f l e = ap (λ (r : List ℕ). rangeBytes 4 f l ++ r) (ap (λ (n : ℕ). take n s) (sym e) ∙ take-length s)
 
 -- A keepalive has no message.
 pub read-none : (s : List ℕ) → length s ≡ minSize → readAll s ≡ []

@@ -1,15 +1,16 @@
 -- Nothing of the papers: a message's size, and what adding computes on its way. Assumes nothing.
 use Prim.Native.Nat.{ℕ, _+_, _≤_}
 use mathlib.Core.Path.{_≡_}
-use mathlib.Core.List.{List}
+use mathlib.Core.List.{List, []}
 use mathlib.Core.Bool.{true}
-use lib.ListN.{take}
 use lib.Dec.{ltb, eqb}
 use Rattle.base.specs.Pick.{pick, earlier}
 use Rattle.tree.proofs.Promise.{nodeOfRange}
+use Rattle.tree.specs.declared.bin.RangeNode.{RangeNode}
+use Rattle.tree.specs.declared.bin.RangeNode.the-variants.{Node, NoNode}
 use Rattle.wire.specs.Limits.{minSize, maxSize}
 use Rattle.wire.specs.Range.{nodeNumber}
-use Rattle.wire.specs.Layout.{seen, handshakeFault}
+use Rattle.wire.specs.Layout.{Checked, numberOf, seen, handshakeFault}
 use Rattle.wire.specs.declared.message.Options.{Options}
 use Rattle.wire.specs.declared.message.Options.the-variants.{Fixed, EndOnly, Other}
 use Rattle.wire.specs.declared.message.Message.{Message}
@@ -17,7 +18,7 @@ use Rattle.wire.specs.declared.message.Message.the-variants.{Handshake, Data, A
 use Rattle.wire.specs.declared.layout.Layout.{Layout}
 use Rattle.wire.specs.declared.layout.Layout.the-variants.{Fault, HandshakeAlone, Messages, MessagesAndData}
 use Rattle.writer.specs.Message.{writable}
-use Rattle.writer.specs.Lists.{HasWidths}
+use Rattle.writer.specs.declared.add.Before.{Before}
 
 -- ---- sizes
 
@@ -64,26 +65,40 @@ faultBehind es to len (Cancel f l) = rangeFault f l
 faultBehind es to len Choke = 0
 faultBehind es to len Unchoke = 0
 
--- A room has the words that a layout says it has written there.
-abbrev pub Roomy : Layout → ℕ → Type 0
-Roomy (Fault n) size = Unit {0}
-Roomy (HandshakeAlone a o) size = Unit {0}
-Roomy (Messages k) size = k ≤ size
-Roomy (MessagesAndData c x b n k) size = Unit {0}
+-- The number that the node of an INTEGRITY has, if its range is one's; no other message has one.
+abbrev pub nodeOf : Message → RangeNode
+nodeOf (Handshake a o) = NoNode
+nodeOf (Data f l x b n) = NoNode
+nodeOf (Ack f l d) = NoNode
+nodeOf (Have f l) = NoNode
+nodeOf (Integrity f l h) = Node (f + l)
+nodeOf (Request f l) = NoNode
+nodeOf (Cancel f l) = NoNode
+nodeOf Choke = NoNode
+nodeOf Unchoke = NoNode
 
--- The number for a message behind len bytes of a datagram of this layout, whose entries stand at the front of a room.
-unfoldable pub faultAfter : Layout → List ℕ → ℕ → ℕ → Message → ℕ
-faultAfter (Fault n) room to len m = n
-faultAfter (HandshakeAlone a o) room to len m = 3
-faultAfter (Messages k) room to len m = faultBehind (take k room) to len m
-faultAfter (MessagesAndData c x b n k) room to len m = 2
+-- The number for a message by itself: as if no node came before.
+abbrev pub ownFault : ℕ → ℕ → Message → ℕ
+ownFault to len m = faultBehind [] to len m
 
--- The numbers of a message behind a datagram of this layout have their widths.
-abbrev pub HasWidthsBehind : Layout → Message → Type 0
-HasWidthsBehind (Fault n) m = Unit {0}
-HasWidthsBehind (HandshakeAlone a o) m = Unit {0}
-HasWidthsBehind (Messages k) m = HasWidths m
-HasWidthsBehind (MessagesAndData c x b n k) m = Unit {0}
+-- 2 for a node that is among the entries.
+abbrev pub seenFault : List ℕ → RangeNode → ℕ
+seenFault es (Node b) = pick (seen b es) 2 0
+seenFault es NoNode = 0
+
+-- The number for a message behind a datagram of this layout and these entries, by what stands before it.
+abbrev pub behindOf : Layout → List ℕ → RangeNode → ℕ
+behindOf (Fault n) es r = 0
+behindOf (HandshakeAlone a o) es r = 3
+behindOf (Messages k) es r = seenFault es r
+behindOf (MessagesAndData c x b n k) es r = 2
+
+-- A datagram's own number, and that one.
+abbrev pub beforeNumbers : (fault behind : ℕ) → Before
+beforeNumbers fault behind = record { fault = fault; behind = behind }
+
+abbrev pub beforeOf : Checked → RangeNode → Before
+beforeOf c r = beforeNumbers (numberOf (c .layout)) (behindOf (c .layout) (c .entries) r)
 
 -- What an accepted message has: it fits the room, and its bytes lie in the source.
 pub record Addable (size len : ℕ) (m : Message) (source : ℕ) : Type 0 where

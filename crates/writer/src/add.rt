@@ -4,8 +4,12 @@ ghost use lib.ListN.{length};
 ghost use Rattle.base.specs.Out.{outOf};
 ghost use Rattle.writer.specs.Add.{addAnswer, addSpec, beginSpec};
 ghost use Rattle.writer.specs.Lists.{HasWidths};
-ghost use Rattle.writer.specs.Steps.{rangeFault, chunkFault, nodeFault, faultBehind};
-ghost use Rattle.writer.specs.Steps.{Roomy, faultAfter, HasWidthsBehind, Addable};
+ghost use Rattle.tree.proofs.Promise.{nodeOfRange};
+ghost use Rattle.wire.specs.Range.{nodeNumber};
+ghost use Rattle.wire.specs.Layout.{layoutOf};
+ghost use Rattle.wire.specs.Steps.{Fronted};
+ghost use Rattle.writer.specs.Steps.{rangeFault, chunkFault, nodeOf, ownFault};
+ghost use Rattle.writer.specs.Steps.{seenFault, beforeOf, Addable};
 use crate::place;
 use crate::put;
 use crate::size;
@@ -18,6 +22,8 @@ use wire::limits::ENTRIES;
 use wire::limits::MAX_SIZE;
 use wire::limits::MIN_SIZE;
 use wire::message::Message;
+use wire::pass;
+use wire::pass::Front;
 
 // 2 for a range whose first chunk is above its last.
 fn range_fault(first: u32, last: u32) -> u32
@@ -39,20 +45,33 @@ fn chunk_fault(first: u32, last: u32) -> u32
     0
 }
 
-// 2 for a range that is no node's, or one's that is among the entries.
-fn node_fault(entries: &[u64], first: u32, last: u32) -> u32
-    ensures { λ r. ⌜ r ≡ nodeFault (now (entries .entry)) first last ⌝ }
+// 2 for a range that is no node's.
+fn node_fault(first: u32, last: u32) -> u32
+    ensures { λ r. ⌜ r ≡ nodeNumber (nodeOfRange first last) ⌝ }
 {
     match bin::node_of_range(first, last) {
-        RangeNode::Node(b) => { if layout::seen(entries, b) { 2 } else { 0 } }
+        RangeNode::Node(_) => 0,
         RangeNode::NoNode => 2,
     }
 }
 
-// The number for a message behind `len` bytes of a datagram without HANDSHAKE or DATA, with its destination and
-// entries.
-fn fault_behind(entries: &[u64], destination: u32, len: usize, message: Message) -> u32
-    ensures { λ r. ⌜ (r ≡ faultBehind (now (entries .entry)) destination len message) × HasWidths message ⌝ }
+// The number that the node of an INTEGRITY has, if its range is one's.
+fn node_of(message: Message) -> RangeNode
+    ensures { λ r. ⌜ r ≡ nodeOf message ⌝ }
+{
+    match message {
+        Message::Integrity {
+            first,
+            last,
+            hash: _,
+        } => RangeNode::Node(first as u64 + last as u64),
+        _ => RangeNode::NoNode,
+    }
+}
+
+// The number for a message by itself, behind `len` bytes of a datagram with its destination.
+fn own_fault(destination: u32, len: usize, message: Message) -> u32
+    ensures { λ r. ⌜ (r ≡ ownFault destination len message) × HasWidths message ⌝ }
 {
     match message {
         Message::Handshake { source, options } => {
@@ -79,7 +98,7 @@ fn fault_behind(entries: &[u64], destination: u32, len: usize, message: Message)
             first,
             last,
             hash: _,
-        } => node_fault(entries, first, last),
+        } => node_fault(first, last),
         Message::Request { first, last } => range_fault(first, last),
         Message::Cancel { first, last } => range_fault(first, last),
         Message::Choke => 0,
@@ -87,35 +106,76 @@ fn fault_behind(entries: &[u64], destination: u32, len: usize, message: Message)
     }
 }
 
-// The number for a message behind `len` bytes of a datagram of this layout; 2 behind DATA.
-fn fault_after(
-    layout: Layout,
-    entries: &[u64],
-    destination: u32,
-    len: usize,
-    message: Message,
-) -> u32
-    requires { ⌜ Roomy layout (length (now entries)) ⌝ }
-    ensures { λ r. ⌜ (r ≡ faultAfter layout (now (entries .entry)) destination len message)
-        × HasWidthsBehind layout message ⌝ }
+// What a datagram so far says to one message more: its own number, and the number for what comes behind it.
+struct Before {
+    fault: u32,
+    behind: u32,
+}
+
+// 2 for a node that is among the entries.
+fn seen_fault(entries: &[u64], node: RangeNode) -> u32
+    ensures { λ r. ⌜ r ≡ seenFault (now (entries .entry)) node ⌝ }
 {
-    match layout {
-        Layout::Fault { number } => number,
+    match node {
+        RangeNode::Node(b) => { if layout::seen(entries, b) { 2 } else { 0 } }
+        RangeNode::NoNode => 0,
+    }
+}
+
+// The same of a datagram that has others than plain messages: its scratch is made here alone.
+fn before_others(prefix: &[u8], front: Front, node: RangeNode) -> Before
+    requires { ⌜ Fronted (now prefix) front ⌝ }
+    ensures { λ r. ⌜ r ≡ beforeOf (layoutOf (now (prefix .entry))) node ⌝ }
+{
+    let mut entries = [0u64; ENTRIES];
+    let pass = pass::rest(prefix, &mut entries, front);
+    let found = pass.layout;
+    match found {
+        Layout::Fault { number } => Before {
+            fault: number,
+            behind: 0,
+        },
         Layout::HandshakeAlone {
             source: _,
             options: _,
-        } => 3,
-        Layout::Messages { entries: n } => {
-            fault_behind(&entries[0..n], destination, len, message)
-        }
+        } => Before {
+            fault: 0,
+            behind: 3,
+        },
+        Layout::Messages { entries: n } => Before {
+            fault: 0,
+            behind: seen_fault(&entries[0..n], node),
+        },
         Layout::MessagesAndData {
             chunk: _,
             timestamp: _,
             start: _,
             len: _,
             entries: _,
-        } => 2,
+        } => Before {
+            fault: 0,
+            behind: 2,
+        },
     }
+}
+
+fn before_message(prefix: &[u8], node: RangeNode) -> Before
+    ensures { λ r. ⌜ r ≡ beforeOf (layoutOf (now (prefix .entry))) node ⌝ }
+{
+    if !pass::has_size(prefix) {
+        return Before {
+            fault: 1,
+            behind: 0,
+        };
+    }
+    let front = pass::plain_front(prefix);
+    if front.at == prefix.len() {
+        return Before {
+            fault: 0,
+            behind: 0,
+        };
+    }
+    before_others(prefix, front, node)
 }
 
 // The number for adding a message to the first `len` bytes of the room.
@@ -130,11 +190,9 @@ fn add_answer(room: &[u8], len: usize, message: Message, bytes: &[u8]) -> u32
         return 1;
     }
     let prefix = &room[0..len];
-    let mut entries = [0u64; ENTRIES];
-    let layout = layout::check(prefix, &mut entries);
-    let fault = layout::number(layout);
-    if fault != 0 {
-        return fault;
+    let told = before_message(prefix, node_of(message));
+    if told.fault != 0 {
+        return told.fault;
     }
     if !size::writable(bytes.len(), message) {
         return 2;
@@ -142,7 +200,11 @@ fn add_answer(room: &[u8], len: usize, message: Message, bytes: &[u8]) -> u32
     if MAX_SIZE - len < size::size_of(message, bytes) {
         return 1;
     }
-    fault_after(layout, &entries, bytes::load32(prefix, 0), len, message)
+    let own = own_fault(bytes::load32(prefix, 0), len, message);
+    if told.behind != 0 {
+        return told.behind;
+    }
+    own
 }
 
 pub struct Added {

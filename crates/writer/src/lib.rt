@@ -1,5 +1,5 @@
 // Datagrams written: begun in a lent room, a message added to them. What is added reads back as it was.
 pub mod add; // beginning a datagram, and adding a message to it
-mod place; // big-endian numbers and bytes into a room
+pub mod place; // big-endian numbers and bytes into a room
 pub mod put; // a message into a room
-pub mod size; // what a message takes
+mod size; // what a message takes

@@ -13,7 +13,7 @@ pub(crate) fn place8(room: &mut [u8], at: usize, x: u8)
     room[at] = x;
 }
 
-pub(crate) fn place32(room: &mut [u8], at: usize, x: u32)
+pub fn place32(room: &mut [u8], at: usize, x: u32)
     requires { ⌜ at + 4 ≤ length (now room) ⌝ }
     ensures { λ _. ⌜ now (room .exit) ≡ placed (now (room .entry)) at (bytes32 x) ⌝ }
 {
@@ -43,7 +43,7 @@ pub(crate) fn place_all(room: &mut [u8], at: usize, bytes: &[u8])
 }
 
 // A message's type and range, whose two numbers are written here alone.
-pub(crate) fn place_range(room: &mut [u8], at: usize, kind: u8, first: u32, last: u32)
+pub fn place_range(room: &mut [u8], at: usize, kind: u8, first: u32, last: u32)
     requires { ⌜ at + 9 ≤ length (now room) ⌝ }
     ensures { λ _. ⌜ now (room .exit) ≡ placed (now (room .entry)) at (rangeBytes kind first last) ⌝ }
 {

@@ -44,7 +44,8 @@ fn put_options(room: &mut [u8], at: usize, options: Options, bytes: &[u8])
     }
 }
 
-fn put_handshake(room: &mut [u8], at: usize, source: u32, options: Options, bytes: &[u8])
+// A HANDSHAKE, as `put` puts it, for whoever has its parts.
+pub fn put_handshake(room: &mut [u8], at: usize, source: u32, options: Options, bytes: &[u8])
     requires { ⌜ at + (5 + optionSpan options) ≤ length (now room) ⌝ }
     requires { ⌜ writableOptions (length (now bytes)) options ≡ true ⌝ }
     ensures { λ _. ⌜ now (room .exit)
@@ -55,7 +56,8 @@ fn put_handshake(room: &mut [u8], at: usize, source: u32, options: Options, byte
     put_options(room, at + 5, options, bytes);
 }
 
-fn put_data(
+// A DATA message, likewise.
+pub fn put_data(
     room: &mut [u8],
     at: usize,
     first: u32,
@@ -76,7 +78,8 @@ fn put_data(
     place::place_all(room, at + 17, &bytes[start..end]);
 }
 
-fn put_ack(room: &mut [u8], at: usize, first: u32, last: u32, delay: u64, bytes: &[u8])
+// An ACK, likewise.
+pub fn put_ack(room: &mut [u8], at: usize, first: u32, last: u32, delay: u64, bytes: &[u8])
     requires { ⌜ at + 17 ≤ length (now room) ⌝ }
     ensures { λ _. ⌜ now (room .exit)
         ≡ placed (now (room .entry)) at (bytesOf (now (bytes .entry)) (Message.Ack first last delay)) ⌝ }
@@ -85,8 +88,7 @@ fn put_ack(room: &mut [u8], at: usize, first: u32, last: u32, delay: u64, bytes:
     place::place64(room, at + 9, delay);
 }
 
-// An INTEGRITY message, as `put` puts it, for whoever has its parts.
-pub fn put_integrity(room: &mut [u8], at: usize, first: u32, last: u32, hash: usize, bytes: &[u8])
+fn put_integrity(room: &mut [u8], at: usize, first: u32, last: u32, hash: usize, bytes: &[u8])
     requires { ⌜ at + 41 ≤ length (now room) ⌝ }
     requires { ⌜ hash + 32 ≤ length (now bytes) ⌝ }
     ensures { λ _. ⌜ now (room .exit)
@@ -98,7 +100,7 @@ pub fn put_integrity(room: &mut [u8], at: usize, first: u32, last: u32, hash: us
 }
 
 // A message into the room at `at`.
-pub fn put(room: &mut [u8], at: usize, message: Message, bytes: &[u8])
+pub(crate) fn put(room: &mut [u8], at: usize, message: Message, bytes: &[u8])
     requires { ⌜ at + sizeOf message ≤ length (now room) ⌝ }
     requires { ⌜ writable (length (now bytes)) message ≡ true ⌝ }
     ensures { λ _. ⌜ now (room .exit)

@@ -61,7 +61,7 @@ fn option_span(options: Options) -> usize
 }
 
 // The size of a message whose bytes lie in `bytes`.
-pub fn size_of(message: Message, bytes: &[u8]) -> usize
+pub(crate) fn size_of(message: Message, bytes: &[u8]) -> usize
     requires { ⌜ writable (length (now bytes)) message ≡ true ⌝ }
     ensures { λ r. ⌜ (r ≡ sizeOf message) × (r ≤ length (now (bytes .entry)) + 64) ⌝ }
 {

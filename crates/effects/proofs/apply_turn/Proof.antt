@@ -1,24 +1,30 @@
+use native.Mathlib.Omega.{arith}
 use mathlib.Core.Path.{sym, _∙_}
+use lib.ListN.{length-drop}
+use Rattle.wire.proofs.Promise.{plain-inside, plain-range}
 use Rattle.effects.specs.Effects.{peerOf}
-use Rattle.effects.proofs.EffectLaws.{turn-read, turn-end, turn-refused}
+use Rattle.effects.proofs.EffectLaws.{part, turn-plain, turn-other, turn-end, turn-refused}
 use borrow.Author.Needs.{needs}
 use Rattle.effects.proofs.apply_turn.Statement.{statement}
 use Rattle.effects.proofs.apply_turn.Tie as tie
 
-read-requires : tie.Need-read-requires
-read-requires c κs = search needs
+size-requires : tie.Need-size-requires
+size-requires c κs = search needs
 
-enum-known-message : tie.Need-enum-known-message
-enum-known-message c = search needs
+sub-apply-plain : tie.Need-sub-apply-plain
+sub-apply-plain c = omega (arith, plain-inside _ _ (c .before .before .before .size .ensures) (c .before .before .if1 .taken))
 
-apply-one-requires : tie.Need-apply-one-requires
-apply-one-requires c κs = search needs
+part-apply-plain-start : tie.Need-part-apply-plain-start
+part-apply-plain-start c = omega (arith, plain-inside _ _ (c .before .before .before .size .ensures) (c .before .before .if1 .taken))
 
-enum-told : tie.Need-enum-told
-enum-told c = search needs
+part-apply-plain-end : tie.Need-part-apply-plain-end
+part-apply-plain-end c = search needs
 
-enum-told-2 : tie.Need-enum-told-2
-enum-told-2 c = search needs
+apply-plain-requires : tie.Need-apply-plain-requires
+apply-plain-requires c κs = (c .before .before .before .before .before .before .before .before .pre, (simp (part, length-drop) (omega (arith, plain-inside _ _ (c .before .before .before .before .size .ensures) (c .before .before .before .if1 .taken), c .before .before .before .if1 .taken)), simp part (plain-range _ _ (c .before .before .before .before .size .ensures) (c .before .before .before .if1 .taken))))
+
+add-t20 : tie.Need-add-t20
+add-t20 c = let h = plain-inside _ _ (c .before .before .before .before .before .before .before .before .before .size .ensures) (c .before .before .before .before .before .before .before .before .if1 .taken) in search needs
 
 same-length : tie.Need-same-length
 same-length c = search needs
@@ -27,25 +33,46 @@ same-length-2 : tie.Need-same-length-2
 same-length-2 c = search needs
 
 returns : tie.Need-returns
-returns c = let a = c .before .before .before .before .before .before .before .before .before .before .before .before .before .before .args in turn-read (a .base) (peerOf (a .has .now) (a .wants .now) (a .choked)) (a .left) (sym (c .before .before .before .before .before .before .before .before .before .before .read .ensures) ∙ c .before .before .before .before .before .before .before .before .message .given .1) (c .before .before .before .before .apply-one .ensures)
+returns c = turn-plain (c .before .before .before .before .before .before .before .before .before .before .before .before .before .args .base) (peerOf (c .before .before .before .before .before .before .before .before .before .before .before .before .before .args .has .now) (c .before .before .before .before .before .before .before .before .before .before .before .before .before .args .wants .now) (c .before .before .before .before .before .before .before .before .before .before .before .before .before .args .choked)) (c .before .before .before .before .before .before .before .before .before .before .before .before .before .args .left) _ _ (c .before .before .before .before .before .before .before .before .before .size .ensures) (c .before .before .before .before .before .before .before .before .if1 .taken) (c .before .before .before .before .apply-plain .ensures)
+
+read-requires : tie.Need-read-requires
+read-requires c κs = search needs
+
+enum-known-next : tie.Need-enum-known-next
+enum-known-next c = search needs
+
+enum-told : tie.Need-enum-told
+enum-told c = search needs
+
+enum-told-2 : tie.Need-enum-told-2
+enum-told-2 c = search needs
 
 returns-2 : tie.Need-returns-2
-returns-2 c = let a = c .before .before .before .before .before .before .args in turn-end (a .base) (peerOf (a .has .now) (a .wants .now) (a .choked)) (a .left) (sym (c .before .before .read .ensures) ∙ c .enum-told .given .1)
+returns-2 c = turn-other (c .before .before .before .before .before .before .before .before .before .args .base) (peerOf (c .before .before .before .before .before .before .before .before .before .args .has .now) (c .before .before .before .before .before .before .before .before .before .args .wants .now) (c .before .before .before .before .before .before .before .before .before .args .choked)) (c .before .before .before .before .before .before .before .before .before .args .left) (c .before .before .before .before .before .size .ensures) (omega (arith, c .before .before .before .before .if1 .left)) (sym (c .before .before .before .read .ensures) ∙ c .before .next .given .1)
 
 returns-3 : tie.Need-returns-3
-returns-3 c = let a = c .before .before .before .before .before .before .args in turn-refused (a .base) (peerOf (a .has .now) (a .wants .now) (a .choked)) (a .left) (sym (c .before .before .read .ensures) ∙ c .enum-told2 .given .1)
+returns-3 c = turn-end (c .before .before .before .before .before .before .before .before .args .base) (peerOf (c .before .before .before .before .before .before .before .before .args .has .now) (c .before .before .before .before .before .before .before .before .args .wants .now) (c .before .before .before .before .before .before .before .before .args .choked)) (c .before .before .before .before .before .before .before .before .args .left) (sym (c .before .before .read .ensures) ∙ c .enum-told .given .1)
+
+returns-4 : tie.Need-returns-4
+returns-4 c = turn-refused (c .before .before .before .before .before .before .before .before .args .base) (peerOf (c .before .before .before .before .before .before .before .before .args .has .now) (c .before .before .before .before .before .before .before .before .args .wants .now) (c .before .before .before .before .before .before .before .before .args .choked)) (c .before .before .before .before .before .before .before .before .args .left) (sym (c .before .before .read .ensures) ∙ c .enum-told2 .given .1)
 
 pub apply-turn-spec : {M : Type 1} → statement M
 apply-turn-spec =
     tie.close
     (tie.spec
-    read-requires
-    enum-known-message
-    apply-one-requires
-    enum-told
-    enum-told-2
+    size-requires
+    sub-apply-plain
+    part-apply-plain-start
+    part-apply-plain-end
+    apply-plain-requires
+    add-t20
     same-length
     same-length-2
     returns
+    read-requires
+    enum-known-next
+    enum-told
+    enum-told-2
     returns-2
-    returns-3)
+    returns-3
+    returns-4)

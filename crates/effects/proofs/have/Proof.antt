@@ -1,4 +1,4 @@
-use Rattle.effects.proofs.EffectLaws.{have-does}
+use Rattle.effects.proofs.EffectLaws.{have-sets}
 use borrow.Author.Needs.{needs}
 use Rattle.effects.proofs.have.Statement.{statement}
 use Rattle.effects.proofs.have.Tie as tie
@@ -25,7 +25,7 @@ same-length-2 : tie.Need-same-length-2
 same-length-2 c = search needs
 
 returns : tie.Need-returns
-returns c = let a = c .before .before .before .before .before .before .before .before .before .before .args in have-does (a .base) (a .has .now) (a .wants .now) (a .choked) _ _ (c .before .before .before .before .before .before .set-range .ensures) (c .before .before .clear-range .ensures)
+returns c = let a = c .before .before .before .before .before .before .before .before .before .before .args in have-sets (a .base) (a .has .now) (a .wants .now) (a .choked) _ _ (c .before .before .before .before .before .before .set-range .ensures) (c .before .before .clear-range .ensures)
 
 pub have-spec : {M : Type 1} → statement M
 have-spec =

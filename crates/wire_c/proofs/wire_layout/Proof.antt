@@ -13,8 +13,8 @@ returns-2 c =
     let a = c .before .before .before .before .before .args in
     layout-few (a .datagram .now) (a .entries .now) (a .out .now) (c .before .if1 .left) (c .if2 .taken)
 
-check-into-requires : tie.Need-check-into-requires
-check-into-requires c κs = search needs
+check-requires : tie.Need-check-requires
+check-requires c κs = search needs
 
 put-layout-requires : tie.Need-put-layout-requires
 put-layout-requires c κs = search needs
@@ -31,7 +31,7 @@ same-length-2 c = search needs
 returns-3 : tie.Need-returns-3
 returns-3 c =
     let a = c .before .before .before .before .before .before .before .before .before .before .before .before .before .before .args in
-    layout-done (a .datagram .now) (a .entries .now) (a .out .now) (c .before .before .before .before .before .before .before .before .before .before .if1 .left) (c .before .before .before .before .before .before .before .before .before .if2 .left) (c .before .before .before .before .before .before .before .check-into .ensures) (c .before .before .before .put-layout .ensures) (c .number .ensures)
+    layout-done (a .datagram .now) (a .entries .now) (a .out .now) (c .before .before .before .before .before .before .before .before .before .before .if1 .left) (c .before .before .before .before .before .before .before .before .before .if2 .left) (c .before .before .before .before .before .before .before .check .ensures) (c .before .before .before .put-layout .ensures) (c .number .ensures)
 
 pub wire-layout-spec : {M : Type 1} → statement M
 wire-layout-spec =
@@ -39,7 +39,7 @@ wire-layout-spec =
     (tie.spec
     returns
     returns-2
-    check-into-requires
+    check-requires
     put-layout-requires
     number-requires
     same-length

@@ -1,8 +1,11 @@
-use Rattle.channel.specs.World.{worldOf}
-use mathlib.Core.Path.{refl, sym, _∙_}
+use Rattle.wire.proofs.Promise.{size-sound, layoutOf}
 use native.Mathlib.Omega.{arith}
-use Rattle.channel.proofs.TakeLaws.{take-refused, take-laid, laid, laid-long, laid-end, laid-few, laid-entries, laid-fault, laid-handshake, laid-messages, laid-data}
+use mathlib.Core.Path.{sym, ap, _∙_}
+use borrow.Author.Tests.{not-false}
+use Rattle.store.proofs.Promise.{lengthAnswer}
+use Rattle.channel.specs.World.{World, worldOf, orderLength}
 use Rattle.channel.proofs.AcceptLaws.{own-number, own-accepted}
+use Rattle.channel.proofs.TakeLaws.{take-refused, take-laid, laid-unsized, ruled-done, ruled-left, left-taken}
 use borrow.Author.Needs.{needs}
 use Rattle.channel.proofs.taking.take.Statement.{statement}
 use Rattle.channel.proofs.taking.take.Tie as tie
@@ -19,44 +22,20 @@ same-length c = search needs
 returns : tie.Need-returns
 returns c = let a = c .before .before .before .before .before .before .before .before .before .before .before .before .before .args in let w = worldOf (a .state .now) (a .chunks .now) (a .map .now) (a .hashes .now) (a .trusted .now) (a .has .now) (a .wants .now) (a .reply .now) in take-refused w (a .clock) (a .id) (a .datagram .now) (own-number w (c .before .before .length-in .ensures) (c .before .own-rooms-answer .ensures)) (c .if1 .taken)
 
-check-requires : tie.Need-check-requires
-check-requires c κs = search needs
-
-enum-known-number : tie.Need-enum-known-number
-enum-known-number c = search needs
-
-enum-known-source : tie.Need-enum-known-source
-enum-known-source c = search needs
-
-handshake-requires : tie.Need-handshake-requires
-handshake-requires c κs = let a = c .before .before .before .before .before .before .before .before .before .before .before .before .before .before .before .before .before .before .before .before .before .before .args in let w = worldOf (a .state .now) (a .chunks .now) (a .map .now) (a .hashes .now) (a .trusted .now) (a .has .now) (a .wants .now) (a .reply .now) in ((own-accepted w (sym (own-number w (c .before .before .before .before .before .before .before .before .before .before .before .length-in .ensures) (c .before .before .before .before .before .before .before .before .before .before .own-rooms-answer .ensures)) ∙ omega (arith, c .before .before .before .before .before .before .before .before .before .if1 .left))) .2, laid-long _ (a .datagram .now) (c .before .before .before .before .before .before .before .check .ensures) (c .before .before .before .before .before .source .given .1) refl)
-
-enum-told : tie.Need-enum-told
-enum-told c = search needs
-
-messages-requires : tie.Need-messages-requires
-messages-requires c κs = let a = c .before .before .before .before .before .before .before .before .before .before .before .before .before .before .before .before .before .before .before .before .before .args in let w = worldOf (a .state .now) (a .chunks .now) (a .map .now) (a .hashes .now) (a .trusted .now) (a .has .now) (a .wants .now) (a .reply .now) in ((own-accepted w (sym (own-number w (c .before .before .before .before .before .before .before .before .before .before .length-in .ensures) (c .before .before .before .before .before .before .before .before .before .own-rooms-answer .ensures)) ∙ omega (arith, c .before .before .before .before .before .before .before .before .if1 .left))) .0, laid-long _ (a .datagram .now) (c .before .before .before .before .before .before .check .ensures) (c .before .before .before .before .enum-told .given .1) refl)
-
-enum-known-chunk : tie.Need-enum-known-chunk
-enum-known-chunk c = search needs
-
-sub-take-chunk : tie.Need-sub-take-chunk
-sub-take-chunk c = search needs
-
-part-take-chunk-start : tie.Need-part-take-chunk-start
-part-take-chunk-start c = search needs
-
-part-take-chunk-end : tie.Need-part-take-chunk-end
-part-take-chunk-end c = let a = c .before .before .before .before .before .before .before .before .before .before .before .before .before .before .before .before .before .before .before .before .before .before .before .before .before .before .before .args in laid-few _ (a .datagram .now) (c .before .before .before .before .before .before .before .before .before .before .before .before .check .ensures) (c .before .before .before .before .before .before .before .before .before .before .chunk .given .1) (search needs)
-
-take-chunk-requires : tie.Need-take-chunk-requires
-take-chunk-requires c κs = let a = c .before .before .before .before .before .before .before .before .before .before .before .before .before .before .before .before .before .before .before .before .before .before .before .before .before .before .before .before .args in let w = worldOf (a .state .now) (a .chunks .now) (a .map .now) (a .hashes .now) (a .trusted .now) (a .has .now) (a .wants .now) (a .reply .now) in let p = own-accepted w (sym (own-number w (c .before .before .before .before .before .before .before .before .before .before .before .before .before .before .before .before .before .length-in .ensures) (c .before .before .before .before .before .before .before .before .before .before .before .before .before .before .before .before .own-rooms-answer .ensures)) ∙ omega (arith, c .before .before .before .before .before .before .before .before .before .before .before .before .before .before .before .if1 .left)) in (p .0, (p .2, (laid-long _ (a .datagram .now) (c .before .before .before .before .before .before .before .before .before .before .before .before .before .check .ensures) (c .before .before .before .before .before .before .before .before .before .before .before .chunk .given .1) refl, laid-end _ (a .datagram .now) (c .before .before .before .before .before .before .before .before .before .before .before .before .before .check .ensures) (c .before .before .before .before .before .before .before .before .before .before .before .chunk .given .1))))
+has-size-requires : tie.Need-has-size-requires
+has-size-requires c κs = search needs
 
 same-length-2 : tie.Need-same-length-2
 same-length-2 c = search needs
 
 returns-2 : tie.Need-returns-2
-returns-2 c = let a = c .before .before .before .before .before .before .before .before .before .before .before .before .before .before .before .before .before .before .args in let w = worldOf (a .state .now) (a .chunks .now) (a .map .now) (a .hashes .now) (a .trusted .now) (a .has .now) (a .wants .now) (a .reply .now) in take-laid w (a .clock) (a .id) (a .datagram .now) (own-number w (c .before .before .before .before .before .before .before .length-in .ensures) (c .before .before .before .before .before .before .own-rooms-answer .ensures)) (omega (arith, c .before .before .before .before .before .if1 .left)) (laid _ (a .datagram .now) (c .before .before .before .check .ensures) (c .before .number .given .1)) (laid-fault w (a .clock) (a .id) (a .datagram .now) _)
+returns-2 c = let a = c .before .before .before .before .before .before .before .before .before .before .before .before .before .before .before .args in let w = worldOf (a .state .now) (a .chunks .now) (a .map .now) (a .hashes .now) (a .trusted .now) (a .has .now) (a .wants .now) (a .reply .now) in take-laid w (a .clock) (a .id) (a .datagram .now) (own-number w (c .before .before .before .before .length-in .ensures) (c .before .before .before .own-rooms-answer .ensures)) (omega (arith, c .before .before .if1 .left)) (laid-unsized w (a .clock) (a .id) (a .datagram .now) (c .before .has-size .ensures) (c .if2 .taken))
+
+plain-front-requires : tie.Need-plain-front-requires
+plain-front-requires c κs = size-sound _ (sym (c .before .has-size .ensures) ∙ not-false _ (c .if2 .left))
+
+rule-requires : tie.Need-rule-requires
+rule-requires c κs = let a = c .before .before .before .before .before .before .before .before .before .before .before .before .before .before .before .before .before .before .before .before .before .before .before .before .args in let w = worldOf (a .state .now) (a .chunks .now) (a .map .now) (a .hashes .now) (a .trusted .now) (a .has .now) (a .wants .now) (a .reply .now) in let p = own-accepted w (sym (own-number w (c .before .before .before .before .before .before .before .before .before .before .before .before .before .length-in .ensures) (c .before .before .before .before .before .before .before .before .before .before .before .before .own-rooms-answer .ensures)) ∙ omega (arith, c .before .before .before .before .before .before .before .before .before .before .before .if1 .left)) in (p .0, (p .2, c .before .before .before .before .before .before .before .before .plain-front .ensures))
 
 same-length-3 : tie.Need-same-length-3
 same-length-3 c = search needs
@@ -70,9 +49,6 @@ same-length-5 c = search needs
 same-length-6 : tie.Need-same-length-6
 same-length-6 c = search needs
 
-returns-3 : tie.Need-returns-3
-returns-3 c = let a = c .before .before .before .before .before .before .before .before .before .before .before .before .before .before .before .before .before .before .before .before .before .before .before .before .before .before .before .before .before .before .before .args in let w = worldOf (a .state .now) (a .chunks .now) (a .map .now) (a .hashes .now) (a .trusted .now) (a .has .now) (a .wants .now) (a .reply .now) in take-laid w (a .clock) (a .id) (a .datagram .now) (own-number w (c .before .before .before .before .before .before .before .before .before .before .before .before .before .before .before .before .before .before .before .before .length-in .ensures) (c .before .before .before .before .before .before .before .before .before .before .before .before .before .before .before .before .before .before .before .own-rooms-answer .ensures)) (omega (arith, c .before .before .before .before .before .before .before .before .before .before .before .before .before .before .before .before .before .before .if1 .left)) (laid _ (a .datagram .now) (c .before .before .before .before .before .before .before .before .before .before .before .before .before .before .before .before .check .ensures) (c .before .before .before .before .before .before .before .before .before .before .before .before .before .before .source .given .1)) (laid-handshake w (a .clock) (a .id) (a .datagram .now) _ _ (c .before .before .before .before .before .before .before .before .handshake .ensures))
-
 same-length-7 : tie.Need-same-length-7
 same-length-7 c = search needs
 
@@ -85,8 +61,11 @@ same-length-9 c = search needs
 same-length-10 : tie.Need-same-length-10
 same-length-10 c = search needs
 
-returns-4 : tie.Need-returns-4
-returns-4 c = let a = c .before .before .before .before .before .before .before .before .before .before .before .before .before .before .before .before .before .before .before .before .before .before .before .before .before .before .before .before .args in let w = worldOf (a .state .now) (a .chunks .now) (a .map .now) (a .hashes .now) (a .trusted .now) (a .has .now) (a .wants .now) (a .reply .now) in take-laid w (a .clock) (a .id) (a .datagram .now) (own-number w (c .before .before .before .before .before .before .before .before .before .before .before .before .before .before .before .before .before .length-in .ensures) (c .before .before .before .before .before .before .before .before .before .before .before .before .before .before .before .before .own-rooms-answer .ensures)) (omega (arith, c .before .before .before .before .before .before .before .before .before .before .before .before .before .before .before .if1 .left)) (laid _ (a .datagram .now) (c .before .before .before .before .before .before .before .before .before .before .before .before .before .check .ensures) (c .before .before .before .before .before .before .before .before .before .before .before .enum-told .given .1)) (laid-messages w (a .clock) (a .id) (a .datagram .now) _ (c .before .before .before .before .before .before .messages .ensures))
+returns-3 : tie.Need-returns-3
+returns-3 c = let a = c .before .before .before .before .before .before .before .before .before .before .before .before .before .before .before .before .before .before .before .before .before .before .before .before .before .before .before .before .before .before .before .before .before .before .before .before .before .before .before .before .before .before .before .args in let w = worldOf (a .state .now) (a .chunks .now) (a .map .now) (a .hashes .now) (a .trusted .now) (a .has .now) (a .wants .now) (a .reply .now) in take-laid w (a .clock) (a .id) (a .datagram .now) (own-number w (c .before .before .before .before .before .before .before .before .before .before .before .before .before .before .before .before .before .before .before .before .before .before .before .before .before .before .before .before .before .before .before .before .length-in .ensures) (c .before .before .before .before .before .before .before .before .before .before .before .before .before .before .before .before .before .before .before .before .before .before .before .before .before .before .before .before .before .before .before .own-rooms-answer .ensures)) (omega (arith, c .before .before .before .before .before .before .before .before .before .before .before .before .before .before .before .before .before .before .before .before .before .before .before .before .before .before .before .before .before .before .if1 .left)) (ruled-done w (a .clock) (a .id) (a .datagram .now) (layoutOf (a .datagram .now) .layout) (c .before .before .before .before .before .before .before .before .before .before .before .before .before .before .before .before .before .before .rule .ensures) (c .if3 .taken))
+
+take-messages-requires : tie.Need-take-messages-requires
+take-messages-requires c κs = let a = c .before .before .before .before .before .before .before .before .before .before .before .before .before .before .before .before .before .before .before .before .before .before .before .before .before .before .before .before .before .before .before .before .before .before .before .before .before .before .before .before .before .before .before .before .before .before .before .args in let w = worldOf (a .state .now) (a .chunks .now) (a .map .now) (a .hashes .now) (a .trusted .now) (a .has .now) (a .wants .now) (a .reply .now) in let l = (ruled-left w (a .clock) (a .id) (a .datagram .now) (layoutOf (a .datagram .now) .layout) (c .before .before .before .before .before .before .before .before .before .before .before .before .before .before .before .before .before .before .before .before .before .before .rule .ensures) (c .before .before .before .before .if3 .left)) in (ap (λ (x : World). lengthAnswer (orderLength (x .channels .state))) (l .0) ∙ own-accepted w (sym (own-number w (c .before .before .before .before .before .before .before .before .before .before .before .before .before .before .before .before .before .before .before .before .before .before .before .before .before .before .before .before .before .before .before .before .before .before .before .before .length-in .ensures) (c .before .before .before .before .before .before .before .before .before .before .before .before .before .before .before .before .before .before .before .before .before .before .before .before .before .before .before .before .before .before .before .before .before .before .before .own-rooms-answer .ensures)) ∙ omega (arith, c .before .before .before .before .before .before .before .before .before .before .before .before .before .before .before .before .before .before .before .before .before .before .before .before .before .before .before .before .before .before .before .before .before .before .if1 .left)) .0, (c .before .before .before .before .before .before .before .before .before .before .before .before .before .before .before .before .before .before .before .before .before .before .before .before .before .before .before .before .before .before .before .plain-front .ensures .low, l .1))
 
 same-length-11 : tie.Need-same-length-11
 same-length-11 c = search needs
@@ -112,8 +91,8 @@ same-length-17 c = search needs
 same-length-18 : tie.Need-same-length-18
 same-length-18 c = search needs
 
-returns-5 : tie.Need-returns-5
-returns-5 c = let a = c .before .before .before .before .before .before .before .before .before .before .before .before .before .before .before .before .before .before .before .before .before .before .before .before .before .before .before .before .before .before .before .before .before .before .before .before .before .before .before .before .before .before .before .before .before .args in let w = worldOf (a .state .now) (a .chunks .now) (a .map .now) (a .hashes .now) (a .trusted .now) (a .has .now) (a .wants .now) (a .reply .now) in take-laid w (a .clock) (a .id) (a .datagram .now) (own-number w (c .before .before .before .before .before .before .before .before .before .before .before .before .before .before .before .before .before .before .before .before .before .before .before .before .before .before .before .before .before .before .before .before .before .before .length-in .ensures) (c .before .before .before .before .before .before .before .before .before .before .before .before .before .before .before .before .before .before .before .before .before .before .before .before .before .before .before .before .before .before .before .before .before .own-rooms-answer .ensures)) (omega (arith, c .before .before .before .before .before .before .before .before .before .before .before .before .before .before .before .before .before .before .before .before .before .before .before .before .before .before .before .before .before .before .before .before .if1 .left)) (laid _ (a .datagram .now) (c .before .before .before .before .before .before .before .before .before .before .before .before .before .before .before .before .before .before .before .before .before .before .before .before .before .before .before .before .before .before .check .ensures) (c .before .before .before .before .before .before .before .before .before .before .before .before .before .before .before .before .before .before .before .before .before .before .before .before .before .before .before .before .chunk .given .1)) (laid-data w (a .clock) (a .id) (a .datagram .now) _ _ _ _ _ _ (laid-entries _ (a .datagram .now) (c .before .before .before .before .before .before .before .before .before .before .before .before .before .before .before .before .before .before .before .before .before .before .before .before .before .before .before .before .before .before .check .ensures) (c .before .before .before .before .before .before .before .before .before .before .before .before .before .before .before .before .before .before .before .before .before .before .before .before .before .before .before .before .chunk .given .1) (search needs)) (c .before .before .before .before .before .before .before .before .before .before .before .before .before .before .before .before .take-chunk .ensures))
+returns-4 : tie.Need-returns-4
+returns-4 c = let a = c .before .before .before .before .before .before .before .before .before .before .before .before .before .before .before .before .before .before .before .before .before .before .before .before .before .before .before .before .before .before .before .before .before .before .before .before .before .before .before .before .before .before .before .before .before .before .before .before .before .before .before .before .before .before .args in let w = worldOf (a .state .now) (a .chunks .now) (a .map .now) (a .hashes .now) (a .trusted .now) (a .has .now) (a .wants .now) (a .reply .now) in let l = (ruled-left w (a .clock) (a .id) (a .datagram .now) (layoutOf (a .datagram .now) .layout) (c .before .before .before .before .before .before .before .before .before .before .before .before .before .before .before .before .before .before .before .before .before .before .before .before .before .before .before .before .before .rule .ensures) (c .before .before .before .before .before .before .before .before .before .before .before .if3 .left)) in take-laid w (a .clock) (a .id) (a .datagram .now) (own-number w (c .before .before .before .before .before .before .before .before .before .before .before .before .before .before .before .before .before .before .before .before .before .before .before .before .before .before .before .before .before .before .before .before .before .before .before .before .before .before .before .before .before .before .before .length-in .ensures) (c .before .before .before .before .before .before .before .before .before .before .before .before .before .before .before .before .before .before .before .before .before .before .before .before .before .before .before .before .before .before .before .before .before .before .before .before .before .before .before .before .before .before .own-rooms-answer .ensures)) (omega (arith, c .before .before .before .before .before .before .before .before .before .before .before .before .before .before .before .before .before .before .before .before .before .before .before .before .before .before .before .before .before .before .before .before .before .before .before .before .before .before .before .before .before .if1 .left)) (left-taken w (a .clock) (a .id) (a .datagram .now) (l .0) (l .2) (c .before .before .before .before .before .before .take-messages .ensures))
 
 pub take-spec : {M : Type 1} → statement M
 take-spec =
@@ -123,29 +102,21 @@ take-spec =
     own-rooms-answer-requires
     same-length
     returns
-    check-requires
-    enum-known-number
-    enum-known-source
-    handshake-requires
-    enum-told
-    messages-requires
-    enum-known-chunk
-    sub-take-chunk
-    part-take-chunk-start
-    part-take-chunk-end
-    take-chunk-requires
+    has-size-requires
     same-length-2
     returns-2
+    plain-front-requires
+    rule-requires
     same-length-3
     same-length-4
     same-length-5
     same-length-6
-    returns-3
     same-length-7
     same-length-8
     same-length-9
     same-length-10
-    returns-4
+    returns-3
+    take-messages-requires
     same-length-11
     same-length-12
     same-length-13
@@ -154,4 +125,4 @@ take-spec =
     same-length-16
     same-length-17
     same-length-18
-    returns-5)
+    returns-4)
