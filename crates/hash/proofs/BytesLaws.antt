@@ -110,7 +110,7 @@ set-here p z n b l = rw (add-zero n) at (set-past p z n 0 b l)
 abbrev pub written : ℕ → ℕ → List ℕ → List ℕ
 written n i w = bytesOf (take i w) ++ replicate (4 * n - 4 * i) 0
 
-written-more : (w : List ℕ) (i : ℕ) → i < length w → bytesOf (take (suc i) w) ≡ bytesOf (take i w) ++ be 4 (getD w i 0)
+pub written-more : (w : List ℕ) (i : ℕ) → i < length w → bytesOf (take (suc i) w) ≡ bytesOf (take i w) ++ be 4 (getD w i 0)
 unfolding bytesOf
 written-more w i h = rw (take-suc w i 0 h, bytes-append (take i w) (getD w i 0 ∷ []))
 

@@ -1,9 +1,10 @@
 -- What the crates above know of this one: these laws, and of its definitions the names passed on here. `Words`, `Bytes` and
 -- `H0` are short for what they stand for; the others stay shut, and only the laws below say what they are. Assumes nothing.
 use mathlib.Core.Path.{_≡_, refl, sym, ap, _∙_}
-use mathlib.Core.List.{List, _++_}
-use Prim.Native.Nat.{ℕ, zero, suc, _*_, _/_, _≤_}
-use lib.ListN.{length, take, replicate}
+use mathlib.Core.List.{List, [], _∷_, _++_}
+use Prim.Native.Nat.{ℕ, zero, suc, _*_, _/_, _%_, _^_, _<_, _≤_}
+use native.Mathlib.Nat.{div-one}
+use lib.ListN.{length, getD, take, replicate}
 use Rattle.hash.specs.Block.{sums, mixed, compressed}
 use Rattle.hash.specs.Message.{padded, hashed}
 use Rattle.hash.specs.Sha256.{sha256-is}
@@ -44,6 +45,11 @@ bytes-length = bytes.length-bytes
 -- Of zero words they are zeros.
 pub bytes-zeros : (n : ℕ) → bytesOf (replicate n 0) ≡ replicate (4 * n) 0
 bytes-zeros = bytes.bytes-zeros
+
+-- Of one word more of a list there are that word's bytes more, the highest first.
+pub bytes-more : (w : List ℕ) (i : ℕ) → i < length w
+    → bytesOf (take (suc i) w) ≡ bytesOf (take i w) ++ (getD w i 0 / 2 ^ 24 % 2 ^ 8 ∷ getD w i 0 / 2 ^ 16 % 2 ^ 8 ∷ getD w i 0 / 2 ^ 8 % 2 ^ 8 ∷ getD w i 0 % 2 ^ 8 ∷ [])
+bytes-more w i h = bytes.written-more w i h ∙ rw (div-one (getD w i 0))
 
 -- They are bytes.
 pub bytes-below : (w : List ℕ) → Bytes (bytesOf w)

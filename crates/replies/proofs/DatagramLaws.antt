@@ -8,15 +8,15 @@ use mathlib.Core.Bool.{true}
 use borrow.Author.Tests.{le-ltb}
 use lib.ListN.{length, length-append}
 use Rattle.wire.proofs.Promise.{placed, minSize, maxSize, placed-none, placed-then}
-use Rattle.wire.specs.declared.message.Message.{Message}
 use Rattle.base.specs.Out.{Out, outOf}
-use Rattle.writer.proofs.Promise.{beginSpec, bytes32, bytesOf, writable, sizeOf, Item, itemOf, encode, message-size, size32}
+use Rattle.writer.proofs.Promise.{beginSpec, bytes32, bytesOf, writable, sizeOf, Item, encode, message-size, size32}
 use Rattle.replies.specs.Replies.{datagram}
+use Rattle.replies.specs.Steps.{Stand}
 
 -- ---- encoding
 
 -- Messages behind messages are encoded behind them.
-pub encode-append : (is js : List Item) → encode (is ++ js) ≡ encode is ++ encode js
+encode-append : (is js : List Item) → encode (is ++ js) ≡ encode is ++ encode js
 encode-append [] js = refl
 encode-append (i ∷ is) js =
     let b = bytesOf (i .source) (i .message) in
@@ -31,7 +31,7 @@ encode-last : (is : List Item) (i : Item) → encode (is ++ (i ∷ [])) ≡ enco
 encode-last is i = encode-append is (i ∷ []) ∙ ap (λ (r : List ℕ). encode is ++ r) (encode-one i)
 
 -- A datagram is as long as its destination and its messages.
-pub datagram-long : (to : ℕ) (is : List Item) → length (datagram to is) ≡ minSize + length (encode is)
+datagram-long : (to : ℕ) (is : List Item) → length (datagram to is) ≡ minSize + length (encode is)
 datagram-long to is = simp (length-append, size32)
 
 -- A datagram with a last message is as long as its destination, the other messages and the size of the last.
@@ -45,40 +45,30 @@ datagram-last to is i w =
 -- ---- the room
 
 -- A datagram begun in a room that is large enough is its destination at the room's front.
-pub begun : (room : List ℕ) (to : ℕ) → maxSize ≤ length room → {n k : ℕ} {m : List ℕ} → outOf n k m ≡ beginSpec room to
-    → (k ≡ minSize) × (m ≡ placed room 0 (bytes32 to))
+begun : (room : List ℕ) (to : ℕ) → maxSize ≤ length room → {n k : ℕ} {m : List ℕ} → outOf n k m ≡ beginSpec room to → m ≡ placed room 0 (bytes32 to)
 unfolding beginSpec
 begun room to h {n} {k} {m} e =
     let f : outOf n k m ≡ outOf 0 minSize (placed room 0 (bytes32 to)) = rw (le-ltb (length room) maxSize h) at e in
-    (ap (λ (w : Out (List ℕ)). w .len) f, ap (λ (w : Out (List ℕ)). w .after) f)
-
--- The room, which was `old` before, has the messages from place b on, and `at` is the place behind them.
-abbrev pub Stand : List ℕ → ℕ → List Item → List ℕ → ℕ → Type 0
-Stand old b is room at = (at ≡ b + length (encode is)) × (room ≡ placed old b (encode is))
+    ap (λ (w : Out (List ℕ)). w .after) f
 
 -- A room as it was holds no message yet.
 pub stand-none : (old : List ℕ) (b : ℕ) → Stand old b [] old b
 stand-none old b = (sym (add-zero b), placed-none old b)
 
--- A message put behind those that stand stands with them.
-pub stand-more : (old : List ℕ) (b : ℕ) (is : List Item) (i : Item) → writable (length (i .source)) (i .message) ≡ true → {room new : List ℕ} {at r : ℕ} → Stand old b is room at
-    → (r ≡ at + sizeOf (i .message)) × (new ≡ placed room at (bytesOf (i .source) (i .message))) → Stand old b (is ++ (i ∷ [])) new r
-stand-more old b is i w s p =
-    let m = message-size (i .source) (i .message) w in
-    let n = length-append (encode is) (bytesOf (i .source) (i .message)) in
-    rw (encode-last is i)
-    (omega (arith, m, n, s .0, p .0), placed-then old b (encode is) (bytesOf (i .source) (i .message)) _ (sym (s .0)) (s .1) (p .1))
+-- A message that was put stands alone.
+pub stand-one : (room : List ℕ) (at : ℕ) (i : Item) → writable (length (i .source)) (i .message) ≡ true → {new : List ℕ} {r : ℕ}
+    → r ≡ at + sizeOf (i .message) → new ≡ placed room at (bytesOf (i .source) (i .message)) → Stand room at (i ∷ []) new r
+stand-one room at i w e p = rw (encode-one i) (omega (arith, e, message-size (i .source) (i .message) w), p)
+
+-- Messages put behind those that stand stand with them.
+pub stand-join : (old : List ℕ) (b : ℕ) (is js : List Item) {room new : List ℕ} {at r : ℕ} → Stand old b is room at → Stand room at js new r
+    → Stand old b (is ++ js) new r
+stand-join old b is js s t =
+    rw (encode-append is js)
+    (omega (arith, length-append (encode is) (encode js), s .0, t .0), placed-then old b (encode is) (encode js) _ (sym (s .0)) (s .1) (t .1))
 
 -- Messages that stand behind a destination are a datagram with it.
-pub stand-datagram : (room : List ℕ) (to : ℕ) (is : List Item) {m n : List ℕ} {r : ℕ} → m ≡ placed room 0 (bytes32 to) → Stand m minSize is n r
-    → (r ≡ length (datagram to is)) × (n ≡ placed room 0 (datagram to is))
-stand-datagram room to is e s =
-    (s .0 ∙ sym (datagram-long to is), placed-then room 0 (bytes32 to) (encode is) minSize (rw size32) e (s .1))
-
--- A message behind a destination is a datagram of one message.
-pub one-datagram : (room : List ℕ) (to : ℕ) (s : List ℕ) (x : Message) → maxSize ≤ length room → writable (length s) x ≡ true → {a k r : ℕ} {m n : List ℕ}
-    → outOf a k m ≡ beginSpec room to → (r ≡ k + sizeOf x) × (n ≡ placed m k (bytesOf s x))
-    → (r ≡ length (datagram to (itemOf s x ∷ []))) × (n ≡ placed room 0 (datagram to (itemOf s x ∷ [])))
-one-datagram room to s x h w {m = m} b p =
-    let e = begun room to h b in
-    stand-datagram room to (itemOf s x ∷ []) (e .1) (stand-more m minSize [] (itemOf s x) w (stand-none m minSize) (rw (e .0) at p))
+pub stand-datagram : (room : List ℕ) (to : ℕ) → maxSize ≤ length room → {a k : ℕ} {m : List ℕ} → outOf a k m ≡ beginSpec room to
+    → (is : List Item) {n : List ℕ} {r : ℕ} → Stand m minSize is n r → (r ≡ length (datagram to is)) × (n ≡ placed room 0 (datagram to is))
+stand-datagram room to h b is s =
+    (s .0 ∙ sym (datagram-long to is), placed-then room 0 (bytes32 to) (encode is) minSize (rw size32) (begun room to h b) (s .1))

@@ -1,20 +1,22 @@
--- The INTEGRITY messages of a list of nodes: each can be written and takes 41 bytes. Assumes nothing.
-use Prim.Native.Nat.{ℕ, _+_, _*_, _<_, _≤_}
+-- The INTEGRITY messages of nodes: each can be written and takes 41 bytes; a hash is put word by word. Assumes nothing.
+use Prim.Native.Nat.{ℕ, _+_, _-_, _*_, _^_, _<_, _≤_}
 use native.Mathlib.Omega.{arith}
 use native.Mathlib.Numerals.{add-one}
 use mathlib.Core.Path.{_≡_, refl, sym, ap, _∙_}
-use mathlib.Core.List.{List, [], _∷_, _++_, map, map-append}
+use mathlib.Core.List.{List, [], _∷_, map}
 use mathlib.Core.Bool.{true}
 use lib.ListN.{length, getD, take, length-append}
-use lib.Seq.{take-suc, take-all, length-take-le}
-use Rattle.tree.proofs.Promise.{first, last}
-use Rattle.store.proofs.Promise.{hashIn, hash-length}
-use Rattle.wire.proofs.Promise.{placed, placed-length}
+use lib.Pow.{pow-pos}
+use lib.Seq.{take-all, length-take-le}
+use Rattle.hash.proofs.Promise.{words, bytesOf as wordBytes, words-length, bytes-length, bytes-zeros, bytes-more}
+use Rattle.tree.proofs.Promise.{bin, first, last, first-chunk, first-plus-last}
+use Rattle.store.proofs.Promise.{hashIn, hash-length, hash-words}
+use Rattle.wire.proofs.Promise.{placed, placed-none, placed-then}
 use Rattle.wire.specs.declared.message.Message.the-variants.{Integrity}
-use Rattle.writer.proofs.Promise.{writable, sizeOf, bytesOf, encode, message-size}
+use Rattle.writer.proofs.Promise.{bytes32, rangeBytes, sizeRange, writable, sizeOf, bytesOf, encode, message-size, integrity-bytes}
 use Rattle.replies.specs.Replies.{hashItem}
-use Rattle.replies.specs.Steps.{integritySize}
-use Rattle.replies.proofs.DatagramLaws.{Stand, stand-more}
+use Rattle.replies.specs.Steps.{integritySize, Stand}
+use Rattle.replies.proofs.DatagramLaws.{stand-one}
 
 -- An INTEGRITY message can be written from the 32 bytes of its hash.
 integrity-writable : (n f l : ℕ) → n ≡ 32 → writable n (Integrity f l 0) ≡ true
@@ -26,6 +28,14 @@ integrity-size : (f l h : ℕ) → sizeOf (Integrity f l h) ≡ integritySize
 unfolding sizeOf
 integrity-size f l h = refl
 
+-- The words of a node's hash.
+abbrev pub nodeWords : List ℕ → ℕ → List ℕ
+nodeWords hashes b = words 8 (hashIn hashes b)
+
+-- No word yet.
+pub words-none : (room : List ℕ) (at : ℕ) → room ≡ placed room at (wordBytes [])
+words-none room at = placed-none room at ∙ ap (placed room at) (sym (bytes-zeros 0))
+
 module _ (hashes : List ℕ) where
   -- The item of a node can be written.
   pub item-writable : (b : ℕ) → writable (length (hashItem hashes b .source)) (hashItem hashes b .message) ≡ true
@@ -33,15 +43,9 @@ module _ (hashes : List ℕ) where
   item-writable b = integrity-writable (length (hashIn hashes b)) (first b) (last b) (hash-length hashes b)
 
   -- It takes 41 bytes.
-  pub item-size : (b : ℕ) → sizeOf (hashItem hashes b .message) ≡ integritySize
+  item-size : (b : ℕ) → sizeOf (hashItem hashes b .message) ≡ integritySize
   unfolding hashItem
   item-size b = integrity-size (first b) (last b) 0
-
-  -- A message put from a node's hash and the chunks that it covers is that node's item.
-  pub item-put : (b : ℕ) (room : List ℕ) (at : ℕ) {s w new : List ℕ} {f l : ℕ} → s ≡ w → w ≡ hashIn hashes b → f ≡ first b → l ≡ last b
-      → new ≡ placed room at (bytesOf s (Integrity f l 0)) → new ≡ placed room at (bytesOf (hashItem hashes b .source) (hashItem hashes b .message))
-  unfolding hashItem
-  item-put b room at e g x y p = rw (e ∙ g, x, y) at p
 
   -- The items of nodes take 41 bytes each.
   pub items-long : (bs : List ℕ) → length (encode (map (hashItem hashes) bs)) ≡ integritySize * length bs
@@ -56,32 +60,37 @@ module _ (hashes : List ℕ) where
         length-append (bytesOf (i .source) (i .message)) (encode (map (hashItem hashes) bs)),
       )
 
-  module _ (old : List ℕ) (at : ℕ) (bs : List ℕ) where
-    -- The items of the first j nodes stand in the room.
-    abbrev pub StandUpTo : ℕ → List ℕ → ℕ → Type 0
-    StandUpTo j room k = Stand old at (map (hashItem hashes) (take j bs)) room k
+  -- ---- a hash into a room, word by word
 
-    -- The place behind them is 41 bytes further for each.
-    pub items-place : (j : ℕ) → j ≤ length bs → {room : List ℕ} {k : ℕ} → StandUpTo j room k → k ≡ at + integritySize * j
-    items-place j h s = s .0 ∙ ap (λ (n : ℕ). at + n) (items-long (take j bs) ∙ ap (λ (n : ℕ). integritySize * n) (length-take-le j bs h))
+  module _ (b : ℕ) (room : List ℕ) (at : ℕ) where
+    -- One word more.
+    pub word-more : (j : ℕ) → j < 8 → {m n : List ℕ} {x : ℕ} → m ≡ placed room at (wordBytes (take j (nodeWords hashes b))) → x ≡ getD (nodeWords hashes b) j 0
+        → n ≡ placed m (at + 4 * j) (bytes32 x) → n ≡ placed room at (wordBytes (take (j + 1) (nodeWords hashes b)))
+    unfolding bytes32
+    word-more j h p e q =
+        let l = words-length 8 (hashIn hashes b) in
+        let k = bytes-length (take j (nodeWords hashes b)) ∙ ap (λ (n : ℕ). 4 * n) (length-take-le j (nodeWords hashes b) (omega arith)) in
+        rw (add-one j, bytes-more (nodeWords hashes b) j (omega arith))
+        (placed-then room at (wordBytes (take j (nodeWords hashes b))) _ (at + 4 * j) (ap (λ (n : ℕ). at + n) k) p (rw e at q))
 
-    -- The room keeps its length.
-    pub items-room : (j : ℕ) {room : List ℕ} {k : ℕ} → StandUpTo j room k → length room ≡ length old
-    items-room j s = placed-length old at (encode (map (hashItem hashes) (take j bs))) (s .1)
+    -- The last word placed.
+    pub words-all : (j : ℕ) → 8 ≤ j → {m : List ℕ} → m ≡ placed room at (wordBytes (take j (nodeWords hashes b))) → m ≡ placed room at (hashIn hashes b)
+    words-all j h p =
+        p ∙ ap (placed room at) (ap wordBytes (take-all j (nodeWords hashes b) (omega (arith, words-length 8 (hashIn hashes b)))) ∙ hash-words hashes b)
 
-    -- The next node's item put behind them stands with them.
-    pub items-more : (j : ℕ) → j < length bs → {room new : List ℕ} {k r : ℕ} → StandUpTo j room k
-        → (r ≡ k + integritySize) × (new ≡ placed room k (bytesOf (hashItem hashes (getD bs j 0) .source) (hashItem hashes (getD bs j 0) .message)))
-        → StandUpTo (j + 1) new r
-    items-more j h {k = k} s p =
-        let i = hashItem hashes (getD bs j 0) in
-        let e : map (hashItem hashes) (take (j + 1) bs) ≡ map (hashItem hashes) (take j bs) ++ (i ∷ []) =
-        rw (add-one j, take-suc bs j 0 h) (map-append (hashItem hashes) (take j bs) (getD bs j 0 ∷ [])) in
-        rw e (stand-more old at (map (hashItem hashes) (take j bs)) i (item-writable (getD bs j 0)) s (p .0 ∙ ap (λ (n : ℕ). k + n) (sym (item-size (getD bs j 0))), p .1))
+  -- ---- a node into a room
 
-    -- After the last node all items stand.
-    pub items-all : (j : ℕ) → length bs ≤ j → {room : List ℕ} {k : ℕ} → StandUpTo j room k
-        → (k ≡ at + integritySize * length bs) × (room ≡ placed old at (encode (map (hashItem hashes) bs)))
-    items-all j h s =
-        let q = rw (take-all j bs h) at s in
-        (q .0 ∙ ap (λ (n : ℕ). at + n) (items-long bs), q .1)
+  -- A range and a hash put from the k-th node of height h are its item.
+  pub node-put : (h k : ℕ) (room : List ℕ) (at : ℕ) {f l : ℕ} {m n : List ℕ} → f ≡ k * 2 ^ h → l ≡ f + (2 ^ h - 1)
+      → m ≡ placed room at (rangeBytes 4 f l) → n ≡ placed m (at + 9) (hashIn hashes (f + l))
+      → Stand room at (hashItem hashes (bin h (k * 2 ^ h)) ∷ []) n (at + integritySize)
+  unfolding hashItem
+  node-put h k room at {f} {l} {m} {n} e g p q =
+      let b = bin h (k * 2 ^ h) in
+      let x : f ≡ first b = e ∙ sym (first-chunk h k) in
+      let s : f + l ≡ b = omega (arith, pow-pos h) in
+      let y : l ≡ last b = omega (arith, first-plus-last b) in
+      let w : n ≡ placed m (at + 9) (hashIn hashes b) = rw s at q in
+      stand-one room at (hashItem hashes b) (item-writable b) (rw item-size)
+      (rw (integrity-bytes (hashIn hashes b) (first b) (last b) (hash-length hashes b))
+      (placed-then room at (rangeBytes 4 (first b) (last b)) (hashIn hashes b) (at + 9) (rw sizeRange) (rw (x, y) at p) w))

@@ -7,7 +7,7 @@ use mathlib.Core.Bool.{Bool, true, false}
 use mathlib.Core.List.{List, [], _∷_, _++_, map}
 use borrow.Author.Tests.{eq-eqb, ne-eqb, le-ltb}
 use lib.Dec.{eqb}
-use lib.ListN.{length, getD, length-map}
+use lib.ListN.{length, getD}
 use Rattle.base.specs.Pick.{pick}
 use Rattle.tree.proofs.Promise.{first-plus-last, node-range, num, chunkSize, chunks, maxLength, sent, Differs, Distinct, sent-once}
 use Rattle.wire.proofs.Promise.{minSize, seen, handshakeFault}
@@ -15,8 +15,9 @@ use Rattle.wire.specs.declared.message.Options.the-variants.{Fixed}
 use Rattle.wire.specs.declared.message.Message.the-variants.{Handshake, Data, Ack}
 use Rattle.writer.proofs.Promise.{itemOf, encode, AllHaveWidths, Reads, faultBehind, Joining, notedAll, composed-reads}
 use Rattle.replies.specs.Replies.{handshakeReply, ackReply, hashItem, handshakeItems, ackItems, chunkItems, chunkReply}
-use Rattle.replies.proofs.HashLaws.{item-writable, items-long}
-use Rattle.replies.proofs.SendingLaws.{sent-few, sent-under}
+use Rattle.replies.specs.Steps.{nodeItems}
+use Rattle.replies.proofs.HashLaws.{item-writable}
+use Rattle.replies.proofs.SendingLaws.{sent-long, sent-under}
 use Rattle.replies.proofs.ReplyLaws.{handshake-writable, handshake-size, ack-writable, ack-size, data-writable, data-size}
 
 -- ---- one message
@@ -97,8 +98,8 @@ pub chunk-reads : (hashes : List ℕ) (to N c time : ℕ) (bytes : List ℕ) →
 unfolding chunkReply
 chunk-reads hashes to N c time bytes t h d few short =
     let bs = map num (sent N c) in
-    let is = map (hashItem hashes) bs in
+    let is = nodeItems hashes (sent N c) in
     let n = length bytes in
     composed-reads to is (itemOf bytes (Data c c time 0 n)) t (hashes-fit hashes to bs (sent-under N c few)) (h, h, d)
     (hashes-join hashes to bs minSize [] tt (unseen-none bs) (sent-once N c)) (data-writable n c time) (data-fault (notedAll minSize [] is) to (minSize + length (encode is)) c time n)
-    (omega (arith, items-long hashes bs, length-map (sent N c) num, sent-few N c few, data-size c time 0 n))
+    (omega (arith, sent-long hashes N c few, data-size c time 0 n))

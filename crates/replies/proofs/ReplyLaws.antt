@@ -1,22 +1,21 @@
 -- The replies as their parts are put: each can be written, and is the datagram that it should be. Assumes nothing.
-use Prim.Native.Nat.{ℕ, _+_, _-_, _*_, _≤_}
+use Prim.Native.Nat.{ℕ, _+_, _-_, _≤_}
 use native.Mathlib.Omega.{arith}
-use mathlib.Core.Path.{_≡_, refl, sym, ap, _∙_}
-use mathlib.Core.List.{List, [], _∷_, _++_, map}
+use mathlib.Core.Path.{_≡_, refl}
+use mathlib.Core.List.{List, [], _∷_}
 use mathlib.Core.Bool.{true}
 use borrow.Author.Tests.{le-leb}
-use lib.ListN.{length, length-map}
-use Rattle.tree.proofs.Promise.{chunkSize, chunks, maxLength, num, sent}
+use lib.ListN.{length}
+use Rattle.tree.proofs.Promise.{chunkSize, chunks, maxLength, sent}
 use Rattle.wire.proofs.Promise.{placed, minSize, maxSize}
 use Rattle.wire.specs.declared.message.Options.the-variants.{Fixed}
 use Rattle.wire.specs.declared.message.Message.the-variants.{Handshake, Data, Ack}
 use Rattle.base.specs.Out.{outOf}
-use Rattle.writer.proofs.Promise.{writable, writableOptions, sizeOf, optionSpan, bytesOf, beginSpec, itemOf, encode}
-use Rattle.replies.specs.Replies.{handshakeReply, ackReply, hashItem, chunkReply}
-use Rattle.replies.specs.Steps.{integritySize}
-use Rattle.replies.proofs.DatagramLaws.{datagram-last, begun, stand-more, stand-datagram, one-datagram}
-use Rattle.replies.proofs.HashLaws.{items-long}
-use Rattle.replies.proofs.SendingLaws.{sent-few}
+use Rattle.writer.proofs.Promise.{writable, writableOptions, sizeOf, optionSpan, bytesOf, beginSpec, itemOf}
+use Rattle.replies.specs.Replies.{handshakeItems, handshakeReply, ackItems, ackReply, chunkItems, chunkReply}
+use Rattle.replies.specs.Steps.{handshakeSize, ackSize, dataHead, nodeItems, Stand}
+use Rattle.replies.proofs.DatagramLaws.{datagram-last, stand-one, stand-join, stand-datagram}
+use Rattle.replies.proofs.SendingLaws.{sent-long}
 
 -- ---- what can be written, and its size
 
@@ -26,7 +25,7 @@ unfolding writable writableOptions
 handshake-writable n a e = rw e refl
 
 -- It takes 56 bytes.
-pub handshake-size : (a r : ℕ) → sizeOf (Handshake a (Fixed r)) ≡ 56
+pub handshake-size : (a r : ℕ) → sizeOf (Handshake a (Fixed r)) ≡ handshakeSize
 unfolding sizeOf optionSpan
 handshake-size a r = refl
 
@@ -36,7 +35,7 @@ unfolding writable
 ack-writable n f l d = refl
 
 -- It takes 17 bytes.
-pub ack-size : (f l d : ℕ) → sizeOf (Ack f l d) ≡ 17
+pub ack-size : (f l d : ℕ) → sizeOf (Ack f l d) ≡ ackSize
 unfolding sizeOf
 ack-size f l d = refl
 
@@ -46,47 +45,43 @@ unfolding writable
 data-writable n c x = rw (le-leb n n (omega arith), le-leb 0 (n - n) (omega arith))
 
 -- It takes 17 bytes and its chunk's.
-pub data-size : (c x b n : ℕ) → sizeOf (Data c c x b n) ≡ 17 + n
+pub data-size : (c x b n : ℕ) → sizeOf (Data c c x b n) ≡ dataHead + n
 unfolding sizeOf
 data-size c x b n = refl
 
--- Each fits behind the destination in a room for a datagram.
-pub handshake-puts : (k n s a : ℕ) → k ≡ minSize → maxSize ≤ n → s ≡ 32 → (k + sizeOf (Handshake a (Fixed 0)) ≤ n) × (writable s (Handshake a (Fixed 0)) ≡ true)
-handshake-puts k n s a e h l = (omega (arith, handshake-size a 0), handshake-writable s a l)
-
-pub ack-puts : (k n s f l d : ℕ) → k ≡ minSize → maxSize ≤ n → (k + sizeOf (Ack f l d) ≤ n) × (writable s (Ack f l d) ≡ true)
-ack-puts k n s f l d e h = (omega (arith, ack-size f l d), ack-writable s f l d)
+-- A HANDSHAKE fits behind the destination in a room for a datagram.
+pub handshake-puts : (n s : ℕ) → maxSize ≤ n → s ≡ 32 → (minSize + (5 + optionSpan (Fixed 0)) ≤ n) × (writableOptions s (Fixed 0) ≡ true)
+unfolding optionSpan writableOptions
+handshake-puts n s h e = (omega arith, rw e refl)
 
 -- ---- the replies
 
 module _ (room : List ℕ) (to : ℕ) (large : maxSize ≤ length room) {a k : ℕ} {m : List ℕ} (begins : outOf a k m ≡ beginSpec room to) where
   -- A HANDSHAKE put behind the destination, from a root's bytes, is our HANDSHAKE.
-  pub handshake-done : (source : ℕ) {s w : List ℕ} → s ≡ w → length s ≡ 32 → {n : List ℕ} {r : ℕ}
-      → (r ≡ k + sizeOf (Handshake source (Fixed 0))) × (n ≡ placed m k (bytesOf s (Handshake source (Fixed 0))))
-      → (r ≡ length (handshakeReply to source w)) × (n ≡ placed room 0 (handshakeReply to source w))
+  pub handshake-done : (source : ℕ) {s w : List ℕ} → s ≡ w → length s ≡ 32 → {n : List ℕ} → n ≡ placed m minSize (bytesOf s (Handshake source (Fixed 0)))
+      → (minSize + handshakeSize ≡ length (handshakeReply to source w)) × (n ≡ placed room 0 (handshakeReply to source w))
   unfolding handshakeReply
   handshake-done source {s} e h p =
-      rw (← e) (one-datagram room to s (Handshake source (Fixed 0)) large (handshake-writable (length s) source h) begins p)
+      rw (← e) (stand-datagram room to large begins (handshakeItems source s)
+      (stand-one m minSize (itemOf s (Handshake source (Fixed 0))) (handshake-writable (length s) source h) (rw handshake-size) p))
 
   -- An ACK put behind the destination is our ACK.
-  pub ack-done : (f l d : ℕ) {n : List ℕ} {r : ℕ}
-      → (r ≡ k + sizeOf (Ack f l d)) × (n ≡ placed m k (bytesOf [] (Ack f l d)))
-      → (r ≡ length (ackReply to f l d)) × (n ≡ placed room 0 (ackReply to f l d))
+  pub ack-done : (f l d : ℕ) {n : List ℕ} → n ≡ placed m minSize (bytesOf [] (Ack f l d))
+      → (minSize + ackSize ≡ length (ackReply to f l d)) × (n ≡ placed room 0 (ackReply to f l d))
   unfolding ackReply
-  ack-done f l d p = one-datagram room to [] (Ack f l d) large (ack-writable 0 f l d) begins p
+  ack-done f l d p =
+      stand-datagram room to large begins (ackItems f l d) (stand-one m minSize (itemOf [] (Ack f l d)) (ack-writable 0 f l d) (rw ack-size) p)
 
   -- The hashes that go out with a chunk put behind the destination, and DATA behind them, are the chunk's datagram.
-  pub chunk-done : (hashes : List ℕ) (N c time : ℕ) (bytes : List ℕ) {ns : List ℕ} → ns ≡ map num (sent N c) → {x n : List ℕ} {q r : ℕ}
-      → (q ≡ minSize + integritySize * length ns) × (x ≡ placed m minSize (encode (map (hashItem hashes) ns)))
-      → (r ≡ q + sizeOf (Data c c time 0 (length bytes))) × (n ≡ placed x q (bytesOf bytes (Data c c time 0 (length bytes))))
-      → (r ≡ length (chunkReply hashes to N c time bytes)) × (n ≡ placed room 0 (chunkReply hashes to N c time bytes))
+  pub chunk-done : (hashes : List ℕ) (N c time : ℕ) (bytes : List ℕ) {x n : List ℕ} {q : ℕ}
+      → Stand m minSize (nodeItems hashes (sent N c)) x q → n ≡ placed x q (bytesOf bytes (Data c c time 0 (length bytes)))
+      → (q + dataHead + length bytes ≡ length (chunkReply hashes to N c time bytes)) × (n ≡ placed room 0 (chunkReply hashes to N c time bytes))
   unfolding chunkReply
-  chunk-done hashes N c time bytes {ns} e p q =
-      let is = map (hashItem hashes) ns in
+  chunk-done hashes N c time bytes {x} {q = q} s p =
       let i = itemOf bytes (Data c c time 0 (length bytes)) in
-      rw (← e)
-      (stand-datagram room to (is ++ (i ∷ [])) (begun room to large begins .1)
-      (stand-more m minSize is i (data-writable (length bytes) c time) (p .0 ∙ ap (λ (j : ℕ). minSize + j) (sym (items-long hashes ns)), p .1) q))
+      stand-datagram room to large begins (chunkItems hashes N c time bytes)
+      (stand-join m minSize (nodeItems hashes (sent N c)) (i ∷ []) s
+      (stand-one x q i (data-writable (length bytes) c time) (omega (arith, data-size c time 0 (length bytes))) p))
 
 -- ---- their lengths
 
@@ -106,6 +101,5 @@ pub chunk-length : (hashes : List ℕ) (to N c time : ℕ) (bytes : List ℕ) �
     → length (chunkReply hashes to N c time bytes) ≤ maxSize
 unfolding chunkReply
 chunk-length hashes to N c time bytes h l =
-    let ns = map num (sent N c) in
     let i = itemOf bytes (Data c c time 0 (length bytes)) in
-    omega (arith, datagram-last to (map (hashItem hashes) ns) i (data-writable (length bytes) c time), items-long hashes ns, length-map (sent N c) num, sent-few N c h, data-size c time 0 (length bytes))
+    omega (arith, datagram-last to (nodeItems hashes (sent N c)) i (data-writable (length bytes) c time), sent-long hashes N c h, data-size c time 0 (length bytes))

@@ -1,43 +1,35 @@
 // The datagrams that a store sends: our HANDSHAKE, an ACK, one chunk with its hashes. Each is written from the front of
 // the reply room, and what stands past it stays.
 ghost use mathlib.Core.Path.{_≡_};
-ghost use mathlib.Core.Bool.{true};
-ghost use mathlib.Core.List.{map};
-ghost use Prim.Native.Nat.{ℕ, _+_, _*_, _≤_, _<_, _^_};
-ghost use lib.ListN.{length, getD};
+ghost use mathlib.Core.List.{[], _∷_};
+ghost use Prim.Native.Nat.{_+_, _*_, _≤_, _<_, _^_};
+ghost use lib.ListN.{length};
 ghost use Rattle.hash.proofs.Promise.{bytesOf};
-ghost use Rattle.tree.proofs.Promise.{chunkSize, chunks, maxLength};
+ghost use Rattle.tree.proofs.Promise.{bin, chunkSize, chunks, maxLength, sent, siblingTurn, peakTurn};
+ghost use Rattle.store.proofs.Promise.{hashIn};
 ghost use Rattle.wire.proofs.Promise.{placed, minSize, maxSize};
-ghost use Rattle.writer.proofs.Promise.{encode, writable, sizeOf, bytesOf as messageBytes};
 ghost use Rattle.replies.specs.Replies.{handshakeReply, ackReply, hashItem, chunkReply};
-ghost use Rattle.replies.specs.Steps.{integritySize};
+ghost use Rattle.replies.specs.Steps.{integritySize, nodeItems, Stand};
 use hash::value;
 use hash::value::HashValue;
 use tree::bin;
+use tree::pack;
 use tree::peaks;
 use verdict::room;
-use wire::message::Message;
+use wire::limits::MIN_SIZE;
 use wire::message::Options;
 use writer::add;
+use writer::place;
 use writer::put;
-use writer::size;
 
-// Room for what goes out with a chunk: at most two nodes at each of ten heights.
-const NODES: usize = 20;
+// The sizes of a HANDSHAKE with the fixed options, of an ACK, of an INTEGRITY message, and of DATA without its chunk.
+const HANDSHAKE_SIZE: usize = 56;
 
-// The size of an INTEGRITY message.
+const ACK_SIZE: usize = 17;
+
 const INTEGRITY_SIZE: usize = 41;
 
-// Puts a message at a place of the room; the place behind it.
-fn put_message(reply: &mut [u8], at: usize, message: Message, bytes: &[u8]) -> usize
-    requires { ⌜ at + sizeOf message ≤ length (now reply) ⌝ }
-    requires { ⌜ writable (length (now bytes)) message ≡ true ⌝ }
-    ensures { λ r. ⌜ (r ≡ at + sizeOf message)
-        × (now (reply .exit) ≡ placed (now (reply .entry)) at (messageBytes (now (bytes .entry)) message)) ⌝ }
-{
-    put::put(reply, at, message, bytes);
-    at + size::size_of(message, bytes)
-}
+const DATA_HEAD: usize = 17;
 
 // Our HANDSHAKE from a source channel, with the fixed options around the root; its length.
 pub fn handshake(reply: &mut [u8], destination: u32, source: u32, root: HashValue) -> usize
@@ -47,12 +39,9 @@ pub fn handshake(reply: &mut [u8], destination: u32, source: u32, root: HashValu
         ≡ placed (now (reply .entry)) 0 (handshakeReply destination source (bytesOf (root .words)))) ⌝ }
 {
     let bytes = value::bytes(root);
-    let begun = add::begin(reply, destination);
-    let message = Message::Handshake {
-        source,
-        options: Options::Fixed { root: 0 },
-    };
-    put_message(reply, begun.len, message, &bytes)
+    add::begin(reply, destination);
+    put::put_handshake(reply, MIN_SIZE, source, Options::Fixed { root: 0 }, &bytes);
+    MIN_SIZE + HANDSHAKE_SIZE
 }
 
 // An ACK of the chunks from first to last; its length.
@@ -61,36 +50,74 @@ pub fn ack(reply: &mut [u8], destination: u32, first: u32, last: u32, delay: u64
     ensures { λ r. ⌜ (r ≡ length (ackReply destination first last delay))
         × (now (reply .exit) ≡ placed (now (reply .entry)) 0 (ackReply destination first last delay)) ⌝ }
 {
-    let begun = add::begin(reply, destination);
-    put_message(reply, begun.len, Message::Ack { first, last, delay }, b"")
+    add::begin(reply, destination);
+    put::put_ack(reply, MIN_SIZE, first, last, delay, b"");
+    MIN_SIZE + ACK_SIZE
 }
 
-// One node's INTEGRITY at a place of the room; the place behind it.
-fn put_hash(reply: &mut [u8], at: usize, hashes: &[u32], node: u32) -> usize
-    requires { ⌜ at + integritySize ≤ length (now reply) ⌝ }
-    ensures { λ r. ⌜ (r ≡ at + integritySize)
-        × (now (reply .exit)
-        ≡ placed (now (reply .entry)) at (messageBytes (hashItem (now (hashes .entry)) node .source) (hashItem
-        (now (hashes .entry)) node .message))) ⌝ }
+// The hash of node b at a place of the room. Each word is read right before it is placed: the compiler then makes one
+// store of its four.
+fn put_hash(reply: &mut [u8], at: usize, hashes: &[u32], b: u64)
+    requires { ⌜ at + 32 ≤ length (now reply) ⌝ }
+    ensures { λ _. ⌜ now (reply .exit) ≡ placed (now (reply .entry)) at (hashIn (now (hashes .entry)) b) ⌝ }
 {
-    let hash = value::bytes(room::read(hashes, node as u64));
-    put::put_integrity(reply, at, bin::first(node), bin::last(node), 0, &hash);
+    let mut j: usize = 0;
+    while j < 8 {
+        place::place32(reply, at + 4 * j, room::word(hashes, b, j));
+        j = j + 1;
+    }
+}
+
+// The INTEGRITY of the k-th node of height h at a place of the room; the place behind it.
+fn put_node(reply: &mut [u8], at: usize, hashes: &[u32], h: u32, k: u64) -> usize
+    requires { ⌜ at + integritySize ≤ length (now reply) ⌝ }
+    requires { ⌜ (h < 60) × (k * 2 ^ h + 2 ^ h ≤ 2 ^ 32) ⌝ }
+    ensures { λ r. ⌜ Stand (now (reply .entry)) at (hashItem (now (hashes .entry)) (bin h (k * 2 ^ h)) ∷ []) (now
+        (reply .exit)) r ⌝ }
+{
+    let w = bin::pow2(h);
+    let first = k * w;
+    let last = first + (w - 1);
+    place::place_range(reply, at, 4, first as u32, last as u32);
+    put_hash(reply, at + 9, hashes, first + last);
     at + INTEGRITY_SIZE
 }
 
-// The INTEGRITY of each node, one after the other, behind the destination; the place behind them.
-fn put_hashes(reply: &mut [u8], hashes: &[u32], nodes: &[u64]) -> usize
-    requires { ⌜ minSize + integritySize * length (now nodes) ≤ length (now reply) ⌝ }
-    requires { ⌜ ((i : ℕ) → getD (now nodes) i 0 < 2 ^ 32) ⌝ }
-    ensures { λ r. ⌜ (r ≡ minSize + integritySize * length (now (nodes .entry)))
-        × (now (reply .exit)
-        ≡ placed (now (reply .entry)) minSize (encode (map (hashItem (now (hashes .entry))) (now (nodes .entry))))) ⌝ }
+// The sibling of height h, if it goes out with chunk c of n.
+fn put_sibling(reply: &mut [u8], at: usize, hashes: &[u32], n: u32, c: u32, h: u32) -> usize
+    requires { ⌜ (at + integritySize ≤ length (now reply)) × (h < 59) ⌝ }
+    ensures { λ r. ⌜ Stand (now (reply .entry)) at (nodeItems (now (hashes .entry)) (siblingTurn n c h)) (now
+        (reply .exit)) r ⌝ }
 {
-    let mut at: usize = wire::limits::MIN_SIZE;
-    let mut j: usize = 0;
-    while j < nodes.len() {
-        at = put_hash(reply, at, hashes, nodes[j] as u32);
-        j = j + 1;
+    if !peaks::inside(n, c, h + 1) {
+        return at;
+    }
+    put_node(reply, at, hashes, h, peaks::sibling_index(c, h))
+}
+
+// The peak of height h, if n has one.
+fn put_peak(reply: &mut [u8], at: usize, hashes: &[u32], n: u32, h: u32) -> usize
+    requires { ⌜ (at + integritySize ≤ length (now reply)) × (h < 59) ⌝ }
+    ensures { λ r. ⌜ Stand (now (reply .entry)) at (nodeItems (now (hashes .entry)) (peakTurn n h)) (now (reply .exit)) r ⌝ }
+{
+    if peaks::side(n, h) != 1 {
+        return at;
+    }
+    put_node(reply, at, hashes, h, peaks::peak_index(n, h))
+}
+
+// The hashes that go out with chunk c of n behind the destination, height by height from the top; the place behind them.
+fn put_hashes(reply: &mut [u8], hashes: &[u32], n: u32, c: u32) -> usize
+    requires { ⌜ maxSize ≤ length (now reply) ⌝ }
+    requires { ⌜ n ≤ chunks chunkSize maxLength ⌝ }
+    ensures { λ r. ⌜ Stand (now (reply .entry)) minSize (nodeItems (now (hashes .entry)) (sent n c)) (now (reply .exit)) r ⌝ }
+{
+    let mut at: usize = MIN_SIZE;
+    let mut h = pack::levels(n) + 1;
+    while 0 < h {
+        h = h - 1;
+        at = put_sibling(reply, at, hashes, n, c, h);
+        at = put_peak(reply, at, hashes, n, h);
     }
     at
 }
@@ -113,16 +140,8 @@ pub fn chunk(
         ≡ placed (now (reply .entry)) 0 (chunkReply (now (hashes .entry)) destination n c timestamp (now
         (bytes .entry)))) ⌝ }
 {
-    let mut nodes = [0u64; NODES];
-    let count = peaks::sent(&mut nodes, n, c);
     add::begin(reply, destination);
-    let at = put_hashes(reply, hashes, &nodes[0..count]);
-    let message = Message::Data {
-        first: c,
-        last: c,
-        timestamp,
-        start: 0,
-        len: bytes.len(),
-    };
-    put_message(reply, at, message, bytes)
+    let at = put_hashes(reply, hashes, n, c);
+    put::put_data(reply, at, c, c, timestamp, 0, bytes.len(), bytes);
+    at + DATA_HEAD + bytes.len()
 }

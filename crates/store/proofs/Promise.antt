@@ -24,7 +24,7 @@ use Rattle.store.proofs.NumberLaws as numbers
 use Rattle.store.proofs.ShorterLaws as shorter
 pub use Rattle.verdict.specs.Room.{filler, hashIn}
 unfoldable pub use Rattle.verdict.specs.Room.{Digest}
-pub use Rattle.verdict.proofs.RoomLaws.{hash-length}
+pub use Rattle.verdict.proofs.RoomLaws.{hash-length, hash-words}
 pub use Rattle.verdict.specs.Integrity.{Integrity, integrityOf}
 pub use Rattle.verdict.specs.Rooms.{Rooms, roomsOf, countOf, chunkIn, stateOf}
 pub use Rattle.store.specs.Building.{rootOf}

@@ -55,6 +55,18 @@ beside-right h c e =
     let f = above-right h c e in
     rw (le-ltb c (above (suc h) c + 2 ^ h) (omega (arith, above-in h c))) f
 
+-- the sibling's first chunk by its index, as the code has it
+pub beside-even : (h c k : ℕ) → k ≡ c / 2 ^ h → k % 2 ≡ 0 → (k + 1) * 2 ^ h ≡ siblingFrom h c
+beside-even h c k e f =
+    omega (arith, ap (λ (x : ℕ). x * 2 ^ h) e, beside-left h c (rw e at f))
+
+pub beside-odd : (h c k : ℕ) → k ≡ c / 2 ^ h → (k % 2 ≡ 0 → ⊥) → (k - 1) * 2 ^ h ≡ siblingFrom h c
+beside-odd h c zero e f = absurd (f refl)
+beside-odd h c (suc k) e f =
+    let g : suc k - 1 ≡ k = omega arith in
+    let o : suc k % 2 ≡ 1 = omega arith in
+    rw g (omega (arith, ap (λ (x : ℕ). x * 2 ^ h) e, beside-right h c (rw e at o)))
+
 -- a node above c lies within the first 2 ^ t chunks if c does, and so do the numbers of its children
 pub above-inside : (t k c : ℕ) → k ≤ t → c < 2 ^ t → above k c + 2 ^ k ≤ 2 ^ t
 above-inside t k c l u =

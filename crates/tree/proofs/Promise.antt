@@ -2,22 +2,28 @@
 -- nothing.
 use Prim.Native.Nat.{ℕ, suc, _+_, _*_, _^_, _≤_, _<_}
 use mathlib.Core.Path.{_≡_, refl}
+use mathlib.Core.Bool.{true}
 use mathlib.Core.List.{map}
+use lib.Dec.{leb}
 use lib.ListN.{length, getD}
-use Rattle.tree.specs.declared.bin.RangeNode.the-variants.{Node}
+use Rattle.tree.specs.declared.bin.RangeNode.the-variants.{Node as NodeOf}
 use Rattle.tree.proofs.BinLaws as nodes
 use Rattle.tree.proofs.RangeLaws.{range-is}
 use Rattle.tree.proofs.PackLaws as pack
 use Rattle.tree.proofs.ChunkLaws as chunk
+use Rattle.tree.proofs.SentLaws as sending
 use Rattle.tree.proofs.SentNumberLaws as numbers
 -- Nodes and ranges: a node's number, its first and its last chunk; whether it covers a range, and the node of a range.
 pub use Rattle.tree.specs.Bin.{bin, first, last}
-pub use Rattle.tree.specs.Node.{num}
+pub use Rattle.tree.specs.Node.{Node, num, above, siblingFrom}
 unfoldable pub use Rattle.tree.specs.Range.{covers, nodeOfRange}
 -- Packs and chunks: the sizes of the yard profile, the number of chunks, a chunk's size, the leaf places of the least tree.
-pub use Rattle.tree.specs.Pack.{chunkSize, maxLength, chunks, size, leafPlaces}
+pub use Rattle.tree.specs.Pack.{chunkSize, maxLength, chunks, size, levels, leafPlaces}
 -- The peaks and siblings that go out with a chunk, in the sending order.
 pub use Rattle.tree.specs.Peaks.{sent}
+pub use Rattle.tree.specs.Steps.{peakBit, siblingAt, peakTurn, siblingTurn}
+pub use Rattle.tree.proofs.Below.{sentBelow}
+pub use Rattle.tree.proofs.StepLaws.{sent-none, sent-at}
 pub use Rattle.tree.proofs.SentNumberLaws.{Differs, Distinct}
 
 -- ---- nodes and ranges
@@ -31,7 +37,7 @@ pub first-plus-last : (b : ℕ) → first b + last b ≡ b
 first-plus-last = nodes.first-plus-last
 
 -- The node of the chunks that a node covers is that node.
-pub node-range : (b : ℕ) → nodeOfRange (first b) (last b) ≡ Node b
+pub node-range : (b : ℕ) → nodeOfRange (first b) (last b) ≡ NodeOf b
 node-range b = range-is (first b) (last b) b refl refl
 
 -- ---- packs and chunks
@@ -49,6 +55,17 @@ pub places-small : (k N w : ℕ) → w ≡ leafPlaces N → N ≤ 2 ^ k → w �
 places-small = pack.places-small
 
 -- ---- peaks and the sending order: what goes out with a chunk
+
+-- Height by height from the top: `sentBelow` is what the heights below one add, at each the sibling and then the peak (`sent-at`).
+pub sent-heights : (N c : ℕ) → sent N c ≡ sentBelow N c (suc (levels N))
+sent-heights = sending.sent-is
+
+-- A sibling that goes out lies within 0..N-1, and so does a peak.
+pub sibling-inside : (N c h : ℕ) → leb (above (suc h) c + 2 ^ suc h) N ≡ true → siblingFrom h c + 2 ^ h ≤ N
+sibling-inside = numbers.sibling-inside
+
+pub peak-inside : (N h : ℕ) → peakBit N h ≡ true → above (suc h) N + 2 ^ h ≤ N
+peak-inside = numbers.peak-inside
 
 -- Of at most 2 ^ k chunks: at most two nodes at each of k + 1 heights.
 pub sent-few : (k N c : ℕ) → N ≤ 2 ^ k → length (sent N c) ≤ 2 * suc k

@@ -1,5 +1,5 @@
 -- What goes out with a chunk: how many nodes, how large their numbers are, and that none comes twice. Assumes nothing.
-use Prim.Native.Nat.{ℕ, zero, suc, _+_, _-_, _*_, _/_, _%_, _^_, _≤_}
+use Prim.Native.Nat.{ℕ, zero, suc, _+_, _*_, _/_, _%_, _^_, _≤_}
 use native.Mathlib.Omega.{arith}
 use native.Mathlib.Nat.{mul-assoc, mul-comm, pow-suc}
 use mathlib.Core.Path.{_≡_, refl, sym, ap, _∙_}
@@ -11,7 +11,7 @@ use lib.Dec.{leb, ltb}
 use lib.ListN.{length, getD}
 use Rattle.base.specs.Pick.{pick}
 use Rattle.tree.specs.Bin.{bin}
-use Rattle.tree.specs.Node.{Node, num, above}
+use Rattle.tree.specs.Node.{Node, num, above, siblingFrom}
 use Rattle.tree.specs.Pack.{levels}
 use Rattle.tree.specs.Peaks.{sent}
 use Rattle.tree.specs.Steps.{peakBit, peakAt, siblingAt, peakTurn}
@@ -41,24 +41,23 @@ under-turn m true n ns h u zero = h refl
 under-turn m true n ns h u (suc i) = u i
 under-turn m false n ns h u i = u i
 
--- A sibling whose parent lies within 0..N-1.
-sibling-under : (N c h : ℕ) → leb (above (suc h) c + 2 ^ suc h) N ≡ true → num (siblingAt c h) ≤ 2 * N
-sibling-under N c h e = go (ltb c (above (suc h) c + 2 ^ h)) (leb-true (above (suc h) c + 2 ^ suc h) N e)
+-- A sibling whose parent lies within 0..N-1 does, and so does a peak.
+pub sibling-inside : (N c h : ℕ) → leb (above (suc h) c + 2 ^ suc h) N ≡ true → siblingFrom h c + 2 ^ h ≤ N
+sibling-inside N c h e = go (ltb c (above (suc h) c + 2 ^ h)) (leb-true (above (suc h) c + 2 ^ suc h) N e)
   where
-    go : (b : Bool) → above (suc h) c + 2 ^ suc h ≤ N → 2 * pick b (above (suc h) c + 2 ^ h) (above (suc h) c) + 2 ^ h - 1 ≤ 2 * N
+    go : (b : Bool) → above (suc h) c + 2 ^ suc h ≤ N → pick b (above (suc h) c + 2 ^ h) (above (suc h) c) + 2 ^ h ≤ N
     go true l = omega arith
     go false l = omega arith
 
--- A peak.
-peak-under : (N h : ℕ) → peakBit N h ≡ true → num (peakAt N h) ≤ 2 * N
-peak-under N h e = omega (arith, above-right h N (eqb-true (N / 2 ^ h % 2) 1 e), above-in h N .0)
+pub peak-inside : (N h : ℕ) → peakBit N h ≡ true → above (suc h) N + 2 ^ h ≤ N
+peak-inside N h e = omega (arith, above-right h N (eqb-true (N / 2 ^ h % 2) 1 e), above-in h N .0)
 
 below-under : (N c h : ℕ) → Under (2 * N) (sentBelow N c h)
 unfolding sentBelow Under
 below-under N c zero i = omega arith
 below-under N c (suc h) i =
-    under-turn (2 * N) (leb (above (suc h) c + 2 ^ suc h) N) (siblingAt c h) (peakTurn N h ++ sentBelow N c h) (sibling-under N c h)
-    (under-turn (2 * N) (peakBit N h) (peakAt N h) (sentBelow N c h) (peak-under N h) (below-under N c h)) i
+    under-turn (2 * N) (leb (above (suc h) c + 2 ^ suc h) N) (siblingAt c h) (peakTurn N h ++ sentBelow N c h) (λ t. omega (arith, sibling-inside N c h t))
+    (under-turn (2 * N) (peakBit N h) (peakAt N h) (sentBelow N c h) (λ t. omega (arith, peak-inside N h t)) (below-under N c h)) i
 
 pub sent-under : (N c i : ℕ) → getD (map num (sent N c)) i 0 ≤ 2 * N
 unfolding Under

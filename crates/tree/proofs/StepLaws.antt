@@ -133,7 +133,7 @@ unfolding peaksBelow
 peaks-at N zero l = absurd (omega arith)
 peaks-at N (suc h) l = let e : suc h - 1 ≡ h = omega arith in rw e
 
-sent-at : (N c h : ℕ) → 0 < h → sentBelow N c h ≡ siblingTurn N c (h - 1) ++ (peakTurn N (h - 1) ++ sentBelow N c (h - 1))
+pub sent-at : (N c h : ℕ) → 0 < h → sentBelow N c h ≡ siblingTurn N c (h - 1) ++ (peakTurn N (h - 1) ++ sentBelow N c (h - 1))
 unfolding sentBelow
 sent-at N c zero l = absurd (omega arith)
 sent-at N c (suc h) l = let e : suc h - 1 ≡ h = omega arith in rw e

@@ -1,10 +1,10 @@
 // Nodes by chunk and height: those above a chunk and their siblings, the peaks of n, and what goes out with a chunk.
 ghost use mathlib.Core.Path.{_≡_};
-ghost use Prim.Native.Nat.{_+_, _/_, _%_, _<_, _≤_, _^_};
+ghost use Prim.Native.Nat.{suc, _+_, _*_, _/_, _%_, _<_, _≤_, _^_};
 ghost use lib.Dec.{leb};
 ghost use lib.ListN.{length, set};
 ghost use Rattle.tree.specs.Bin.{bin};
-ghost use Rattle.tree.specs.Node.{above, num};
+ghost use Rattle.tree.specs.Node.{above, siblingFrom, num};
 ghost use Rattle.tree.specs.Peaks.{peaks, sent};
 ghost use Rattle.tree.specs.State.{isPeak};
 ghost use Rattle.tree.specs.Steps.{peakAt, siblingAt, peakTurn, siblingTurn, listed};
@@ -58,8 +58,25 @@ pub fn peak(n: u32, h: u32) -> u64
     2 * above(n, h + 1) + (bin::pow2(h) - 1)
 }
 
+// The index of the sibling among the nodes of its height, from the left.
+pub fn sibling_index(c: u32, h: u32) -> u64
+    requires { ⌜ h < 60 ⌝ }
+    ensures { λ r. ⌜ r * 2 ^ h ≡ siblingFrom h c ⌝ }
+{
+    let k = c as u64 / bin::pow2(h);
+    if k % 2 == 0 { k + 1 } else { k - 1 }
+}
+
+// The index of the peak of n of height h, likewise.
+pub fn peak_index(n: u32, h: u32) -> u64
+    requires { ⌜ h < 60 ⌝ }
+    ensures { λ r. ⌜ r * 2 ^ h ≡ above (suc h) n ⌝ }
+{
+    2 * (n as u64 / bin::pow2(h) / 2)
+}
+
 // Whether the node of height h above chunk c lies within 0..n-1.
-fn inside(n: u32, c: u32, h: u32) -> bool
+pub fn inside(n: u32, c: u32, h: u32) -> bool
     requires { ⌜ h < 60 ⌝ }
     ensures { λ r. ⌜ r ≡ leb (above h c + 2 ^ h) n ⌝ }
 {

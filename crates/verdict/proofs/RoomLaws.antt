@@ -4,6 +4,7 @@ use mathlib.Core.Logic.{_⊎_, inl, inr, _≢_}
 use mathlib.Core.Bool.{Bool, true, false}
 use mathlib.Core.List.{List, [], _∷_, _++_}
 use Prim.Native.Nat.{ℕ, zero, suc, _+_, _*_, _/_, _≤_, _<_}
+use native.Mathlib.Nat.{add-zero}
 use native.Mathlib.Numerals.{add-one, towards-suc}
 use native.Mathlib.Omega.{arith}
 use borrow.Author.Tests.{lt-ltb, le-ltb}
@@ -21,6 +22,18 @@ pub length-wordsAt : (n : ℕ) (l : List ℕ) (i : ℕ) → length (wordsAt n l 
 unfolding wordsAt
 length-wordsAt zero l i = refl
 length-wordsAt (suc n) l i = ap suc (length-wordsAt n l (suc i))
+
+getD-wordsAt : (n : ℕ) (l : List ℕ) (i j : ℕ) → j < n → getD (wordsAt n l i) j 0 ≡ getD l (i + j) 0
+unfolding wordsAt
+getD-wordsAt zero l i j h = absurd (omega arith)
+getD-wordsAt (suc n) l i zero h = rw (add-zero i)
+getD-wordsAt (suc n) l i (suc j) h = getD-wordsAt n l (suc i) j (omega arith) ∙ ap (λ (k : ℕ). getD l k 0) (omega arith)
+
+wordsAt-fit : (n : ℕ) (l : List ℕ) (i : ℕ) → Words l → Words (wordsAt n l i)
+unfolding wordsAt
+wordsAt-fit zero l i h j = omega arith
+wordsAt-fit (suc n) l i h zero = h i
+wordsAt-fit (suc n) l i h (suc j) = wordsAt-fit n l (suc i) h j
 
 -- outside of what is written
 getD-sets-out : (vs l : List ℕ) (i j : ℕ) → (j < i) ⊎ (i + length vs ≤ j) → getD (sets l i vs) j 0 ≡ getD l j 0
@@ -94,6 +107,9 @@ unfolding Digest
 digest-back v d =
     bytes-words 8 v (d .0) (omega (arith, d .1)) ∙ ap (λ (n : ℕ). take n v) (sym (d .1)) ∙ take-length v
 
+pub hash-words : (l : List ℕ) (b : ℕ) → bytesOf (words 8 (hashIn l b)) ≡ hashIn l b
+hash-words l b = digest-back (hashIn l b) (digest-in l b)
+
 -- ---- by nodes
 
 pub length-putHash : (l : List ℕ) (b : ℕ) (v : List ℕ) → length (putHash l b v) ≡ length l
@@ -144,6 +160,27 @@ pub read-past : (l : List ℕ) (b : ℕ) → length l / 8 ≤ b → hashIn l b �
 unfolding hashIn
 read-past l b h = rw (le-ltb b (length l / 8) h)
 
+-- the words of eight words' bytes are those words
+words-back : (w : List ℕ) → Words w → length w ≡ 8 → words 8 (bytesOf w) ≡ w
+words-back w h e = ap (λ (n : ℕ). words n (bytesOf w)) (sym e) ∙ words-bytes w h
+
+pub word-at : (l : List ℕ) (b j : ℕ) → Words l → b < length l / 8 → j < 8 → getD l (8 * b + j) 0 ≡ getD (words 8 (hashIn l b)) j 0
+unfolding hashIn
+word-at l b j h i k =
+    rw (lt-ltb b (length l / 8) i, words-back (wordsAt 8 l (8 * b)) (wordsAt-fit 8 l (8 * b) h) (length-wordsAt 8 l (8 * b)))
+    (sym (getD-wordsAt 8 l (8 * b) j k))
+
+zeros : (n i : ℕ) → getD {A = ℕ} (replicate n 0) i 0 ≡ 0
+zeros zero i = refl
+zeros (suc n) zero = refl
+zeros (suc n) (suc i) = zeros n i
+
+pub word-past : (l : List ℕ) (b j : ℕ) → length l / 8 ≤ b → 0 ≡ getD (words 8 (hashIn l b)) j 0
+unfolding filler
+word-past l b j h =
+    rw (read-past l b h, ← (bytes-zeros 8), words-back (replicate 8 0) (λ i. omega (arith, zeros 8 i)) refl)
+    (sym (zeros 8 j))
+
 words-self : (n : ℕ) (p l : List ℕ) → length l ≡ n → wordsAt n (p ++ l) (length p) ≡ l
 unfolding wordsAt
 words-self zero p [] e = refl
@@ -175,7 +212,7 @@ pub write-eight : (l : List ℕ) (b : ℕ) (v : List ℕ) → b < length l / 8 �
 unfolding putHash
 write-eight l b v i e h =
     rw (lt-ltb b (length l / 8) i)
-    (eight-stores l (8 * b) v e ∙ ap (sets l (8 * b)) (sym (ap (λ (n : ℕ). words n (bytesOf v)) (sym e) ∙ words-bytes v h)))
+    (eight-stores l (8 * b) v e ∙ ap (sets l (8 * b)) (sym (words-back v h e)))
 
 pub write-past : (l : List ℕ) (b : ℕ) (v : List ℕ) → length l / 8 ≤ b → l ≡ putHash l b v
 unfolding putHash

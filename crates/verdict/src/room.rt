@@ -1,6 +1,8 @@
 // The hash room: eight words a node, read and written by its number.
 ghost use mathlib.Core.Path.{_≡_};
-ghost use Rattle.hash.proofs.Promise.{bytesOf};
+ghost use Prim.Native.Nat.{_<_};
+ghost use lib.ListN.{getD};
+ghost use Rattle.hash.proofs.Promise.{words, bytesOf};
 ghost use Rattle.verdict.specs.Room.{hashIn, putHash};
 use hash::value;
 use hash::value::HashValue;
@@ -26,6 +28,18 @@ pub fn read(hashes: &[u32], b: u64) -> HashValue
             hashes[i + 7],
         ],
     }
+}
+
+// Word j of the hash of node b; of a node past the room the filler's.
+pub fn word(hashes: &[u32], b: u64, j: usize) -> u32
+    requires { ⌜ j < 8 ⌝ }
+    ensures { λ r. ⌜ r ≡ getD (words 8 (hashIn (now (hashes .entry)) b)) j 0 ⌝ }
+{
+    let places = (hashes.len() / 8) as u64;
+    if b >= places {
+        return 0;
+    }
+    hashes[8 * (b as usize) + j]
 }
 
 // Writes the hash of node b, if the room has a place for it.

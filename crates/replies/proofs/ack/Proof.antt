@@ -1,21 +1,19 @@
-use native.Mathlib.Omega.{arith}
+use Rattle.replies.proofs.ReplyLaws.{ack-done}
 use borrow.Author.Needs.{needs}
-use Rattle.replies.proofs.DatagramLaws.{begun}
-use Rattle.replies.proofs.ReplyLaws.{ack-puts, ack-done}
 use Rattle.replies.proofs.ack.Statement.{statement}
 use Rattle.replies.proofs.ack.Tie as tie
 
 begin-requires : tie.Need-begin-requires
 begin-requires c κs = search needs
 
-slice-aggregate-put-message : tie.Need-slice-aggregate-put-message
-slice-aggregate-put-message c = search needs
+slice-aggregate-put-ack : tie.Need-slice-aggregate-put-ack
+slice-aggregate-put-ack c = search needs
 
-put-message-requires : tie.Need-put-message-requires
-put-message-requires c κs =
-    let b = c .before .before .before .before in
-    let a = b .before .before .before in
-    ack-puts _ _ _ _ _ _ (begun _ _ (a .pre) (b .begin .ensures) .0) (omega (arith, a .pre, b .begin .kept))
+put-ack-requires : tie.Need-put-ack-requires
+put-ack-requires c κs = search needs
+
+add-result : tie.Need-add-result
+add-result c = search needs
 
 same-length : tie.Need-same-length
 same-length c = search needs
@@ -24,9 +22,15 @@ returns : tie.Need-returns
 returns c =
     let p = c .before .before in
     let b = p .before .before .before .before .before in
-    ack-done _ _ (b .before .before .before .pre) (b .begin .ensures) _ _ _ (p .put-message .ensures)
+    ack-done _ _ (b .before .before .before .pre) (b .begin .ensures) _ _ _ (p .put-ack .ensures)
 
 pub ack-spec : {M : Type 1} → statement M
 ack-spec =
     tie.close
-    (tie.spec begin-requires slice-aggregate-put-message put-message-requires same-length returns)
+    (tie.spec
+    begin-requires
+    slice-aggregate-put-ack
+    put-ack-requires
+    add-result
+    same-length
+    returns)

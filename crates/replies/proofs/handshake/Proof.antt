@@ -1,7 +1,6 @@
 use native.Mathlib.Omega.{arith}
-use borrow.Author.Needs.{needs}
-use Rattle.replies.proofs.DatagramLaws.{begun}
 use Rattle.replies.proofs.ReplyLaws.{handshake-puts, handshake-done}
+use borrow.Author.Needs.{needs}
 use Rattle.replies.proofs.handshake.Statement.{statement}
 use Rattle.replies.proofs.handshake.Tie as tie
 
@@ -11,14 +10,16 @@ bytes-requires c κs = search needs
 begin-requires : tie.Need-begin-requires
 begin-requires c κs = search needs
 
-slice-aggregate-put-message : tie.Need-slice-aggregate-put-message
-slice-aggregate-put-message c = search needs
+slice-aggregate-put-handshake : tie.Need-slice-aggregate-put-handshake
+slice-aggregate-put-handshake c = search needs
 
-put-message-requires : tie.Need-put-message-requires
-put-message-requires c κs =
+put-handshake-requires : tie.Need-put-handshake-requires
+put-handshake-requires c κs =
     let b = c .before .before .before .before in
-    let a = b .before .before .before .before in
-    handshake-puts _ _ _ _ (begun _ _ (a .pre) (b .begin .ensures) .0) (omega (arith, a .pre, b .begin .kept)) (search needs)
+    handshake-puts _ _ (omega (arith, b .before .before .before .before .pre, b .begin .kept)) (search needs)
+
+add-result : tie.Need-add-result
+add-result c = search needs
 
 same-length : tie.Need-same-length
 same-length c = search needs
@@ -27,8 +28,8 @@ returns : tie.Need-returns
 returns c =
     let p = c .before .before in
     let b = p .before .before .before .before .before in
-    let a = b .before .before .before .before in
-    handshake-done _ _ (a .pre) (b .begin .ensures) _ (b .before .before .bytes .ensures) (search needs) (p .put-message .ensures)
+    let s = b .before .before in
+    handshake-done _ _ (s .before .before .pre) (b .begin .ensures) _ (s .bytes .ensures) (search needs) (p .put-handshake .ensures)
 
 pub handshake-spec : {M : Type 1} → statement M
 handshake-spec =
@@ -36,7 +37,8 @@ handshake-spec =
     (tie.spec
     bytes-requires
     begin-requires
-    slice-aggregate-put-message
-    put-message-requires
+    slice-aggregate-put-handshake
+    put-handshake-requires
+    add-result
     same-length
     returns)

@@ -1,57 +1,66 @@
 use Prim.Native.Nat.{_-_, _≤_}
 use native.Mathlib.Omega.{arith}
 use borrow.Author.Needs.{needs}
-use lib.ListN.{length}
-use Rattle.wire.proofs.Promise.{minSize}
-use Rattle.replies.proofs.DatagramLaws.{stand-none}
-use Rattle.replies.proofs.HashLaws.{StandUpTo, items-place, items-room, items-more, items-all}
+use Rattle.replies.proofs.SendingLaws.{DoneFrom, sibling-long, done-none, done-room, done-few, done-more, done-all}
 use Rattle.replies.proofs.put_hashes.Statement.{statement}
 use Rattle.replies.proofs.put_hashes.Tie as tie
 
 abbrev Inv-loop : tie.InvT-loop
-Inv-loop reply₀ hashes nodes at₀ j₀ reply at j = (j ≤ length nodes) × StandUpTo hashes reply₀ minSize nodes j reply at
+Inv-loop reply₀ hashes n c at₀ h₀ reply at h = (h ≤ 33) × DoneFrom hashes n c reply₀ reply at h
 
 abbrev μ-loop : tie.MeasureT-loop
-μ-loop reply₀ hashes nodes at₀ j₀ reply at j = length nodes - j
+μ-loop reply₀ hashes n c at₀ h₀ reply at h = h
+
+levels-requires : tie.Need-levels-requires Inv-loop μ-loop
+levels-requires c κs = search needs
+
+add-h : tie.Need-add-h Inv-loop μ-loop
+add-h c = search needs
 
 loop-holds : tie.Need-loop-holds Inv-loop μ-loop
-loop-holds c = (omega arith, stand-none _ _)
+loop-holds c = (omega arith, done-none _ _ _ _ (c .levels .ensures .0))
 
-mul-put-hash : tie.Need-mul-put-hash Inv-loop μ-loop
-mul-put-hash c = search needs
+sub-h : tie.Need-sub-h Inv-loop μ-loop
+sub-h c = search needs
 
-shared-slice-read-put-hash : tie.Need-shared-slice-read-put-hash Inv-loop μ-loop
-shared-slice-read-put-hash c = search needs
+put-sibling-requires : tie.Need-put-sibling-requires Inv-loop μ-loop
+put-sibling-requires c κs =
+    let l = c .before .before in
+    let a = l .before .before .before .before in
+    let d = l .loop .inv .1 in
+    omega (arith, a .pre, done-room _ _ _ _ (l .loop .h) d, done-few _ _ _ _ (l .loop .h) d (a .pre .1))
 
-cast-put-hash : tie.Need-cast-put-hash Inv-loop μ-loop
-cast-put-hash c = let l = c .before .before .before .loop in omega (arith, c .before .before .before .before .before .before .before .pre .1 (l .j))
-
-put-hash-requires : tie.Need-put-hash-requires Inv-loop μ-loop
-put-hash-requires c κs =
-    let l = c .before .before .before .loop in
-    omega (arith, items-place _ _ _ _ (l .j) (l .inv .0) (l .inv .1), items-room _ _ _ _ (l .j) (l .inv .1))
-
-add-j : tie.Need-add-j Inv-loop μ-loop
-add-j c = search needs
+put-peak-requires : tie.Need-put-peak-requires Inv-loop μ-loop
+put-peak-requires c κs =
+    let s = c .before .before .before in
+    let l = s .before .before .before in
+    let a = l .before .before .before .before in
+    let d = l .loop .inv .1 in
+    omega (
+      arith,
+      a .pre,
+      done-room _ _ _ _ (l .loop .h) d,
+      done-few _ _ _ _ (l .loop .h) d (a .pre .1),
+      s .put-sibling .kept,
+      s .put-sibling .ensures .0,
+      sibling-long (a .args .hashes .now) (a .args .n) (a .args .c) (l .loop .h - 1),
+    )
 
 loop-less : tie.Need-loop-less Inv-loop μ-loop
-loop-less c = search needs
+loop-less c = omega arith
 
 loop-again : tie.Need-loop-again Inv-loop μ-loop
 loop-again c =
     let p = c .before .before in
-    let l = p .before .before .before .before .loop in
-    (omega arith, items-more _ _ _ _ (l .j) (omega arith) (l .inv .1) (p .put-hash .ensures))
+    let s = p .before .before .before .before in
+    let l = s .before .before .before .loop in
+    (omega arith, done-more _ _ _ _ (l .h) (l .inv .1) (omega arith) (s .put-sibling .ensures) (p .put-peak .ensures))
 
 same-length : tie.Need-same-length Inv-loop μ-loop
-same-length c =
-    let l = c .before .loop in
-    items-room _ _ _ _ (l .j) (l .inv .1)
+same-length c = done-room _ _ _ _ (c .before .loop .h) (c .before .loop .inv .1)
 
 returns : tie.Need-returns Inv-loop μ-loop
-returns c =
-    let l = c .before .loop in
-    items-all _ _ _ _ (l .j) (omega arith) (l .inv .1)
+returns c = done-all _ _ _ _ (c .before .loop .h) (c .before .loop .inv .1) (omega arith)
 
 pub put-hashes-spec : {M : Type 1} → statement M
 put-hashes-spec =
@@ -59,12 +68,12 @@ put-hashes-spec =
     (tie.spec
     Inv-loop
     μ-loop
+    levels-requires
+    add-h
     loop-holds
-    mul-put-hash
-    shared-slice-read-put-hash
-    cast-put-hash
-    put-hash-requires
-    add-j
+    sub-h
+    put-sibling-requires
+    put-peak-requires
     loop-less
     loop-again
     same-length
