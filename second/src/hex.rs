@@ -10,48 +10,59 @@ pub fn encode(bytes: &[u8]) -> String {
 /// The same, behind what is there.
 pub fn append(digits: &mut Vec<u8>, bytes: &[u8]) {
     const DIGITS: &[u8; 16] = b"0123456789abcdef";
-    digits.extend(bytes.iter().flat_map(|&byte| {
-        [
-            DIGITS[usize::from(byte >> 4)],
-            DIGITS[usize::from(byte & 15)],
-        ]
-    }));
+    digits.reserve(2 * bytes.len());
+    for &byte in bytes {
+        let halves = [byte >> 4, byte & 15];
+        digits.extend_from_slice(&halves.map(|half| DIGITS[usize::from(half)]));
+    }
 }
 
 /// Puts the bytes of digits of either case behind what is there. None if their
 /// number is odd or one is another character; what is put there then is of no
 /// use.
 pub fn decode(digits: &[u8], bytes: &mut Vec<u8>) -> Option<()> {
-    let (pairs, rest) = digits.as_chunks();
-    // Without a way out of the loop: nearly always all are digits.
+    // Block by block, without a way out: nearly always all are digits.
+    let (blocks, rest) = digits.as_chunks();
     let mut all = 0;
-    bytes.extend(pairs.iter().map(|&[high, low]| {
-        let (high, low) = (VALUES[usize::from(high)], VALUES[usize::from(low)]);
-        all |= high | low;
-        high << 4 | low
-    }));
-    (all < NO_DIGIT && rest.is_empty()).then_some(())
+    for block in blocks {
+        let (decoded, values) = decode_block(block);
+        bytes.extend_from_slice(&decoded);
+        all |= values;
+    }
+    let mut last = [b'0'; BLOCK];
+    last[..rest.len()].copy_from_slice(rest);
+    let (decoded, values) = decode_block(&last);
+    bytes.extend_from_slice(&decoded[..rest.len() / 2]);
+    all |= values;
+    (all < NO_DIGIT && digits.len().is_multiple_of(2)).then_some(())
+}
+
+/// The digits of a block.
+const BLOCK: usize = 32;
+
+/// The bytes of a block, and all its values put together by `or`.
+#[inline(always)]
+fn decode_block(digits: &[u8; BLOCK]) -> ([u8; BLOCK / 2], u8) {
+    let values = digits.map(value);
+    let bytes = std::array::from_fn(|i| values[2 * i] << 4 | values[2 * i + 1]);
+    (bytes, values.iter().fold(0, |all, value| all | value))
 }
 
 /// Above the value of any digit, and of any digits put together by `or`.
 const NO_DIGIT: u8 = 0x10;
 
-/// What each character stands for.
-static VALUES: [u8; 256] = values();
-
-const fn values() -> [u8; 256] {
-    let mut values = [NO_DIGIT; 256];
-    let mut digit = 0;
-    while digit < 10 {
-        values[b'0' as usize + digit] = digit as u8;
-        digit += 1;
+/// What a character stands for. Letters of either case differ in one bit.
+#[inline(always)]
+fn value(character: u8) -> u8 {
+    let digit = character.wrapping_sub(b'0');
+    let letter = (character | 0x20).wrapping_sub(b'a');
+    if digit < 10 {
+        digit
+    } else if letter < 6 {
+        10 + letter
+    } else {
+        NO_DIGIT
     }
-    while digit < 16 {
-        values[b'a' as usize + digit - 10] = digit as u8;
-        values[b'A' as usize + digit - 10] = digit as u8;
-        digit += 1;
-    }
-    values
 }
 
 #[cfg(test)]
@@ -91,6 +102,23 @@ mod tests {
             let good = b"0123456789abcdefABCDEF".contains(&byte);
             assert_eq!(decode(&[byte, b'0'], &mut Vec::new()).is_some(), good);
             assert_eq!(decode(&[b'0', byte], &mut Vec::new()).is_some(), good);
+        }
+    }
+
+    #[test]
+    fn digits_of_every_number() {
+        let bytes: Vec<u8> = (0..100).map(|i| 37 * i + 11).collect();
+        let digits = encode(&bytes).into_bytes();
+        for count in 0..=digits.len() {
+            let mut got = Vec::new();
+            let good = decode(&digits[..count], &mut got).is_some();
+            assert_eq!(good, count % 2 == 0);
+            assert!(!good || got == bytes[..count / 2]);
+        }
+        for place in 0..digits.len() {
+            let mut bad = digits.clone();
+            bad[place] = b'g';
+            assert_eq!(decode(&bad, &mut Vec::new()), None);
         }
     }
 }

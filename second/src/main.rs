@@ -4,7 +4,7 @@
 
 use second::sha256::Sha256;
 use second::{bulk, hex, named_traces, replay, traces, vectors};
-use std::io::{self, BufWriter, ErrorKind, Read, Write};
+use std::io::{self, BufReader, BufWriter, ErrorKind, Read, Write};
 use std::process::ExitCode;
 
 const USAGE: &str = "\
@@ -71,8 +71,9 @@ fn sha256_of_input() -> io::Result<()> {
 }
 
 fn replay_input() -> io::Result<()> {
+    let input = BufReader::with_capacity(1 << 16, io::stdin().lock());
     let mut output = BufWriter::new(io::stdout().lock());
-    replay::replay(io::stdin().lock(), &mut output)?;
+    replay::replay(input, &mut output)?;
     output.flush()
 }
 

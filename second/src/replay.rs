@@ -37,20 +37,24 @@ pub fn replay(input: impl BufRead, mut output: impl Write) -> io::Result<()> {
         Some(line) => Session::start(line),
         None => None,
     };
+    let mut answer = Vec::new();
     let Some(mut session) = session else {
-        return write_line(&mut output, &[BAD_FIRST_LINE]);
+        return write_line(&mut output, &mut answer, &[&[BAD_FIRST_LINE]]);
     };
     while let Some(line) = lines.next()? {
         let (number, reply) = session.answer(line);
-        write_line(&mut output, &[&[number], reply].concat())?;
+        write_line(&mut output, &mut answer, &[&[number], reply])?;
     }
-    write_line(&mut output, &session.closing())
+    write_line(&mut output, &mut answer, &[&session.closing()])
 }
 
-/// Writes bytes as digits in lower case, and a line feed.
-fn write_line(output: &mut impl Write, bytes: &[u8]) -> io::Result<()> {
-    let mut line = Vec::with_capacity(2 * bytes.len() + 1);
-    hex::append(&mut line, bytes);
+/// Writes bytes as digits in lower case, and a line feed; they are put together in
+/// `line`.
+fn write_line(output: &mut impl Write, line: &mut Vec<u8>, parts: &[&[u8]]) -> io::Result<()> {
+    line.clear();
+    for bytes in parts {
+        hex::append(line, bytes);
+    }
     line.push(b'\n');
-    output.write_all(&line)
+    output.write_all(line)
 }

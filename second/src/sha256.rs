@@ -99,16 +99,21 @@ type Block = [u8; 64];
 /// A bit 1 follows the message, then as few bits 0 as make the block end with
 /// the 64-bit length of the message in bits; that takes one block or two.
 fn finish(mut state: [u32; 8], tail: &[u8], length: u64) -> Digest {
-    let mut block = [0; 64];
-    block[..tail.len()].copy_from_slice(tail);
-    block[tail.len()] = 0x80;
-    if tail.len() >= 56 {
-        compress(&mut state, &[block]);
-        block = [0; 64];
+    match length {
+        NODE => compress_known(&mut state, &BEHIND_NODE),
+        CHUNK => compress_known(&mut state, &BEHIND_CHUNK),
+        _ => {
+            let mut block = [0; 64];
+            block[..tail.len()].copy_from_slice(tail);
+            block[tail.len()] = 0x80;
+            if tail.len() >= 56 {
+                compress(&mut state, &[block]);
+                block = [0; 64];
+            }
+            block[56..].copy_from_slice(&(length * 8).to_be_bytes());
+            compress(&mut state, &[block]);
+        }
     }
-    block[56..].copy_from_slice(&(length * 8).to_be_bytes());
-    compress(&mut state, &[block]);
-
     let mut digest = [0; 32];
     for (bytes, word) in digest.as_chunks_mut().0.iter_mut().zip(state) {
         *bytes = word.to_be_bytes();
@@ -116,81 +121,145 @@ fn finish(mut state: [u32; 8], tail: &[u8], length: u64) -> Digest {
     digest
 }
 
+/// 6.2.2, step 3: one round, for K_t + W_t. The next `e` is made in `d`, and the
+/// next `a` in `h`; the other six keep their values and only change their names,
+/// which is the caller's part. T_1 is `rest` + Sigma_1(e): the sigmas are ready
+/// last, so they are added last.
+macro_rules! round {
+    ($k_and_w:expr, $a:ident $b:ident $c:ident $d:ident $e:ident $f:ident $g:ident $h:ident) => {
+        let rest = $h.wrapping_add($k_and_w).wrapping_add(ch($e, $f, $g));
+        let sigma_1 = big_sigma_1($e);
+        $d = $d.wrapping_add(rest).wrapping_add(sigma_1);
+        $h = rest
+            .wrapping_add(maj($a, $b, $c))
+            .wrapping_add(sigma_1)
+            .wrapping_add(big_sigma_0($a));
+    };
+}
+
+/// Sixteen rounds, each by a macro that is given its place among them.
+macro_rules! sixteen {
+    ($round:ident, $a:ident $b:ident $c:ident $d:ident $e:ident $f:ident $g:ident $h:ident) => {
+        $round!(0, $a $b $c $d $e $f $g $h);
+        $round!(1, $h $a $b $c $d $e $f $g);
+        $round!(2, $g $h $a $b $c $d $e $f);
+        $round!(3, $f $g $h $a $b $c $d $e);
+        $round!(4, $e $f $g $h $a $b $c $d);
+        $round!(5, $d $e $f $g $h $a $b $c);
+        $round!(6, $c $d $e $f $g $h $a $b);
+        $round!(7, $b $c $d $e $f $g $h $a);
+        $round!(8, $a $b $c $d $e $f $g $h);
+        $round!(9, $h $a $b $c $d $e $f $g);
+        $round!(10, $g $h $a $b $c $d $e $f);
+        $round!(11, $f $g $h $a $b $c $d $e);
+        $round!(12, $e $f $g $h $a $b $c $d);
+        $round!(13, $d $e $f $g $h $a $b $c);
+        $round!(14, $c $d $e $f $g $h $a $b);
+        $round!(15, $b $c $d $e $f $g $h $a);
+    };
+}
+
 /// 6.2.2: takes the blocks, in order, into the hash value.
 fn compress(state: &mut [u32; 8], blocks: &[Block]) {
     for block in blocks {
         // Step 1: the words of the block, big-endian. `w[t % 16]` is W_t.
-        let mut w = [0u32; 16];
-        for (word, bytes) in w.iter_mut().zip(block.as_chunks().0) {
-            *word = u32::from_be_bytes(*bytes);
-        }
+        let mut w = words(block);
 
         // Step 2: the working variables.
         let [mut a, mut b, mut c, mut d, mut e, mut f, mut g, mut h] = *state;
 
-        // Step 3: one round. The next `e` is made in `d`, and the next `a` in
-        // `h`; the other six keep their values and only change their names,
-        // which is the caller's part. T_1 is `rest` + Sigma_1(e): the sigmas
-        // are ready last, so they are added last.
-        macro_rules! round {
-            ($t:literal $k:ident $a:ident $b:ident $c:ident $d:ident $e:ident $f:ident $g:ident $h:ident) => {
-                let rest = $h
-                    .wrapping_add($k[$t].wrapping_add(w[$t]))
-                    .wrapping_add(ch($e, $f, $g));
-                let sigma_1 = big_sigma_1($e);
-                $d = $d.wrapping_add(rest).wrapping_add(sigma_1);
-                $h = rest
-                    .wrapping_add(maj($a, $b, $c))
-                    .wrapping_add(sigma_1)
-                    .wrapping_add(big_sigma_0($a));
-            };
-        }
-
-        // A round, then step 1 for the word sixteen places on: it takes the
-        // place of the word the round used.
-        macro_rules! round_and_extend {
-            ($t:literal $k:ident $($name:ident)*) => {
-                round!($t $k $($name)*);
-                w[$t] = small_sigma_1(w[($t + 14) % 16])
-                    .wrapping_add(w[($t + 9) % 16])
-                    .wrapping_add(small_sigma_0(w[($t + 1) % 16]))
-                    .wrapping_add(w[$t]);
-            };
-        }
-
-        macro_rules! sixteen {
-            ($round:ident $k:ident) => {
-                $round!(0 $k a b c d e f g h);
-                $round!(1 $k h a b c d e f g);
-                $round!(2 $k g h a b c d e f);
-                $round!(3 $k f g h a b c d e);
-                $round!(4 $k e f g h a b c d);
-                $round!(5 $k d e f g h a b c);
-                $round!(6 $k c d e f g h a b);
-                $round!(7 $k b c d e f g h a);
-                $round!(8 $k a b c d e f g h);
-                $round!(9 $k h a b c d e f g);
-                $round!(10 $k g h a b c d e f);
-                $round!(11 $k f g h a b c d e);
-                $round!(12 $k e f g h a b c d);
-                $round!(13 $k d e f g h a b c);
-                $round!(14 $k c d e f g h a b);
-                $round!(15 $k b c d e f g h a);
-            };
-        }
-
-        // Rounds 0 to 47 make the words of rounds 16 to 63.
+        // Rounds 0 to 47 make the words of rounds 16 to 63: a round, then step 1
+        // for the word sixteen places on, which takes the place of the word that
+        // the round used.
         let [first @ .., last] = &K;
         for k in first {
-            sixteen!(round_and_extend k);
+            macro_rules! round_and_extend {
+                ($t:literal, $($name:ident)*) => {
+                    round!(k[$t].wrapping_add(w[$t]), $($name)*);
+                    w[$t] = extended(&w, $t);
+                };
+            }
+            sixteen!(round_and_extend, a b c d e f g h);
         }
-        sixteen!(round last);
-
-        // Step 4: the next hash value.
-        for (word, variable) in state.iter_mut().zip([a, b, c, d, e, f, g, h]) {
-            *word = word.wrapping_add(variable);
+        macro_rules! last_round {
+            ($t:literal, $($name:ident)*) => {
+                round!(last[$t].wrapping_add(w[$t]), $($name)*);
+            };
         }
+        sixteen!(last_round, a b c d e f g h);
+        add(state, [a, b, c, d, e, f, g, h]);
     }
+}
+
+/// The same for one block, by its schedule.
+fn compress_known(state: &mut [u32; 8], schedule: &Schedule) {
+    let [mut a, mut b, mut c, mut d, mut e, mut f, mut g, mut h] = *state;
+    for k_and_w in schedule {
+        macro_rules! known_round {
+            ($t:literal, $($name:ident)*) => {
+                round!(k_and_w[$t], $($name)*);
+            };
+        }
+        sixteen!(known_round, a b c d e f g h);
+    }
+    add(state, [a, b, c, d, e, f, g, h]);
+}
+
+/// Step 4: the next hash value.
+#[inline(always)]
+fn add(state: &mut [u32; 8], variables: [u32; 8]) {
+    for (word, variable) in state.iter_mut().zip(variables) {
+        *word = word.wrapping_add(variable);
+    }
+}
+
+/// The words of a block, big-endian.
+#[inline(always)]
+fn words(block: &Block) -> [u32; 16] {
+    let mut words = [0; 16];
+    for (word, bytes) in words.iter_mut().zip(block.as_chunks().0) {
+        *word = u32::from_be_bytes(*bytes);
+    }
+    words
+}
+
+/// Step 1 for t from 16 on: W_t, of the sixteen words before it, each W_s at place
+/// `s % 16`; `place` is `t % 16`.
+#[inline(always)]
+const fn extended(w: &[u32; 16], place: usize) -> u32 {
+    small_sigma_1(w[(place + 14) % 16])
+        .wrapping_add(w[(place + 9) % 16])
+        .wrapping_add(small_sigma_0(w[(place + 1) % 16]))
+        .wrapping_add(w[place])
+}
+
+/// K_t + W_t of all rounds of a block.
+type Schedule = [[u32; 16]; 4];
+
+/// The lengths of most messages in bytes, two hashes and a chunk, and the schedules
+/// of the blocks that pad them.
+const NODE: u64 = 64;
+const CHUNK: u64 = 1024;
+static BEHIND_NODE: Schedule = behind(NODE);
+static BEHIND_CHUNK: Schedule = behind(CHUNK);
+
+/// The schedule of the block that pads a message of this length, a whole number of
+/// blocks.
+const fn behind(length: u64) -> Schedule {
+    let mut w = [0; 16];
+    w[0] = 0x8000_0000;
+    w[14] = ((length * 8) >> 32) as u32;
+    w[15] = (length * 8) as u32;
+    let mut schedule = K;
+    let mut t = 0;
+    while t < 64 {
+        if t >= 16 {
+            w[t % 16] = extended(&w, t % 16);
+        }
+        schedule[t / 16][t % 16] = K[t / 16][t % 16].wrapping_add(w[t % 16]);
+        t += 1;
+    }
+    schedule
 }
 
 // 4.1.2: the functions.
@@ -229,13 +298,13 @@ fn big_sigma_1(x: u32) -> u32 {
 
 /// ROTR^7(x) XOR ROTR^18(x) XOR SHR^3(x).
 #[inline(always)]
-fn small_sigma_0(x: u32) -> u32 {
+const fn small_sigma_0(x: u32) -> u32 {
     (x ^ x.rotate_right(11)).rotate_right(7) ^ (x >> 3)
 }
 
 /// ROTR^17(x) XOR ROTR^19(x) XOR SHR^10(x).
 #[inline(always)]
-fn small_sigma_1(x: u32) -> u32 {
+const fn small_sigma_1(x: u32) -> u32 {
     (x ^ x.rotate_right(2)).rotate_right(17) ^ (x >> 10)
 }
 

@@ -3,6 +3,7 @@
 //! are big-endian.
 
 mod layout;
+mod nodes;
 mod read;
 mod write;
 
@@ -11,9 +12,11 @@ mod plain;
 #[cfg(test)]
 mod tests;
 
+pub(crate) use layout::check;
 pub use layout::layout;
-pub(crate) use layout::{check, node};
+pub(crate) use nodes::Nodes;
 pub use read::step;
+pub(crate) use read::{effect, Effect};
 pub use write::{add, begin};
 pub(crate) use write::{address, append};
 
@@ -24,11 +27,13 @@ pub const MAX_SIZE: usize = 2048;
 /// The bytes of a hash, and of the swarm ID in the fixed options.
 pub const HASH_SIZE: usize = 32;
 
-/// The most INTEGRITY messages that a datagram has room for.
-pub(crate) const MOST_NODES: usize = (MAX_SIZE - MIN_SIZE) / (9 + HASH_SIZE);
+/// The bytes of an INTEGRITY message.
+pub(crate) const INTEGRITY_SIZE: usize = 9 + HASH_SIZE;
+/// The most of them that a datagram has room for.
+const MOST_NODES: usize = (MAX_SIZE - MIN_SIZE) / INTEGRITY_SIZE;
 
 /// The type bytes of the messages.
-mod kind {
+pub(crate) mod kind {
     pub const HANDSHAKE: u8 = 0;
     pub const DATA: u8 = 1;
     pub const ACK: u8 = 2;

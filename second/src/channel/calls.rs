@@ -1,6 +1,6 @@
 //! The entry points.
 
-use super::rooms::count_range;
+use super::rooms::count_first;
 use super::{opening, starting, taking, writing, Held, Outcome, Rooms, Sizes, State};
 use crate::answer;
 use crate::sha256::Digest;
@@ -76,5 +76,5 @@ fn held(state: &State, map: &[u32]) -> Result<u32, u8> {
     if map.len() < Sizes::of(state.length).map {
         return Err(answer::ROOM_TOO_SMALL);
     }
-    Ok(count_range(map, 0, tree::chunk_count(state.length) - 1))
+    Ok(count_first(map, tree::chunk_count(state.length)))
 }

@@ -4,7 +4,8 @@ use super::CHANNELS;
 use crate::answer;
 use crate::climb::Hashes;
 use crate::sha256::Digest;
-use crate::tree;
+use crate::store::MOST_LENGTH;
+use crate::tree::{self, CHUNK_SIZE};
 use crate::wire;
 
 /// The bits of a word.
@@ -155,37 +156,63 @@ pub(super) fn set_bit(row: &mut [u32], number: usize) {
 
 /// Sets the bits `first` to `last` of a row, both included.
 pub(super) fn set_range(row: &mut [u32], first: u32, last: u32) {
-    for (word, mask) in masks(first, last) {
-        row[word] |= mask;
-    }
+    change_range(row, first, last, |word, bits| word | bits);
 }
 
 /// Clears the bits `first` to `last` of a row, both included.
 pub(super) fn clear_range(row: &mut [u32], first: u32, last: u32) {
-    for (word, mask) in masks(first, last) {
-        row[word] &= !mask;
+    change_range(row, first, last, |word, bits| word & !bits);
+}
+
+/// Changes the bits `first` to `last` of a row, `first` not above `last` and both
+/// within the longest row: `change` makes a new word of a word and the bits of it
+/// that are meant.
+///
+/// Between the words at both ends it goes over all words, with no bits where none
+/// are meant: a loop over some of them would cost more where ranges cannot be
+/// foreseen.
+#[inline]
+fn change_range(row: &mut [u32], first: u32, last: u32, change: impl Fn(u32, u32) -> u32) {
+    let (low, high) = ((first / BITS) as usize, (last / BITS) as usize);
+    let front = u32::MAX << (first % BITS);
+    let back = u32::MAX >> (BITS - 1 - last % BITS);
+    if low == high {
+        row[low] = change(row[low], front & back);
+        return;
     }
+    let ends = [change(row[low], front), change(row[high], back)];
+    let (up_to_low, below_high) = (below(low + 1), below(high));
+    for ((word, up_to_low), below_high) in row.iter_mut().zip(up_to_low).zip(below_high) {
+        *word = change(*word, below_high & !up_to_low);
+    }
+    [row[low], row[high]] = ends;
 }
 
-/// How many of the bits `first` to `last` of a row are set.
-pub(super) fn count_range(row: &[u32], first: u32, last: u32) -> u32 {
-    masks(first, last)
-        .map(|(word, mask)| (row[word] & mask).count_ones())
-        .sum()
+/// All bits of the words below one, which is at most the one behind the longest
+/// row, then none to the end of that row at least.
+fn below(word: usize) -> &'static [u32] {
+    &ONES_THEN_ZEROS[MOST_WORDS - word..]
 }
 
-/// The words that have the bits `first` to `last`, `first` not above `last`, and
-/// those bits of each.
-fn masks(first: u32, last: u32) -> impl Iterator<Item = (usize, u32)> {
-    let (low, high) = (first / BITS, last / BITS);
-    (low..=high).map(move |word| {
-        let mut mask = u32::MAX;
-        if word == low {
-            mask &= u32::MAX << (first % BITS);
-        }
-        if word == high {
-            mask &= u32::MAX >> (BITS - 1 - last % BITS);
-        }
-        (word as usize, mask)
-    })
+/// The words of the longest row of one bit a chunk.
+const MOST_WORDS: usize = (MOST_LENGTH / CHUNK_SIZE / BITS) as usize;
+
+static ONES_THEN_ZEROS: [u32; 2 * MOST_WORDS] = {
+    let mut words = [0; 2 * MOST_WORDS];
+    let mut i = 0;
+    while i < MOST_WORDS {
+        words[i] = u32::MAX;
+        i += 1;
+    }
+    words
+};
+
+/// How many of the first `count` bits of a row are set.
+pub(super) fn count_first(row: &[u32], count: u32) -> u32 {
+    let words = (count / BITS) as usize;
+    let whole: u32 = row[..words].iter().map(|word| word.count_ones()).sum();
+    match count % BITS {
+        0 => whole,
+        bits => whole + (row[words] & !(u32::MAX << bits)).count_ones(),
+    }
 }

@@ -7,8 +7,8 @@ use crate::answer;
 use crate::climb::Order;
 use crate::sha256::Digest;
 use crate::tree::{self, CHUNK_SIZE};
-use crate::wire::{self, address, append, Layout, Message, Options, Step};
-use crate::wire::{MIN_SIZE, MOST_NODES};
+use crate::wire::{self, address, append, kind, Effect, Layout, Message, Nodes, Options};
+use crate::wire::{INTEGRITY_SIZE, MIN_SIZE};
 
 /// Takes in a datagram at a clock; `id` is for a channel that it may open.
 pub fn take(
@@ -19,8 +19,15 @@ pub fn take(
     datagram: &[u8],
 ) -> Result<usize, u8> {
     let sizes = state.check(rooms)?;
-    let mut came = Came::new(datagram);
-    match wire::check(datagram, |message| came.keep(message))? {
+    let mut nodes = Nodes::of(datagram);
+    let laid = wire::check(datagram, |node, place| nodes.keep(node, place))?;
+    let came = Came {
+        datagram,
+        nodes: &nodes,
+        last: laid.last,
+        has_effects: laid.has_effects,
+    };
+    match laid.layout {
         Layout::HandshakeAlone { source, options } if destination(datagram) == 0 => {
             fit(options, datagram, &state.root)?;
             let row = Row {
@@ -127,30 +134,15 @@ fn take_messages(
         length = acknowledge(rooms.reply, row.peer, &data);
     }
     if came.has_effects {
-        let [has, wants] = rooms.channel_rows(index, sizes);
-        for message in messages(came.datagram) {
-            apply(message, row, has, wants);
-        }
+        apply(came.datagram, row, rooms.channel_rows(index, sizes));
     }
     Ok(length)
-}
-
-/// The messages of a datagram of sound layout.
-fn messages(datagram: &[u8]) -> impl Iterator<Item = Message> + '_ {
-    let mut at = MIN_SIZE;
-    std::iter::from_fn(move || match wire::step(datagram, at) {
-        Step::Read { message, next } => {
-            at = next;
-            Some(message)
-        }
-        Step::End | Step::Refused => None,
-    })
 }
 
 /// Checks a chunk, and keeps it if it is not held already.
 fn store(order: &Order, rooms: &mut Rooms, came: &Came, data: &Data) -> Result<(), u8> {
     let Data { chunk, bytes, .. } = *data;
-    let find = |node| came.find(node);
+    let find = |node| came.nodes.hash(node);
     let proof = order.check(&rooms.lent_hashes(), chunk, bytes, find)?;
     if !bit(rooms.map, chunk as usize) {
         let start = (chunk * CHUNK_SIZE) as usize;
@@ -173,84 +165,49 @@ fn acknowledge(reply: &mut [u8], peer: u32, data: &Data) -> usize {
     append(reply, length, &ack, &[])
 }
 
-/// The effect of a message on its channel.
-fn apply(message: Message, row: &mut Row, has: &mut [u32], wants: &mut [u32]) {
-    match message {
-        Message::Ack { first, last, .. } | Message::Have { first, last } => {
-            set_range(has, first, last);
-            clear_range(wants, first, last);
-        }
-        Message::Request { first, last } => set_range(wants, first, last),
-        Message::Cancel { first, last } => clear_range(wants, first, last),
-        Message::Choke => row.choked = true,
-        Message::Unchoke => row.choked = false,
-        Message::Handshake { .. } | Message::Data { .. } | Message::Integrity { .. } => {}
+/// The effects of the messages of a datagram of sound layout on its channel, in
+/// their order.
+fn apply(datagram: &[u8], row: &mut Row, [has, wants]: [&mut [u32]; 2]) {
+    let mut at = MIN_SIZE;
+    while let Some((&kind, body)) = datagram[at..].split_first() {
+        let len = match wire::effect(kind, body) {
+            Some((effect, len)) => {
+                apply_one(effect, row, has, wants);
+                len
+            }
+            None if kind == kind::INTEGRITY => INTEGRITY_SIZE - 1,
+            // DATA, to the datagram's end.
+            None => return,
+        };
+        at += 1 + len;
     }
 }
 
-/// What came in a datagram besides HANDSHAKE and DATA.
+/// The effect of a message.
+#[inline(always)]
+fn apply_one(effect: Effect, row: &mut Row, has: &mut [u32], wants: &mut [u32]) {
+    match effect {
+        Effect::Marks { choke } => row.choked = choke,
+        Effect::Range { kind, first, last } => {
+            if kind == kind::ACK || kind == kind::HAVE {
+                set_range(has, first, last);
+            }
+            if kind == kind::REQUEST {
+                set_range(wants, first, last);
+            } else {
+                clear_range(wants, first, last);
+            }
+        }
+    }
+}
+
+/// A datagram of sound layout that is no HANDSHAKE.
 struct Came<'d> {
     datagram: &'d [u8],
-    /// The nodes whose hashes came, in datagram order.
-    nodes: [u64; MOST_NODES],
-    /// The places of the hashes.
-    places: [usize; MOST_NODES],
-    /// How many there are.
-    count: usize,
-    /// The highest last chunk of any range; 0 without one.
+    /// The nodes whose hashes came.
+    nodes: &'d Nodes<'d>,
+    /// The highest last chunk of any range but that of DATA; 0 without one.
     last: u32,
     /// Whether there is a message that has an effect without DATA.
     has_effects: bool,
-}
-
-impl<'d> Came<'d> {
-    fn new(datagram: &'d [u8]) -> Self {
-        Came {
-            datagram,
-            nodes: [0; MOST_NODES],
-            places: [0; MOST_NODES],
-            count: 0,
-            last: 0,
-            has_effects: false,
-        }
-    }
-
-    /// Takes note of a message, and tells whether it is no INTEGRITY for a node
-    /// that came already.
-    fn keep(&mut self, message: Message) -> bool {
-        match message {
-            Message::Integrity { first, last, hash } => {
-                self.last = self.last.max(last);
-                return self.keep_hash(wire::node(first, last), hash);
-            }
-            Message::Ack { last, .. }
-            | Message::Have { last, .. }
-            | Message::Request { last, .. }
-            | Message::Cancel { last, .. } => self.last = self.last.max(last),
-            Message::Handshake { .. } | Message::Data { .. } => {}
-            Message::Choke | Message::Unchoke => {}
-        }
-        self.has_effects = true;
-        true
-    }
-
-    /// Keeps a node and the place of its hash, and tells whether it is new.
-    fn keep_hash(&mut self, node: u64, place: usize) -> bool {
-        // Without a way out of the loop: nearly always the node is new.
-        let known = &self.nodes[..self.count];
-        let new = known.iter().fold(true, |new, &known| new & (known != node));
-        if new {
-            self.nodes[self.count] = node;
-            self.places[self.count] = place;
-            self.count += 1;
-        }
-        new
-    }
-
-    /// The hash of a node, if it came.
-    fn find(&self, node: u64) -> Option<&'d Digest> {
-        let nodes = &self.nodes[..self.count];
-        let index = nodes.iter().position(|&known| known == node)?;
-        self.datagram.get(self.places[index]..)?.first_chunk()
-    }
 }

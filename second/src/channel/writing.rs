@@ -24,8 +24,8 @@ pub fn write(
     if !bit(rooms.map, chunk as usize) {
         return Err(answer::NOT_HELD);
     }
-    let mut length = address(rooms.reply, row.peer);
-    for node in tree::each_sent(count, chunk) {
+    let length = address(rooms.reply, row.peer);
+    let length = tree::each_sent(count, chunk).fold(length, |length, node| {
         // The nodes of a tree over 512 chunks have small numbers.
         let integrity = Message::Integrity {
             first: tree::first_chunk(node) as u32,
@@ -33,8 +33,8 @@ pub fn write(
             hash: 0,
         };
         let hash = hash_at(rooms.hashes, node);
-        length = append(rooms.reply, length, &integrity, &hash);
-    }
+        append(rooms.reply, length, &integrity, &hash)
+    });
     let start = (chunk * CHUNK_SIZE) as usize;
     let len = tree::chunk_size(state.length, chunk) as usize;
     let data = Message::Data {

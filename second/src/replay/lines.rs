@@ -46,7 +46,7 @@ impl<R: BufRead> Lines<R> {
                 return Ok(began.then_some(&self.front[..]));
             }
             began = true;
-            let end = bytes.iter().position(|&byte| byte == b'\n');
+            let end = line_end(bytes);
             let part = &bytes[..end.unwrap_or(bytes.len())];
             let free = self.limit - self.front.len();
             self.front.extend(&part[..part.len().min(free)]);
@@ -55,6 +55,41 @@ impl<R: BufRead> Lines<R> {
             if end.is_some() {
                 return Ok(Some(&self.front));
             }
+        }
+    }
+}
+
+/// The place of the first line feed.
+fn line_end(bytes: &[u8]) -> Option<usize> {
+    // Block by block, without a way out of one: most have none.
+    let (blocks, _) = bytes.as_chunks::<64>();
+    let has_none = |block: &&[u8; 64]| {
+        let has_one = |found, &byte| found | (byte == b'\n');
+        !block.iter().fold(false, has_one)
+    };
+    let passed = 64 * blocks.iter().take_while(has_none).count();
+    let rest = bytes[passed..].iter().position(|&byte| byte == b'\n');
+    rest.map(|place| passed + place)
+}
+
+#[cfg(test)]
+mod tests {
+    use super::*;
+
+    /// Lines of every length up to 200 bytes, in pieces of any size.
+    #[test]
+    fn lines_of_every_length() {
+        let line = |length: usize| vec![b'0'; length];
+        let input: Vec<u8> = (0..=200)
+            .flat_map(|length| [line(length), vec![b'\n']].concat())
+            .collect();
+        for piece in [1, 7, 64, 65, 1_000, input.len()] {
+            let mut lines = Lines::new(io::BufReader::with_capacity(piece, &input[..]), 150);
+            for length in 0..=200 {
+                let next = lines.next().unwrap().map(<[u8]>::len);
+                assert_eq!(next, Some(length.min(151)));
+            }
+            assert_eq!(lines.next().unwrap(), None);
         }
     }
 }

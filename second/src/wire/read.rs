@@ -27,11 +27,20 @@ pub fn step(datagram: &[u8], at: usize) -> Step {
 fn message(kind: u8, body: &[u8], at: usize) -> Option<(Message, usize)> {
     match kind {
         kind::HANDSHAKE => {
-            let source = u32::from_be_bytes(*body.first_chunk()?);
-            let (options, len) = options(&body[4..], at + 4)?;
-            Some((Message::Handshake { source, options }, 4 + len))
+            let (source, options, len) = handshake(body, at)?;
+            Some((Message::Handshake { source, options }, len))
         }
-        kind::DATA => Some((data(body, at)?, body.len())),
+        kind::DATA => {
+            let (chunk, time) = data(body)?;
+            let data = Message::Data {
+                first: chunk,
+                last: chunk,
+                time,
+                start: at + DATA_FRONT,
+                len: body.len() - DATA_FRONT,
+            };
+            Some((data, body.len()))
+        }
         kind::ACK => {
             let (first, last) = range(body)?;
             let delay = number(&body[8..])?;
@@ -42,9 +51,7 @@ fn message(kind: u8, body: &[u8], at: usize) -> Option<(Message, usize)> {
             Some((Message::Have { first, last }, 8))
         }
         kind::INTEGRITY => {
-            let (first, last) = range(body)?;
-            tree::node_of_range(first, last)?;
-            body.get(8..8 + HASH_SIZE)?;
+            let (first, last) = integrity(body)?;
             let hash = at + 8;
             Some((Message::Integrity { first, last, hash }, 8 + HASH_SIZE))
         }
@@ -62,19 +69,75 @@ fn message(kind: u8, body: &[u8], at: usize) -> Option<(Message, usize)> {
     }
 }
 
-/// The DATA of these bytes, all of which are its own, if its range is one chunk.
+/// A message that has an effect on its channel by itself.
+#[derive(Clone, Copy)]
+pub(crate) enum Effect {
+    /// CHOKE and UNCHOKE, any number of them in a row: the last one counts.
+    Marks {
+        /// Whether it is CHOKE.
+        choke: bool,
+    },
+    /// ACK, HAVE, REQUEST or CANCEL.
+    Range {
+        /// Its type byte.
+        kind: u8,
+        /// The first chunk of its range.
+        first: u32,
+        /// The last chunk of its range.
+        last: u32,
+    },
+}
+
+/// The same as `message` for these messages alone. None for other types, and for
+/// one that is refused.
+///
+/// Types that are read alike are not told apart: in an order that cannot be
+/// foreseen, that would cost more than all else.
+#[inline(always)]
+pub(crate) fn effect(kind: u8, body: &[u8]) -> Option<(Effect, usize)> {
+    match kind {
+        kind::CHOKE | kind::UNCHOKE => {
+            let is_mark = |&&kind: &&u8| kind == kind::CHOKE || kind == kind::UNCHOKE;
+            let more = body.iter().take_while(is_mark).count();
+            let last = if more == 0 { kind } else { body[more - 1] };
+            let choke = last == kind::CHOKE;
+            Some((Effect::Marks { choke }, more))
+        }
+        kind::ACK | kind::HAVE | kind::REQUEST | kind::CANCEL => {
+            let len = if kind == kind::ACK { 16 } else { 8 };
+            let (first, last) = range(body.get(..len)?)?;
+            Some((Effect::Range { kind, first, last }, len))
+        }
+        _ => None,
+    }
+}
+
+/// The source and the options of a HANDSHAKE, which begins at byte `at` of the
+/// datagram, and how many of these bytes are its own.
 #[inline]
-fn data(body: &[u8], at: usize) -> Option<Message> {
+pub(super) fn handshake(body: &[u8], at: usize) -> Option<(u32, Options, usize)> {
+    let source = u32::from_be_bytes(*body.first_chunk()?);
+    let (options, len) = options(&body[4..], at + 4)?;
+    Some((source, options, 4 + len))
+}
+
+/// The range of an INTEGRITY with its hash behind it, if it is a node's.
+#[inline]
+pub(super) fn integrity(body: &[u8]) -> Option<(u32, u32)> {
+    let (first, last) = range(body.get(..8 + HASH_SIZE)?)?;
+    tree::node_of_range(first, last)?;
+    Some((first, last))
+}
+
+/// The bytes of DATA before the chunk.
+pub(super) const DATA_FRONT: usize = 16;
+
+/// The chunk's number and the timestamp of DATA, if its range is one chunk.
+#[inline]
+pub(super) fn data(body: &[u8]) -> Option<(u32, u64)> {
     let (first, last) = range(body)?;
     let time = number(&body[8..])?;
-    let data = Message::Data {
-        first,
-        last,
-        time,
-        start: at + 16,
-        len: body.len() - 16,
-    };
-    (first == last).then_some(data)
+    (first == last).then_some((first, time))
 }
 
 /// The range at the front: its first chunk is not above its last.

@@ -1,8 +1,8 @@
 //! Writing a datagram message by message.
 
 use super::layout::{check, node, source_fits};
-use super::{kind, Layout, Message, Options};
-use super::{BEFORE_ID, BEHIND_ID, END, FIXED_SIZE, HASH_SIZE, MAX_SIZE, MIN_SIZE, MOST_NODES};
+use super::{kind, Layout, Message, Nodes, Options};
+use super::{BEFORE_ID, BEHIND_ID, END, FIXED_SIZE, HASH_SIZE, MAX_SIZE, MIN_SIZE};
 use crate::answer::{BAD_LAYOUT, BAD_SIZE, MISPLACED, ROOM_TOO_SMALL};
 use crate::tree;
 
@@ -40,24 +40,21 @@ pub fn add(room: &mut [u8], len: usize, message: &Message, source: &[u8]) -> Res
         return Err(BAD_SIZE);
     }
     let (so_far, free) = room.split_at_mut(len);
-    let mut nodes = Nodes::new();
-    let layout = check(so_far, |message| match message {
-        Message::Integrity { first, last, .. } => nodes.keep(node(first, last)),
-        _ => true,
-    })?;
+    let mut nodes = Nodes::of(so_far);
+    let laid = check(so_far, |node, place| nodes.keep(node, place))?;
     let (size, bytes) = parts(message, source).ok_or(BAD_LAYOUT)?;
     let lengthened = len + size;
     if lengthened > MAX_SIZE {
         return Err(BAD_SIZE);
     }
-    match layout {
+    match laid.layout {
         // It would no longer be alone, and is judged first.
         Layout::HandshakeAlone { .. } => return Err(MISPLACED),
         // It would swallow the message.
         Layout::MessagesAndData { .. } => return Err(BAD_LAYOUT),
         Layout::Messages => {}
     }
-    check_behind(so_far, &mut nodes, message)?;
+    check_behind(so_far, &nodes, message)?;
     write(&mut free[..size], message, bytes);
     Ok(lengthened)
 }
@@ -65,7 +62,7 @@ pub fn add(room: &mut [u8], len: usize, message: &Message, source: &[u8]) -> Res
 /// The reader's layout checks of a message behind a datagram so far that has
 /// neither HANDSHAKE nor DATA.
 #[inline]
-fn check_behind(so_far: &[u8], nodes: &mut Nodes, message: &Message) -> Result<(), u8> {
+fn check_behind(so_far: &[u8], nodes: &Nodes, message: &Message) -> Result<(), u8> {
     match *message {
         Message::Handshake { source, options } => {
             let destination = u32::from_be_bytes([so_far[0], so_far[1], so_far[2], so_far[3]]);
@@ -74,7 +71,8 @@ fn check_behind(so_far: &[u8], nodes: &mut Nodes, message: &Message) -> Result<(
             }
         }
         Message::Integrity { first, last, .. } => {
-            if tree::node_of_range(first, last).is_none() || !nodes.keep(node(first, last)) {
+            if tree::node_of_range(first, last).is_none() || nodes.hash(node(first, last)).is_some()
+            {
                 return Err(BAD_LAYOUT);
             }
         }
@@ -188,34 +186,4 @@ fn put_range(own: &mut [u8], kind: u8, first: u32, last: u32) {
     own[0] = kind;
     own[1..5].copy_from_slice(&first.to_be_bytes());
     own[5..9].copy_from_slice(&last.to_be_bytes());
-}
-
-/// The nodes of a datagram so far.
-struct Nodes {
-    list: [u64; Nodes::MOST],
-    count: usize,
-}
-
-impl Nodes {
-    /// The most that a datagram has room for, and one to be added.
-    const MOST: usize = MOST_NODES + 1;
-
-    #[inline]
-    fn new() -> Nodes {
-        Nodes {
-            list: [0; Nodes::MOST],
-            count: 0,
-        }
-    }
-
-    /// Keeps the node and tells whether it is new.
-    #[inline]
-    fn keep(&mut self, node: u64) -> bool {
-        let new = !self.list[..self.count].contains(&node);
-        if new {
-            self.list[self.count] = node;
-            self.count += 1;
-        }
-        new
-    }
 }

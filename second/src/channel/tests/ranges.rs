@@ -145,3 +145,29 @@ fn ranges_of_bits() {
         }
     }
 }
+
+/// All ranges of the longest row, and a word behind it that stays.
+#[test]
+fn ranges_of_the_longest_row() {
+    let before: Vec<u32> = (0..17).map(|i| 0x9e37_79b9_u32.wrapping_mul(i)).collect();
+    for first in 0..512 {
+        for last in first..512 {
+            let bits = |word: u32| {
+                let bit = |i: u32| u32::from((first..=last).contains(&(32 * word + i))) << i;
+                if 32 * word > last || 32 * word + 31 < first {
+                    0
+                } else {
+                    (0..32).map(bit).sum()
+                }
+            };
+            let [mut set, mut cleared] = [before.clone(), before.clone()];
+            rooms::set_range(&mut set, first, last);
+            rooms::clear_range(&mut cleared, first, last);
+            for word in 0..17 {
+                let (bits, old) = (bits(word), before[word as usize]);
+                assert_eq!(set[word as usize], old | bits, "{first} to {last}");
+                assert_eq!(cleared[word as usize], old & !bits, "{first} to {last}");
+            }
+        }
+    }
+}

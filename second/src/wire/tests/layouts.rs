@@ -63,6 +63,35 @@ fn a_node_twice() {
     assert_eq!(found(&datagram), (Err(2), vec![(12, 13), (3, 55)]));
 }
 
+/// Nodes past any pack too, of which some have all low bits of another one.
+#[test]
+fn large_nodes_twice() {
+    let chunks = [0, 2, 511, 512, 1_024, 1 << 31, (1 << 31) + 2, u32::MAX];
+    let leaves = chunks.map(|chunk| (chunk, chunk));
+    let higher = [(0, 511), (512, 1_023), (0, u32::MAX), (1 << 31, u32::MAX)];
+    let nodes: Vec<(u32, u32)> = leaves.into_iter().chain(higher).collect();
+    let all: Vec<u8> = nodes
+        .iter()
+        .flat_map(|&(first, last)| integrity(first, last))
+        .collect();
+    let (layout, numbers) = found(&to(5, &[&all]));
+    assert_eq!(layout, Ok(Layout::Messages));
+    let expected = nodes
+        .iter()
+        .map(|&(first, last)| u64::from(first) + u64::from(last));
+    assert!(numbers.iter().map(|&(node, _)| node).eq(expected));
+    for (first, last) in nodes {
+        let again = integrity(first, last);
+        assert_eq!(number(&to(5, &[&all, &again])), 2);
+        let message = Message::Integrity {
+            first,
+            last,
+            hash: 0,
+        };
+        assert_eq!(added(&to(5, &[&all]), message, &[9; 32]), Err(2));
+    }
+}
+
 /// 40 to 43: judged at its place.
 #[test]
 fn a_handshake_is_alone() {
