@@ -108,24 +108,33 @@ pub fn measure(caption: &str, names: &[&str], mut jobs: Vec<Job>, long: Duration
         }
         rounds += 1;
     }
-    println!("{caption}, the best of {rounds} runs of each in turn:");
-    println!();
+    let caption = format!("{caption}, the best of {rounds} runs of each in turn");
     let ratios = names.iter().skip(1);
     let ratios = ratios.map(|other| format!("{} / {other}", names[0]));
-    let header = names.iter().map(|name| name.to_string()).chain(ratios);
-    let header: Vec<String> = header.collect();
-    println!("| what | {} |", header.join(" | "));
-    println!("|---|{}", "---|".repeat(header.len()));
-    for job in &jobs {
-        let cells = job.cells().join(" | ");
-        println!("| {}, {} | {cells} |", job.name, job.unit.name());
+    let names = names.iter().map(|name| name.to_string());
+    let rows = jobs.iter().map(|job| {
+        let name = format!("{}, {}", job.name, job.unit.name());
+        std::iter::once(name).chain(job.cells()).collect()
+    });
+    print(&caption, &names.chain(ratios).collect::<Vec<_>>(), rows);
+}
+
+/// Prints a table: the names of its columns behind the first, which says what is
+/// measured, and its rows.
+pub fn print(caption: &str, names: &[String], rows: impl Iterator<Item = Vec<String>>) {
+    println!("{caption}:");
+    println!();
+    println!("| what | {} |", names.join(" | "));
+    println!("|---|{}", "---|".repeat(names.len()));
+    for row in rows {
+        println!("| {} |", row.join(" | "));
     }
     println!();
 }
 
 /// A number with four digits that count, more before the point, fewer where it is
 /// very small.
-fn figure(value: f64) -> String {
+pub fn figure(value: f64) -> String {
     let whole_digits = value.log10().floor() as i32 + 1;
     let decimals = (4 - whole_digits).clamp(1, 7) as usize;
     format!("{value:.decimals$}")

@@ -1,7 +1,8 @@
 //! The calls of the loader's interface on the longest pack: building it, taking
 //! in its chunks, with all hashes and with the least, and again when they are
-//! held; writing each chunk; and datagrams that do next to nothing, which show
-//! what a call costs at the least.
+//! held; writing each chunk; datagrams that do next to nothing, which show what a
+//! call costs at the least; and as many HAVE of all chunks as a datagram has room
+//! for.
 
 use crate::jobs::{any_order, build, take, write, written, Ready, Task, CHANNEL};
 use harness::bench::{self, Unit, NAMES};
@@ -13,8 +14,12 @@ use harness::packs::Pack;
 use harness::random::Random;
 use std::time::Duration;
 
-/// How many datagrams without a chunk a run takes in.
+/// How many datagrams without a chunk a run takes in: short ones, and long ones.
 const DATAGRAMS: usize = 1_000;
+const LONG: usize = 10;
+
+/// The HAVE that a datagram has room for.
+const MOST_HAVES: usize = 227;
 
 /// How long it takes.
 const RUN: Duration = Duration::from_secs(10);
@@ -29,6 +34,8 @@ pub fn measure() {
     let whole = Ready::new(&pack, true);
     let have = vec![datagram(CHANNEL, &[ranged(HAVE, 5, 10)]); DATAGRAMS];
     let keepalive = vec![datagram(CHANNEL, &[]); DATAGRAMS];
+    let haves = vec![ranged(HAVE, 0, pack.count() - 1); MOST_HAVES];
+    let haves = vec![datagram(CHANNEL, &haves); LONG];
     let once = |name: &str| Task {
         name: name.to_string(),
         unit: Unit::Microseconds(1),
@@ -36,6 +43,10 @@ pub fn measure() {
     };
     let of_one = |name: &str| Task {
         unit: Unit::Nanoseconds(DATAGRAMS),
+        ..once(name)
+    };
+    let of_long = |name: &str| Task {
+        unit: Unit::Microseconds(LONG),
         ..once(name)
     };
     let jobs = vec![
@@ -46,6 +57,7 @@ pub fn measure() {
         write(once("write 512 chunks"), &whole, &order),
         take(of_one("take in one HAVE"), &fresh, &have),
         take(of_one("take in a keepalive"), &fresh, &keepalive),
+        take(of_long("take in 227 HAVE of 512 chunks"), &fresh, &haves),
     ];
     let caption = "The calls of the interface, a pack of 512 KiB, its chunks in random order";
     bench::measure(caption, &NAMES, jobs, RUN);
