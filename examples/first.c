@@ -18,15 +18,15 @@ static size_t bring(const struct ppspp_store *from, size_t len, const struct pps
 int main(void)
 {
     static const uint8_t content[3000] = "stops, charge windows, maps";
-    uint8_t root[PPSPP_ROOT_BYTES];
+    struct ppspp_order order = ppspp_order_to_build(sizeof content, PPSPP_RANGES);
     uint32_t held = 0, whole = 0, refused = 0; /* each call answers with a number; 0 is done */
     size_t len = 0;
     if (!ppspp_header_matches()) { /* once: header and library have one layout */
         return 1;
     }
-    refused |= ppspp_store_build(&server, sizeof content, content, sizeof content);
-    ppspp_store_root(&server, root);
-    refused |= ppspp_store_start(&van, root, sizeof content);     /* under an order: a root and a length */
+    refused |= ppspp_store_build(&server, &order, content, sizeof content);
+    ppspp_store_order(&server, &order);                           /* the same, with the root that was found */
+    refused |= ppspp_store_start(&van, &order);                   /* a root, a length, and chunks named by ranges */
     refused |= ppspp_store_open(&van, 17, &len);                  /* our channel 17; the reply is our HANDSHAKE */
     len = bring(&van, len, &server, 5);                           /* the server opens 5; the reply is its HANDSHAKE */
     bring(&server, len, &van, 0);                                 /* 0: no one may open a channel */

@@ -1,17 +1,16 @@
 /*
  * Route packs by RFC 7574 (PPSPP), yard profile: the calls of the proved library libloader.a.
  *
- * A store is a pack under an order, a root hash and a length. It lives in eight rooms that you lend with every call:
- * its state, and seven rooms more. Nothing is kept between calls but what stands in them, so as many stores may exist
- * as you have rooms. No call allocates, blocks, keeps a pointer, or uses a global; one store is for one thread at a
- * time, two stores are for any two.
+ * A store is a pack under an order: a root hash, a length, and how messages name chunks. It lives in eight rooms that
+ * you lend with every call: its state, and seven rooms more. Nothing is kept between calls but what stands in them, so
+ * as many stores may exist as you have rooms. No call allocates, blocks, keeps a pointer, or uses a global; one store
+ * is for one thread at a time, two stores are for any two.
  *
  *   1. Link libloader.a and compare the header with it once: ppspp_header_matches() of ppspp_store.h.
  *   2. Lend rooms of the sizes below. In ppspp_store.h, struct ppspp_store has them all, PPSPP_DEFINE_STORE() defines
  *      them, and ppspp_store_...() are the calls over it, with a handful of arguments each.
- *   3. ppspp_start() or ppspp_build(); then any calls in any order, with any numbers and any bytes.
- *
- * examples/download.c shows all of it.
+ *   3. ppspp_start() or ppspp_build(); then any calls in any order, with any numbers and any bytes. examples/download.c
+ *      shows all of it.
  *
  * Each call on rooms answers with a number of enum ppspp_answer. With any other than PPSPP_DONE the reply has length 0,
  * and every room is as it was.
@@ -21,7 +20,7 @@
  *
  * What you must never do:
  *   - let a pointer that a call writes through overlap any other pointer of that call: rooms, reply_len, held, whole,
- *     found, datagram, content, root, bytes. So a pack is not built in place, its content being the chunk room, and
+ *     found, datagram, content, order, bytes. So a pack is not built in place, its content being the chunk room, and
  *     what stands in a store's own reply room is copied before the store takes it in;
  *   - give NULL, even with a length of 0: any valid address will do then;
  *   - give a length that is more than the room has, or an address that is not aligned for its type;
@@ -73,7 +72,7 @@ extern "C" {
     ((n) <= 1u ? 1u : (n) <= 2u ? 2u : (n) <= 4u ? 4u : (n) <= 8u ? 8u : (n) <= 16u ? 16u : (n) <= 32u ? 32u : \
      (n) <= 64u ? 64u : (n) <= 128u ? 128u : (n) <= 256u ? 256u : 512u)
 
-#define PPSPP_STATE_WORDS 74u                                             /* uint32_t, the store's state */
+#define PPSPP_STATE_WORDS 75u                                             /* uint32_t, the store's state */
 #define PPSPP_MAP_WORDS(n) (((n) + 31u) / 32u)                            /* uint32_t, a bit for each chunk held */
 #define PPSPP_HASH_WORDS(n) (16u * PPSPP_LEAF_PLACES(n))                  /* uint32_t, eight for each node */
 #define PPSPP_TRUSTED_WORDS(n) ((2u * PPSPP_LEAF_PLACES(n) + 31u) / 32u)  /* uint32_t, a bit for each node */
@@ -82,7 +81,7 @@ extern "C" {
 
 /*
  * The same, proved, for any number. The chunk room has at least as many bytes as the pack. It is also proved that a
- * start or a build under a length of 1 to 524,288, in rooms of at least these sizes, 74 words of state among them, is
+ * start or a build under a length of 1 to 524,288, in rooms of at least these sizes, 75 words of state among them, is
  * not answered with 11. Larger rooms will do, and so will those for a pack do for a shorter one.
  */
 uint32_t ppspp_chunk_count(uint32_t length);
@@ -91,16 +90,35 @@ size_t ppspp_hash_words(uint32_t n);
 size_t ppspp_trusted_words(uint32_t n);
 size_t ppspp_peer_words(uint32_t n);
 
-/* ---- the state's words, layout version 1 */
+/* ---- the order */
 
-#define PPSPP_LAYOUT_VERSION 1u
+/* How messages name chunks: the number in the order, and in option 6 of a HANDSHAKE. */
+enum ppspp_addressing {
+    PPSPP_BINS = 0,  /* by one 32-bit bin, the number of the node over them */
+    PPSPP_RANGES = 2 /* by the first and the last of them, 32 bits each */
+};
+
+/*
+ * What a store works under. Later versions add fields: make it with ppspp_order_of() of ppspp_store.h, or with
+ * designated initialisers, so that the fields you do not know are 0. The library reads it as 40 bytes.
+ */
+struct ppspp_order {
+    uint8_t root[PPSPP_ROOT_BYTES];
+    uint32_t length;     /* bytes of the pack */
+    uint32_t addressing; /* of enum ppspp_addressing; any other number is answered with 12, and 0 is bins */
+};
+
+/* ---- the state's words, layout version 2 */
+
+#define PPSPP_LAYOUT_VERSION 2u
 
 /*
  *   word 0            the layout's version. A room with another version in it has no order: calls on it are answered
  *                     with 12, until it is started or built.
  *   words 1 to 8      the root, its bytes in groups of four, the first of them in the high bits
  *   word 9            the length
- *   words 10 to 73    16 rows of four: phase, our channel's ID, the peer's, and 1 where the peer has choked us, any
+ *   word 10           the addressing; with any but 0 and 2 there is no order either
+ *   words 11 to 74    16 rows of four: phase, our channel's ID, the peer's, and 1 where the peer has choked us, any
  *                     other number being read as 0
  *
  * A start or a build writes all of these words. Any other call writes at most the four words of one row, and those only
@@ -116,7 +134,8 @@ size_t ppspp_peer_words(uint32_t n);
 #define PPSPP_WORD_VERSION 0u
 #define PPSPP_WORD_ROOT 1u
 #define PPSPP_WORD_LENGTH 9u
-#define PPSPP_WORD_ROWS 10u
+#define PPSPP_WORD_ADDRESSING 10u
+#define PPSPP_WORD_ROWS 11u
 #define PPSPP_ROW_WORDS 4u
 #define PPSPP_ROW_PHASE 0u
 #define PPSPP_ROW_ID 1u
@@ -148,7 +167,7 @@ enum ppspp_answer {
     PPSPP_HASH_MISSING = 9,      /* a hash that is needed to check the chunk did not come with it */
     PPSPP_HASH_MISMATCH = 10,    /* the peaks do not give the root, or the chunk does not lead to a trusted hash */
     PPSPP_ROOM = 11,             /* a room is too small */
-    PPSPP_LENGTH = 12,           /* no order, or its length is 0 or over 524,288, or the content has another length */
+    PPSPP_LENGTH = 12,           /* no order, its length 0, over 524,288 or not the content's, or no such addressing */
     PPSPP_NOT_HELD = 13,         /* the chunk to be written is not held */
     PPSPP_ID = 14                /* a channel is to be opened under ID 0 or one in use */
 };
@@ -160,17 +179,17 @@ enum ppspp_answer {
  * and how many elements of its type it has. *reply_len gets the reply's length, 0 after a refusal.
  */
 
-/* Starts an empty store under an order, a root and a length. What stood in the rooms before counts for nothing. */
+/* Starts an empty store under an order. What stood in the rooms before counts for nothing. */
 uint32_t ppspp_start(uint32_t *state, size_t state_n, const uint8_t *chunks, size_t chunks_n, uint32_t *map,
                      size_t map_n, uint32_t *hashes, size_t hashes_n, uint32_t *trusted, size_t trusted_n,
                      uint32_t *has, size_t has_n, uint32_t *wants, size_t wants_n, const uint8_t *reply,
-                     size_t reply_n, const uint8_t root[PPSPP_ROOT_BYTES], uint32_t length);
+                     size_t reply_n, const struct ppspp_order *order);
 
-/* Builds a whole store of a length from its content; the root found is in the state's words 1 to 8. */
+/* Builds a whole store from its content. The order's root is not looked at; the one found is in words 1 to 8. */
 uint32_t ppspp_build(uint32_t *state, size_t state_n, uint8_t *chunks, size_t chunks_n, uint32_t *map, size_t map_n,
                      uint32_t *hashes, size_t hashes_n, uint32_t *trusted, size_t trusted_n, uint32_t *has,
                      size_t has_n, uint32_t *wants, size_t wants_n, const uint8_t *reply, size_t reply_n,
-                     uint32_t length, const uint8_t *content, size_t content_n);
+                     const struct ppspp_order *order, const uint8_t *content, size_t content_n);
 
 /* Opens a channel under an ID of ours: it calls until the peer answers. The reply is our HANDSHAKE, to channel 0. */
 uint32_t ppspp_open(uint32_t *state, size_t state_n, const uint8_t *chunks, size_t chunks_n, const uint32_t *map,
@@ -211,7 +230,10 @@ enum ppspp_type {
     PPSPP_REQUEST = 8,
     PPSPP_CANCEL = 9,
     PPSPP_CHOKE = 10,
-    PPSPP_UNCHOKE = 11
+    PPSPP_UNCHOKE = 11,
+    PPSPP_EMPTY_HAVE = 259, /* 256 and the type: over no chunk, bin FFFFFFFF */
+    PPSPP_EMPTY_REQUEST = 264,
+    PPSPP_EMPTY_CANCEL = 265
 };
 
 /*
@@ -223,14 +245,16 @@ enum ppspp_type {
  *   ACK                   first  last                delay      none
  *   HAVE, REQUEST, CANCEL first  last                0          none
  *   INTEGRITY             first  last                0          the hash
- *   CHOKE, UNCHOKE        0      0                   0          none
+ *   CHOKE, UNCHOKE, EMPTY 0      0                   0          none
  *
- * The first chunk is not above the last, and for INTEGRITY they are those of a node; DATA has one chunk. Any other
- * numbers are refused with 2 when they are added, unless 11, 1 or 3 comes before it, and are never read.
+ * The first chunk is not above the last, and for INTEGRITY they are those of a node; DATA has one chunk. Under bins all
+ * are a node's, and its number, first + last, is their bin: bin 11 is read as 4..7, though the pack may end before 7.
+ * Bin 7FFFFFFF, 0..2147483647, is everything, in HAVE, REQUEST and CANCEL alone. EMPTY is for bins alone. Any other
+ * numbers are refused with 2 when they are added, unless 12, 11, 1 or 3 comes before it, and are never read.
  */
 enum ppspp_options {
     PPSPP_OPTIONS_END = 0,   /* End alone, as a closing HANDSHAKE has */
-    PPSPP_OPTIONS_FIXED = 1, /* those of the yard profile, around a root */
+    PPSPP_OPTIONS_FIXED = 1, /* those of the yard profile under the addressing, around a root */
     PPSPP_OPTIONS_OTHER = 2  /* others: they are read, and never written */
 };
 
@@ -238,22 +262,23 @@ enum ppspp_options {
 uint32_t ppspp_begin(uint8_t *reply, size_t reply_n, uint32_t destination, size_t *reply_len);
 
 /*
- * Adds a message to the datagram in the first `len` bytes of the reply room; *reply_len gets its new length, or 0
- * after a refusal, which leaves the datagram so far as it was. Of the bytes the first 32 count for a root or a hash,
- * and fewer are answered with 2; all count for a chunk. Numbers that the type has no use for are not looked at. DATA
- * comes last, a HANDSHAKE alone.
+ * Adds a message to the datagram in the first `len` bytes of the reply room, under an addressing; *reply_len gets its
+ * new length, or 0 after a refusal, which leaves the datagram so far as it was. Of the bytes the first 32 count for a
+ * root or a hash, and fewer are answered with 2; all count for a chunk. Numbers that the type has no use for are not
+ * looked at. DATA comes last, a HANDSHAKE alone.
  */
-uint32_t ppspp_add(uint8_t *reply, size_t reply_n, size_t len, uint32_t type, uint32_t first, uint32_t last,
-                   uint64_t number, const uint8_t *bytes, size_t bytes_n, size_t *reply_len);
+uint32_t ppspp_add(uint8_t *reply, size_t reply_n, uint32_t addressing, size_t len, uint32_t type, uint32_t first,
+                   uint32_t last, uint64_t number, const uint8_t *bytes, size_t bytes_n, size_t *reply_len);
 
 /*
- * What stands at a place of a datagram; its messages begin at place 4. It is read alone, as if a message began there,
- * and nothing else is checked: places 0 to 3, and those of a datagram under 4 bytes, are read like any other.
+ * What stands at a place of a datagram, under an addressing; messages begin at place 4. It is read alone, as if one
+ * began there, and nothing else is checked: all places are alike, 0 to 3 and those of a datagram under 4 bytes too.
  */
 enum ppspp_step {
-    PPSPP_STEP_END = 0,     /* its end: the place is at or past it */
-    PPSPP_STEP_MESSAGE = 1, /* a message */
-    PPSPP_STEP_REFUSED = 2  /* what is refused with 2 */
+    PPSPP_STEP_END = 0,       /* its end: the place is at or past it */
+    PPSPP_STEP_MESSAGE = 1,   /* a message */
+    PPSPP_STEP_REFUSED = 2,   /* what is refused with 2 */
+    PPSPP_STEP_NO_METHOD = 12 /* no such addressing */
 };
 
 /*
@@ -268,7 +293,8 @@ enum ppspp_step {
 #define PPSPP_FOUND_BYTES 4u   /* the place of its first byte */
 #define PPSPP_FOUND_BYTES_N 5u /* 0 where it has none */
 #define PPSPP_FOUND_NEXT 6u    /* the place behind the message */
-uint32_t ppspp_read(const uint8_t *datagram, size_t datagram_n, size_t at, uint64_t found[PPSPP_FOUND_WORDS]);
+uint32_t ppspp_read(const uint8_t *datagram, size_t datagram_n, uint32_t addressing, size_t at,
+                    uint64_t found[PPSPP_FOUND_WORDS]);
 
 #ifdef __cplusplus
 }

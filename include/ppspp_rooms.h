@@ -49,7 +49,7 @@ struct ppspp_store {
         PPSPP_ARRAY(name##_hashes), PPSPP_ARRAY(name##_trusted), PPSPP_ARRAY(name##_has), \
         PPSPP_ARRAY(name##_wants),  PPSPP_ARRAY(name##_reply)}
 
-/* ---- the state: without an order all is 0, and every row is free */
+/* ---- the state: without an order all is 0 but the addressing, and every row is free */
 
 /* Whether the state has an order: else calls are answered with 12, or with 11 where it is too short. */
 static inline bool ppspp_store_has_order(const struct ppspp_store *store)
@@ -58,7 +58,8 @@ static inline bool ppspp_store_has_order(const struct ppspp_store *store)
         return false;
     }
     const uint32_t length = store->state[PPSPP_WORD_LENGTH];
-    return length >= 1u && length <= PPSPP_MAX_LENGTH;
+    const uint32_t addressing = store->state[PPSPP_WORD_ADDRESSING];
+    return length >= 1u && length <= PPSPP_MAX_LENGTH && (addressing == PPSPP_BINS || addressing == PPSPP_RANGES);
 }
 
 /* The order's root as bytes; false, and 32 zeros, without an order. */
@@ -76,6 +77,21 @@ static inline bool ppspp_store_root(const struct ppspp_store *store, uint8_t roo
 static inline uint32_t ppspp_store_length(const struct ppspp_store *store)
 {
     return ppspp_store_has_order(store) ? store->state[PPSPP_WORD_LENGTH] : 0u;
+}
+
+/* The order's addressing; ranges without an order, since a datagram may be made in the reply room even then. */
+static inline uint32_t ppspp_store_addressing(const struct ppspp_store *store)
+{
+    const uint32_t unordered = PPSPP_RANGES;
+    return ppspp_store_has_order(store) ? store->state[PPSPP_WORD_ADDRESSING] : unordered;
+}
+
+/* The order, as another store may be started under it; false without one, and then its length is 0. */
+static inline bool ppspp_store_order(const struct ppspp_store *store, struct ppspp_order *order)
+{
+    order->length = ppspp_store_length(store);
+    order->addressing = ppspp_store_addressing(store);
+    return ppspp_store_root(store, order->root);
 }
 
 /* How many chunks the order's pack has. */

@@ -38,11 +38,37 @@ static inline const char *ppspp_answer_text(uint32_t answer)
         "a hash that is needed to check the chunk did not come with it",
         "the peaks do not give the root, or the chunk does not lead to a trusted hash",
         "a room is too small",
-        "no order, or its length is 0 or over 524,288, or the content has another length",
+        "no order, its length 0, over 524,288 or not the content's, or no such addressing",
         "the chunk to be written is not held",
         "a channel is to be opened under ID 0 or one in use",
     };
     return answer < sizeof(texts) / sizeof(texts[0]) ? texts[answer] : "no number of the library";
+}
+
+/* ---- orders */
+
+static_assert(sizeof(struct ppspp_order) == 40u && offsetof(struct ppspp_order, length) == 32u &&
+                  offsetof(struct ppspp_order, addressing) == 36u,
+              "the library reads an order as a root and two numbers, 40 bytes");
+
+/* An order to start under; the addressing is one of enum ppspp_addressing. */
+static inline struct ppspp_order ppspp_order_of(const uint8_t root[PPSPP_ROOT_BYTES], uint32_t length,
+                                                uint32_t addressing)
+{
+    struct ppspp_order order;
+    for (size_t i = 0; i < PPSPP_ROOT_BYTES; i++) {
+        order.root[i] = root[i];
+    }
+    order.length = length;
+    order.addressing = addressing;
+    return order;
+}
+
+/* An order to build under: building finds the root. */
+static inline struct ppspp_order ppspp_order_to_build(uint32_t length, uint32_t addressing)
+{
+    static const uint8_t unknown[PPSPP_ROOT_BYTES] = {0};
+    return ppspp_order_of(unknown, length, addressing);
 }
 
 /* ---- the calls; *len gets the length of the reply, which stands in the reply room */
@@ -54,17 +80,16 @@ static inline const char *ppspp_answer_text(uint32_t answer)
         (store)->wants, (store)->wants_n, (store)->reply, (store)->reply_n
 
 /* Starts an empty store under an order. */
-static inline uint32_t ppspp_store_start(const struct ppspp_store *store, const uint8_t root[PPSPP_ROOT_BYTES],
-                                         uint32_t length)
+static inline uint32_t ppspp_store_start(const struct ppspp_store *store, const struct ppspp_order *order)
 {
-    return ppspp_start(PPSPP_ROOMS(store), root, length);
+    return ppspp_start(PPSPP_ROOMS(store), order);
 }
 
-/* Builds a whole store of a length from its content. */
-static inline uint32_t ppspp_store_build(const struct ppspp_store *store, uint32_t length, const uint8_t *content,
-                                         size_t content_n)
+/* Builds a whole store from its content. The order's root is not looked at: ppspp_store_order() has the one found. */
+static inline uint32_t ppspp_store_build(const struct ppspp_store *store, const struct ppspp_order *order,
+                                         const uint8_t *content, size_t content_n)
 {
-    return ppspp_build(PPSPP_ROOMS(store), length, content, content_n);
+    return ppspp_build(PPSPP_ROOMS(store), order, content, content_n);
 }
 
 /* Opens a channel under an ID of ours; the reply is our HANDSHAKE. */
@@ -102,6 +127,7 @@ static inline uint32_t ppspp_store_ask(const struct ppspp_store *store, uint32_t
 static inline uint32_t ppspp_store_close(const struct ppspp_store *store, uint32_t id)
 {
     const struct ppspp_row row = ppspp_store_row(store, ppspp_store_row_of(store, id));
+    const uint32_t addressing = ppspp_store_addressing(store);
     uint8_t datagram[PPSPP_MAX_DATAGRAM];
     uint8_t root[PPSPP_ROOT_BYTES];
     size_t begun = 0;
@@ -110,18 +136,19 @@ static inline uint32_t ppspp_store_close(const struct ppspp_store *store, uint32
     ppspp_begin(datagram, sizeof datagram, id, &begun);
     uint32_t answer = ppspp_store_take(store, 0, 0, datagram, begun, &len);
     if (answer == PPSPP_DONE && row.phase == PPSPP_CALLING) {
-        ppspp_add(datagram, sizeof datagram, begun, PPSPP_HANDSHAKE, 1, PPSPP_OPTIONS_FIXED, 0, root, sizeof root,
-                  &len);
+        ppspp_add(datagram, sizeof datagram, addressing, begun, PPSPP_HANDSHAKE, 1, PPSPP_OPTIONS_FIXED, 0, root,
+                  sizeof root, &len);
         answer = ppspp_store_take(store, 0, 0, datagram, len, &len);
     }
     if (answer == PPSPP_DONE) {
-        ppspp_add(datagram, sizeof datagram, begun, PPSPP_HANDSHAKE, 0, PPSPP_OPTIONS_END, 0, root, 0, &len);
+        ppspp_add(datagram, sizeof datagram, addressing, begun, PPSPP_HANDSHAKE, 0, PPSPP_OPTIONS_END, 0, root, 0,
+                  &len);
         answer = ppspp_store_take(store, 0, 0, datagram, len, &len);
     }
     return answer;
 }
 
-/* ---- a datagram of any messages, in the reply room: begin it, then add */
+/* ---- a datagram of any messages, in the reply room, under the store's addressing: begin it, then add */
 
 /* Begins a datagram to the peer's channel. */
 static inline uint32_t ppspp_store_begin(const struct ppspp_store *store, uint32_t destination, size_t *len)
@@ -134,8 +161,8 @@ static inline uint32_t ppspp_store_add(const struct ppspp_store *store, size_t *
                                        uint32_t last, uint64_t number, const uint8_t *bytes, size_t bytes_n)
 {
     size_t longer = 0;
-    const uint32_t answer =
-        ppspp_add(store->reply, store->reply_n, *len, type, first, last, number, bytes, bytes_n, &longer);
+    const uint32_t answer = ppspp_add(store->reply, store->reply_n, ppspp_store_addressing(store), *len, type, first,
+                                      last, number, bytes, bytes_n, &longer);
     if (answer == PPSPP_DONE) {
         *len = longer;
     }
@@ -168,6 +195,12 @@ static inline uint32_t ppspp_store_add_cancel(const struct ppspp_store *store, s
                                               uint32_t last)
 {
     return ppspp_store_add_plain(store, len, PPSPP_CANCEL, first, last, 0);
+}
+
+/* A HAVE, REQUEST or CANCEL over no chunk, by its type PPSPP_EMPTY_HAVE, .._REQUEST or .._CANCEL; under bins alone. */
+static inline uint32_t ppspp_store_add_empty(const struct ppspp_store *store, size_t *len, uint32_t type)
+{
+    return ppspp_store_add_plain(store, len, type, 0, 0, 0);
 }
 
 /* We got these chunks, after this delay. Taking a chunk in writes one by itself. */
@@ -214,6 +247,15 @@ static inline uint32_t ppspp_store_add_handshake(const struct ppspp_store *store
 static inline uint32_t ppspp_store_add_close(const struct ppspp_store *store, size_t *len)
 {
     return ppspp_store_add_plain(store, len, PPSPP_HANDSHAKE, 0, PPSPP_OPTIONS_END, 0);
+}
+
+/* ---- a datagram that came */
+
+/* What stands at a place of it, a number of enum ppspp_step, read under the store's addressing. */
+static inline uint32_t ppspp_store_read(const struct ppspp_store *store, const uint8_t *datagram, size_t datagram_n,
+                                        size_t at, uint64_t found[PPSPP_FOUND_WORDS])
+{
+    return ppspp_read(datagram, datagram_n, ppspp_store_addressing(store), at, found);
 }
 
 #endif

@@ -4,14 +4,18 @@
 use crate::calls::Call;
 use crate::came::leave_least;
 use crate::channels::Both;
+use crate::garbling::spoiled;
 use crate::packets::*;
 use crate::packs::Pack;
 use crate::random::Random;
 use second::channel::Phase;
+use second::wire::Addressing;
 use second::wire_cases;
 
 /// Who sends.
 pub struct Peer<'a> {
+    /// The method of its store and of its messages.
+    pub addressing: Addressing,
     pub pack: &'a Pack,
     /// A whole store of the pack, with this channel open.
     pub sender: Both,
@@ -29,7 +33,7 @@ impl Peer<'_> {
         };
         let told = self.sender.call(case, &call);
         assert_eq!(told.number, 0, "{case}: {call}");
-        messages(&self.sender.reply(&told))
+        messages(self.addressing, &self.sender.reply(&told))
     }
 
     /// A datagram for the store, whose state may be any.
@@ -48,7 +52,7 @@ impl Peer<'_> {
             17..23 => opening(random, store),
             23..28 => to_a_row(random, store),
             28 | 29 => datagram(destination(random, store), &[]),
-            _ => any(random, store),
+            _ => self.any(random, store),
         };
         spoiled(random, sound)
     }
@@ -93,18 +97,20 @@ impl Peer<'_> {
         hashes: &mut Vec<Vec<u8>>,
     ) {
         if random.below(5) < 3 {
-            leave_least(hashes, self.pack.count(), chunk, |node| store.trusts(node));
+            let trusts = |node| store.trusts(node);
+            leave_least(self.addressing, hashes, self.pack.count(), chunk, trusts);
         }
         match random.below(12) {
             0..3 => hashes.retain(|_| !random.one_in(3)),
             3 | 4 if !hashes.is_empty() => {
                 let one = random.place(hashes.len());
-                hashes[one][9 + random.place(32)] ^= 1 << random.below(8);
+                let hash = hashes[one].last_chunk_mut::<32>().expect("an INTEGRITY");
+                hash[random.place(32)] ^= 1 << random.below(8);
             }
             5 => {
                 for _ in 0..1 + random.below(3) {
                     let node = random.below(2 * self.pack.count() + 4).into();
-                    hashes.push(integrity(node, &random.digest()));
+                    hashes.push(integrity(self.addressing, node, &random.digest()));
                 }
             }
             _ => {}
@@ -137,37 +143,58 @@ impl Peer<'_> {
             5 => last = random.below(count + 2),
             _ => {}
         }
-        data(first, last, time, &chunk)
+        data(self.addressing, first, last, time, &chunk)
     }
 
-    /// A message without a hash or a chunk, its range in most cases within the
-    /// pack.
+    /// A message without a chunk, its range in most cases within the pack.
     fn plain(&self, random: &mut Random) -> Vec<u8> {
+        let (first, last) = self.range(random);
+        let ranged = |kind| ranged(self.addressing, kind, first, last);
+        match random.below(9) {
+            0 | 1 => ranged(HAVE),
+            2 => ack(self.addressing, first, last, clock(random)),
+            3 | 4 => ranged(REQUEST),
+            5 => ranged(CANCEL),
+            6 => vec![CHOKE],
+            7 => vec![UNCHOKE],
+            _ => {
+                let node = random.below(2 * self.pack.count()).into();
+                integrity(self.addressing, node, &random.digest())
+            }
+        }
+    }
+
+    /// A range, in most cases within the pack. Under bins the sum of its ends
+    /// counts, and may also be a bin that is special, or past the pack.
+    fn range(&self, random: &mut Random) -> (u32, u32) {
         let count = self.pack.count();
         let first = random.below(count);
         let last = match random.below(4) {
             0 => first,
             _ => first + random.below(count - first),
         };
-        let (first, last) = match random.below(32) {
+        match random.below(32) {
             0 => (first, count),
             1 => (random.one_of(&[count, 511, 512]), u32::MAX),
             2 => (first, first.wrapping_sub(1)),
             3 => (0, count - 1),
-            _ => (first, last),
-        };
-        match random.below(9) {
-            0 | 1 => ranged(HAVE, first, last),
-            2 => ack(first, last, clock(random)),
-            3 | 4 => ranged(REQUEST, first, last),
-            5 => ranged(CANCEL, first, last),
-            6 => vec![CHOKE],
-            7 => vec![UNCHOKE],
-            _ => {
-                let node = random.below(2 * count).into();
-                integrity(node, &random.digest())
+            4..8 if self.addressing == Addressing::Bins => {
+                let past = 2 * count - 1 + random.below(4);
+                let bins = [EMPTY, EVERYTHING, past, 0x3fff_ffff, 0xffff_fffe];
+                (random.one_of(&bins), 0)
             }
+            _ => (first, last),
         }
+    }
+
+    /// One made for comparing readers, in some cases under the other method.
+    fn any(&self, random: &mut Random, store: &Both) -> Vec<u8> {
+        let addressing = match random.below(4) {
+            0 => other(self.addressing),
+            _ => self.addressing,
+        };
+        let made = wire_cases::datagrams(addressing, random.number().into(), 1).next();
+        sent_to(destination(random, store), made.unwrap_or_default())
     }
 }
 
@@ -204,11 +231,14 @@ fn destination(random: &mut Random, store: &Both) -> u32 {
     }
 }
 
-/// The fixed options around the store's root in most cases, else others.
+/// The fixed options around the store's root in most cases, else others, also
+/// those of the other method.
 fn options(random: &mut Random, store: &Both) -> Vec<u8> {
-    let ours = fixed(&store.state().root);
-    match random.below(12) {
-        0 => fixed(&random.digest()),
+    let (addressing, root) = (store.state().addressing, &store.state().root);
+    let ours = fixed(addressing, root);
+    match random.below(13) {
+        0 => fixed(addressing, &random.digest()),
+        5 => fixed(other(addressing), root),
         1 => END_ONLY.to_vec(),
         2 => vec![0, 1, 255],
         3 => [&ours[..ours.len() - 3], &[8, 0, 255]].concat(),
@@ -253,29 +283,4 @@ fn to_a_row(random: &mut Random, store: &Both) -> Vec<u8> {
         messages.insert(at, vec![CHOKE]);
     }
     datagram(destination, &messages)
-}
-
-/// One made for comparing readers.
-fn any(random: &mut Random, store: &Both) -> Vec<u8> {
-    let made = wire_cases::datagrams(random.number().into(), 1).next();
-    sent_to(destination(random, store), made.unwrap_or_default())
-}
-
-/// Cut, changed or longer, in one of ten cases.
-fn spoiled(random: &mut Random, mut datagram: Vec<u8>) -> Vec<u8> {
-    match random.below(60) {
-        0 | 1 => datagram.truncate(random.place(datagram.len() + 1)),
-        2 if !datagram.is_empty() => {
-            let at = random.place(datagram.len());
-            datagram[at] ^= 1 << random.below(8);
-        }
-        3 => {
-            let more = 1 + random.place(20);
-            datagram.extend(random.bytes(more));
-        }
-        4 => datagram.resize(2_040 + random.place(20), CHOKE),
-        5 => datagram.truncate(random.place(5)),
-        _ => {}
-    }
-    datagram
 }

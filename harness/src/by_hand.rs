@@ -6,8 +6,13 @@ use ppspp::calls::{add, Numbers};
 use second::by_hand::parse;
 use second::wire::{Message, Options};
 
-/// A datagram that ends in DATA.
+/// The numbers of the methods.
+pub const BINS: u32 = 0;
+pub const RANGES: u32 = 2;
+
+/// A datagram that ends in DATA, under ranges and under bins.
 pub const WITH_DATA: &str = "00000005 01 00000003 00000003 000000000000002a 61";
+pub const WITH_DATA_BIN: &str = "00000005 01 00000006 000000000000002a 61";
 
 /// A datagram that is a HANDSHAKE.
 pub const WITH_HANDSHAKE: &str = "00000005 00 00000011 ff";
@@ -79,41 +84,65 @@ pub fn room(size: usize, so_far: &[u8]) -> Vec<u8> {
     room
 }
 
-/// Adds a message to these bytes in a room of 2,048 and more: it must be taken,
-/// and then these bytes stand behind them, and nothing else has changed.
-pub fn taken(so_far: &str, message: Message, added: &str) {
-    taken_as(so_far, numbers(&message, &source()), added);
+/// Adds a message under a method to these bytes in a room of 2,048 and more: it
+/// must be taken, and then these bytes stand behind them, and nothing else has
+/// changed.
+pub fn taken(method: u32, so_far: &str, message: Message, added: &str) {
+    taken_as(method, so_far, numbers(&message, &source()), added);
 }
 
 /// The same with the numbers of a message.
-pub fn taken_as(so_far: &str, numbers: Numbers, added: &str) {
+pub fn taken_as(method: u32, so_far: &str, numbers: Numbers, added: &str) {
     for size in [2_048, 2_049, 3_000] {
         let before = bytes(so_far);
         let after = [before.clone(), bytes(added)].concat();
         let mut got = room(size, &before);
-        let told = add(&mut got, before.len(), numbers);
+        let told = add(&mut got, method, before.len(), numbers);
         assert_eq!(told, (0, after.len()), "{so_far}, {numbers:?}");
         assert_eq!(got, room(size, &after), "{so_far}, {numbers:?}");
     }
 }
 
 /// The same for a message that must be refused with a number: every byte stays.
-pub fn refused(so_far: &str, message: Message, wanted: u32) {
-    let before = bytes(so_far);
-    refused_in(2_048, before.len(), so_far, message, wanted);
-    refused_in(3_000, before.len(), so_far, message, wanted);
+pub fn refused(method: u32, so_far: &str, message: Message, wanted: u32) {
+    let len = bytes(so_far).len();
+    for size in [2_048, 3_000] {
+        refused_in(method, size, len, so_far, message, wanted);
+    }
 }
 
 /// The same with a size of the room and the length that the call is told.
-pub fn refused_in(size: usize, len: usize, so_far: &str, message: Message, wanted: u32) {
-    refused_as(size, len, so_far, numbers(&message, &source()), wanted);
+pub fn refused_in(
+    method: u32,
+    size: usize,
+    len: usize,
+    so_far: &str,
+    message: Message,
+    wanted: u32,
+) {
+    let source = source();
+    refused_as(
+        method,
+        size,
+        len,
+        so_far,
+        numbers(&message, &source),
+        wanted,
+    );
 }
 
 /// The same with the numbers of a message.
-pub fn refused_as(size: usize, len: usize, so_far: &str, numbers: Numbers, wanted: u32) {
+pub fn refused_as(
+    method: u32,
+    size: usize,
+    len: usize,
+    so_far: &str,
+    numbers: Numbers,
+    wanted: u32,
+) {
     let before = room(size, &bytes(so_far));
     let mut got = before.clone();
-    let told = add(&mut got, len, numbers);
+    let told = add(&mut got, method, len, numbers);
     assert_eq!(told, (wanted, 0), "{so_far}, {numbers:?}");
     assert_eq!(got, before, "{so_far}, {numbers:?}");
 }

@@ -4,6 +4,7 @@
 use crate::numbers::numbers;
 use crate::rooms::Rooms;
 use ppspp::calls::{self, Answered};
+use ppspp::Order;
 use second::channel::{self as channel, Outcome, State};
 use second::hex;
 use second::sha256::Digest;
@@ -13,12 +14,15 @@ use std::fmt;
 /// A call with its arguments, but for the state and the rooms.
 #[derive(Clone)]
 pub enum Call {
+    /// The method is the number of an addressing, or of none.
     Start {
         root: Digest,
         length: u32,
+        method: u32,
     },
     Build {
         length: u32,
+        method: u32,
         content: Vec<u8>,
     },
     Open {
@@ -41,6 +45,7 @@ pub enum Call {
     /// To the datagram in the first `len` bytes of the reply room; the hash,
     /// chunk or root of the message is in `source`.
     Add {
+        method: u32,
         len: usize,
         message: Message,
         source: Vec<u8>,
@@ -65,6 +70,14 @@ impl Told {
         Told {
             number,
             ..Told::default()
+        }
+    }
+
+    /// What asking gives: a number, the held count, and 1 where all are held.
+    fn asked((number, held, whole): (u32, u32, u32)) -> Self {
+        Told {
+            held: [held, whole],
+            ..Told::number(number)
         }
     }
 }
@@ -94,11 +107,21 @@ impl Call {
     /// Gives it to the proved code.
     pub fn to_proved(&self, state: &mut [u32], rooms: &mut Rooms) -> Told {
         match self {
-            Call::Start { root, length } => {
-                Told::number(calls::start(rooms.lend(state), root, *length))
+            Call::Start {
+                root,
+                length,
+                method,
+            } => {
+                let order = Order::new(*root, *length).method(*method);
+                Told::number(calls::start(rooms.lend(state), &order))
             }
-            Call::Build { length, content } => {
-                Told::number(calls::build(rooms.lend(state), *length, content))
+            Call::Build {
+                length,
+                method,
+                content,
+            } => {
+                let order = Order::to_build(*length).method(*method);
+                Told::number(calls::build(rooms.lend(state), &order, content))
             }
             Call::Open { id } => calls::open(rooms.lend(state), *id).into(),
             Call::Take {
@@ -109,19 +132,14 @@ impl Call {
             Call::Write { id, chunk, clock } => {
                 calls::write(rooms.lend(state), *id, *chunk, *clock).into()
             }
-            Call::Ask => {
-                let (number, held, whole) = calls::ask(state, &rooms.map);
-                Told {
-                    held: [held, whole],
-                    ..Told::number(number)
-                }
-            }
+            Call::Ask => Told::asked(calls::ask(state, &rooms.map)),
             Call::Begin { destination } => calls::begin(&mut rooms.reply, *destination).into(),
             Call::Add {
+                method,
                 len,
                 message,
                 source,
-            } => calls::add(&mut rooms.reply, *len, numbers(message, source)).into(),
+            } => calls::add(&mut rooms.reply, *method, *len, numbers(message, source)).into(),
         }
     }
 
@@ -129,8 +147,16 @@ impl Call {
     pub fn to_second(&self, state: &mut State, rooms: &mut Rooms) -> Told {
         let lent = &mut rooms.lend_to_second();
         let outcome = match self {
-            Call::Start { root, length } => channel::start(state, lent, root, *length),
-            Call::Build { length, content } => channel::build(state, lent, *length, content),
+            Call::Start {
+                root,
+                length,
+                method,
+            } => channel::start(state, lent, root, *length, *method),
+            Call::Build {
+                length,
+                method,
+                content,
+            } => channel::build(state, lent, *length, *method, content),
             Call::Open { id } => channel::open(state, lent, *id),
             Call::Take {
                 clock,
@@ -140,17 +166,15 @@ impl Call {
             Call::Write { id, chunk, clock } => channel::write(state, lent, *id, *chunk, *clock),
             Call::Ask => {
                 let held = channel::ask(state, &rooms.map);
-                return Told {
-                    held: [held.count, held.whole.into()],
-                    ..Told::number(held.number.into())
-                };
+                return Told::asked((held.number.into(), held.count, held.whole.into()));
             }
             Call::Begin { destination } => channel::begin(lent.reply, *destination),
             Call::Add {
+                method,
                 len,
                 message,
                 source,
-            } => channel::add(lent.reply, *len, message, source),
+            } => channel::add(lent.reply, *method, *len, message, source),
         };
         let Outcome { number, length } = outcome;
         Told::from((number.into(), length))
@@ -160,11 +184,24 @@ impl Call {
 impl fmt::Display for Call {
     fn fmt(&self, f: &mut fmt::Formatter) -> fmt::Result {
         match self {
-            Call::Start { root, length } => {
-                write!(f, "start under {}, {length}", hex::encode(root))
+            Call::Start {
+                root,
+                length,
+                method,
+            } => {
+                let root = hex::encode(root);
+                write!(f, "start under {root}, {length}, method {method}")
             }
-            Call::Build { length, content } => {
-                write!(f, "build {length} from {} bytes", content.len())
+            Call::Build {
+                length,
+                method,
+                content,
+            } => {
+                write!(
+                    f,
+                    "build {length} from {} bytes, method {method}",
+                    content.len()
+                )
             }
             Call::Open { id } => write!(f, "open {id}"),
             Call::Take {
@@ -181,13 +218,25 @@ impl fmt::Display for Call {
             Call::Ask => write!(f, "ask"),
             Call::Begin { destination } => write!(f, "begin to {destination}"),
             Call::Add {
+                method,
                 len,
                 message,
                 source,
-            } => {
-                let source = hex::encode(source);
-                write!(f, "add to {len} bytes {message:?} from {source}")
-            }
+            } => add_text(f, *method, *len, message, source),
         }
     }
+}
+
+fn add_text(
+    f: &mut fmt::Formatter,
+    method: u32,
+    len: usize,
+    message: &Message,
+    source: &[u8],
+) -> fmt::Result {
+    let source = hex::encode(source);
+    write!(
+        f,
+        "add to {len} bytes {message:?} from {source}, method {method}"
+    )
 }

@@ -5,6 +5,7 @@ use crate::packets::{is_integrity, node_of};
 use second::sha256::Digest;
 use second::store::{NodeHash, Store};
 use second::tree;
+use second::wire::Addressing;
 
 /// The bytes of a hash.
 const HASH: usize = 32;
@@ -86,13 +87,15 @@ pub fn least_nodes(count: u32, chunk: u32, trusts: impl Fn(u64) -> bool) -> Vec<
 
 /// Of a chunk's messages leaves out the hashes that are not among these.
 pub fn leave_least(
+    addressing: Addressing,
     messages: &mut Vec<Vec<u8>>,
     count: u32,
     chunk: u32,
     trusts: impl Fn(u64) -> bool,
 ) {
     let least = least_nodes(count, chunk, trusts);
-    messages.retain(|message| !is_integrity(message) || least.contains(&node_of(message)));
+    messages
+        .retain(|message| !is_integrity(message) || least.contains(&node_of(addressing, message)));
 }
 
 fn with_hashes(built: &Store, nodes: Vec<u64>) -> Vec<NodeHash> {

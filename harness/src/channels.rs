@@ -10,17 +10,30 @@ use crate::rooms::Rooms;
 use crate::words::{digest, words};
 use ppspp::sizes::STATE_WORDS;
 use second::channel::{Phase, Row, State, CHANNELS};
+use second::wire::Addressing;
 use second::{answer, hex};
 
 /// The places of a state's words: the layout's version, the root, the length,
-/// and the rows, of four words each.
+/// the method's number, and the rows, of four words each.
 pub const VERSION: usize = 0;
 pub const ROOT: usize = 1;
 pub const LENGTH: usize = 9;
-pub const ROWS: usize = 10;
+pub const METHOD: usize = 10;
+pub const ROWS: usize = 11;
 
 /// The version of the words. A state of another one has no order.
-const THIS_VERSION: u32 = 1;
+pub const THIS_VERSION: u32 = 2;
+
+/// What the words of a state are like.
+#[derive(Clone, Copy, Debug, PartialEq, Eq)]
+pub enum Words {
+    /// Of another version, or of a method that is none: there is no order.
+    OtherVersion,
+    OtherMethod,
+    /// There is an order, and the words are those that calls write, or others.
+    Canonical,
+    Uncanonical,
+}
 
 /// A store of each, with the same state and the same in their rooms.
 #[derive(Clone)]
@@ -130,9 +143,9 @@ impl Both {
     /// a start or a building is refused with that, which looks at no room.
     fn short_number(&self, call: &Call) -> u32 {
         let (mut state, mut rooms) = (self.state.clone(), self.second.clone());
-        let bad_length = u32::from(answer::BAD_LENGTH);
-        if call.starts() && call.to_second(&mut state, &mut rooms).number == bad_length {
-            return bad_length;
+        let bad_order = u32::from(answer::BAD_LENGTH);
+        if call.starts() && call.to_second(&mut state, &mut rooms).number == bad_order {
+            return bad_order;
         }
         answer::ROOM_TOO_SMALL.into()
     }
@@ -152,19 +165,23 @@ impl Both {
         &self.rooms
     }
 
-    /// Whether the words of the state are of the version that has an order.
-    pub fn has_version(&self) -> bool {
-        self.words[VERSION] == THIS_VERSION
-    }
-
     /// The words of the state, and what stands behind it.
     pub fn words(&self) -> &[u32] {
         &self.words
     }
 
-    /// Whether the words are those that calls write for such a state.
-    pub fn is_canonical(&self) -> bool {
-        self.words[..STATE_WORDS] == words_of(&self.state)
+    /// What they are like.
+    pub fn kind(&self) -> Words {
+        if self.words[VERSION] != THIS_VERSION {
+            return Words::OtherVersion;
+        }
+        if Addressing::of(self.words[METHOD]).is_none() {
+            return Words::OtherMethod;
+        }
+        match self.words[..STATE_WORDS] == words_of(&self.state) {
+            true => Words::Canonical,
+            false => Words::Uncanonical,
+        }
     }
 
     /// The first bytes of the reply room.
@@ -189,12 +206,13 @@ fn is_set(row: &[u32], bit: usize) -> bool {
         .is_some_and(|word| word >> (bit % 32) & 1 == 1)
 }
 
-/// The state of the first words, in `second`'s form. One of another version is
-/// that of a store without an order.
+/// The state of the first words, in `second`'s form. One of another version, or
+/// of a method that is none, is that of a store without an order.
 pub fn state_of(words: &[u32]) -> State {
-    if words[VERSION] != THIS_VERSION {
-        return State::default();
-    }
+    let addressing = match Addressing::of(words[METHOD]) {
+        Some(addressing) if words[VERSION] == THIS_VERSION => addressing,
+        _ => return State::default(),
+    };
     let row = |i: usize| {
         let row = &words[ROWS + 4 * i..][..4];
         Row {
@@ -211,6 +229,7 @@ pub fn state_of(words: &[u32]) -> State {
     State {
         root: digest(&std::array::from_fn(|i| words[ROOT + i])),
         length: words[LENGTH],
+        addressing,
         rows: std::array::from_fn(row),
     }
 }
@@ -221,6 +240,7 @@ pub fn words_of(state: &State) -> [u32; STATE_WORDS] {
     all[VERSION] = THIS_VERSION;
     all[ROOT..LENGTH].copy_from_slice(&words(&state.root));
     all[LENGTH] = state.length;
+    all[METHOD] = state.addressing.number();
     for i in 0..CHANNELS {
         let row = &state.rows[i];
         let phase = match row.phase {

@@ -3,16 +3,18 @@
 
 use crate::arriving::clock;
 use crate::calls::{Call, Told};
+use crate::packets::{self, other};
 use crate::random::Random;
-use second::wire::{self, Message, Step};
+use second::wire::{self, Addressing, Message, Step};
 use second::wire_cases::{messages, LONGEST};
 
-/// The bytes of DATA before its chunk.
-const DATA_HEAD: usize = 17;
+/// Numbers of no method.
+pub const BAD_METHODS: [u32; 6] = [1, 3, 4, 5, 256, u32::MAX];
 
 /// What is known of a reply room, and what is to be added there.
-#[derive(Default)]
 pub struct Composing {
+    /// The method under which messages are made and mostly added.
+    addressing: Addressing,
     /// The length of the datagram so far: what the last begin or add gave, or
     /// the length of the reply that is to be lengthened. It is stale where a
     /// reply was written since.
@@ -24,6 +26,16 @@ pub struct Composing {
 }
 
 impl Composing {
+    /// Nothing yet.
+    pub fn new(addressing: Addressing) -> Self {
+        Composing {
+            addressing,
+            so_far: 0,
+            reply: 0,
+            model: None,
+        }
+    }
+
     /// Keeps the length of what a call wrote into the reply room.
     pub fn keep(&mut self, call: &Call, told: &Told) {
         if call.composes() && told.number == 0 {
@@ -64,7 +76,7 @@ impl Composing {
             return Some(self.any_add(random));
         }
         let (model, mut at) = self.model.take()?;
-        let Step::Read { message, next } = wire::step(&model, at) else {
+        let Step::Read { message, next } = wire::step(self.addressing, &model, at) else {
             return None;
         };
         if random.one_in(32) {
@@ -76,6 +88,7 @@ impl Composing {
         let source = model.clone();
         self.model = Some((model, at));
         Some(Call::Add {
+            method: self.addressing.number(),
             len: self.so_far,
             message,
             source,
@@ -83,18 +96,20 @@ impl Composing {
     }
 
     /// An add of any message, sound or not: to the datagram so far, to the last
-    /// reply, or to any number of bytes.
+    /// reply, or to any number of bytes; now and then under the other method, or
+    /// under none.
     pub fn any_add(&self, random: &mut Random) -> Call {
         let (message, source) = match random.below(12) {
-            0 => filling(random, self.so_far),
+            0 => filling(self.addressing, random, self.so_far),
             1 => data(random),
-            _ => messages(random.number().into(), 1).remove(0),
+            _ => messages(self.addressing, random.number().into(), 1).remove(0),
         };
         let len = match random.below(3) {
             0 => self.reply,
             _ => self.so_far,
         };
         Call::Add {
+            method: method_told(random, self.addressing),
             len: length_told(random, len),
             message,
             source,
@@ -102,9 +117,19 @@ impl Composing {
     }
 }
 
+/// The number of a method; now and then of the other one, or of none.
+pub fn method_told(random: &mut Random, addressing: Addressing) -> u32 {
+    match random.below(16) {
+        0 => random.one_of(&BAD_METHODS),
+        1 => other(addressing).number(),
+        _ => addressing.number(),
+    }
+}
+
 /// DATA that fills up a datagram of such a length, or is a byte too long for it.
-fn filling(random: &mut Random, so_far: usize) -> (Message, Vec<u8>) {
-    let size = (wire::MAX_SIZE + random.place(2)).saturating_sub(so_far + DATA_HEAD);
+fn filling(addressing: Addressing, random: &mut Random, so_far: usize) -> (Message, Vec<u8>) {
+    let head = packets::data(addressing, 0, 0, 0, &[]).len();
+    let size = (wire::MAX_SIZE + random.place(2)).saturating_sub(so_far + head);
     data_of(random, size)
 }
 

@@ -1,6 +1,9 @@
 //! How often the calls of random lists gave what.
 
-use crate::calls::{Call, Told};
+use crate::calls::Call;
+use crate::channels::Words;
+use crate::packets::ACK;
+use second::wire::{self, Addressing, Message, Step, MIN_SIZE};
 use std::fmt;
 
 /// The names of the calls.
@@ -22,9 +25,11 @@ fn place(call: &Call) -> usize {
     }
 }
 
-/// The bytes of our HANDSHAKE and of an ACK as datagrams.
-const HANDSHAKE_SIZE: usize = 60;
-const ACK_SIZE: usize = 21;
+/// The last chunk that bins can name.
+const LAST: u32 = 0x7fff_ffff;
+
+/// The type of a HANDSHAKE.
+const HANDSHAKE: u8 = 0;
 
 /// How often each number, by the call.
 pub type Numbers = [[usize; 15]; 8];
@@ -36,8 +41,10 @@ pub struct Counts {
     pub numbers: Numbers,
     /// Where the state room was too short.
     pub short: Numbers,
-    /// Where the state was of another version.
+    /// Where the state was of another version, and where of a method that is
+    /// none.
     pub versions: Numbers,
+    pub methods: Numbers,
     /// How often a channel was opened, a datagram taken in, a chunk written, and
     /// how often it was asked, in a state of words that no call writes.
     pub uncanonical: [usize; 4],
@@ -51,6 +58,9 @@ pub struct Counts {
     pub own: usize,
     pub chunks: usize,
     pub by_peer: usize,
+    /// How many messages were taken in under bins over no chunk, over everything,
+    /// and over chunks of which some others are past the last.
+    pub bins: [usize; 3],
 }
 
 /// Counts a call by its number.
@@ -64,34 +74,55 @@ impl Counts {
         count(&mut self.numbers, call, number);
     }
 
-    /// Counts a call that was made in a state of another version, or in one of
-    /// words that no call writes.
-    pub fn add_state(&mut self, call: &Call, number: u32, has_version: bool, canonical: bool) {
-        if !has_version {
-            count(&mut self.versions, call, number);
-        } else if !canonical && number == 0 {
-            match call {
+    /// Counts a call by the words of the state in which it was made.
+    pub fn add_state(&mut self, call: &Call, number: u32, words: Words) {
+        match words {
+            Words::OtherVersion => count(&mut self.versions, call, number),
+            Words::OtherMethod => count(&mut self.methods, call, number),
+            Words::Uncanonical if number == 0 => match call {
                 Call::Open { .. } => self.uncanonical[0] += 1,
                 Call::Take { .. } => self.uncanonical[1] += 1,
                 Call::Write { .. } => self.uncanonical[2] += 1,
                 Call::Ask => self.uncanonical[3] += 1,
                 _ => {}
-            }
+            },
+            Words::Uncanonical | Words::Canonical => {}
         }
     }
 
-    /// Counts a call by its reply, after which other chunks are held or not, and
-    /// which may have taken in a datagram from the store's own reply room.
-    pub fn taken(&mut self, told: &Told, more: bool, own: bool) {
-        if own && told.number == 0 {
+    /// Counts a call by its number and its reply, after which other chunks are
+    /// held or not, and which may have taken in a datagram from the store's own
+    /// reply room.
+    pub fn taken(&mut self, number: u32, reply: &[u8], more: bool, own: bool) {
+        let kind = reply.get(MIN_SIZE);
+        if own && number == 0 {
             self.own += 1;
-            self.chunks += usize::from(told.len == ACK_SIZE);
+            self.chunks += usize::from(kind == Some(&ACK));
         }
-        match told.len {
-            HANDSHAKE_SIZE => self.opened += 1,
-            ACK_SIZE if more => self.stored += 1,
-            ACK_SIZE => self.again += 1,
+        match kind {
+            Some(&HANDSHAKE) => self.opened += 1,
+            Some(&ACK) if more => self.stored += 1,
+            Some(&ACK) => self.again += 1,
             _ => {}
+        }
+    }
+
+    /// Counts a datagram that was taken in under bins, for so many chunks.
+    pub fn add_bins(&mut self, datagram: &[u8], chunks: u32) {
+        let mut at = MIN_SIZE;
+        while let Step::Read { message, next } = wire::step(Addressing::Bins, datagram, at) {
+            match message {
+                Message::Empty { .. } => self.bins[0] += 1,
+                Message::Have { last, .. }
+                | Message::Request { last, .. }
+                | Message::Cancel { last, .. }
+                | Message::Ack { last, .. } => {
+                    self.bins[1] += usize::from(last == LAST);
+                    self.bins[2] += usize::from((chunks..LAST).contains(&last));
+                }
+                _ => {}
+            }
+            at = next;
         }
     }
 
@@ -121,6 +152,7 @@ impl fmt::Display for Counts {
         table(f, "all", &self.numbers)?;
         table(f, "the state room too short", &self.short)?;
         table(f, "a state of another version", &self.versions)?;
+        table(f, "a state of a method that is none", &self.methods)?;
         let [opened, taken, written, asked] = self.uncanonical;
         write!(f, "{opened} channels opened, {taken} datagrams taken in, ")?;
         write!(f, "{written} chunks written, {asked} times asked, ")?;
@@ -130,7 +162,13 @@ impl fmt::Display for Counts {
         writeln!(f, "{again} held ones taken again")?;
         let (own, chunks, by_peer) = (self.own, self.chunks, self.by_peer);
         write!(f, "{own} datagrams taken in from the own reply room, ")?;
-        write!(f, "{chunks} of them with a chunk; {by_peer} by the peer")
+        writeln!(f, "{chunks} of them with a chunk; {by_peer} by the peer")?;
+        let [empty, everything, past] = self.bins;
+        write!(
+            f,
+            "bins taken in: {empty} empty, {everything} of everything, "
+        )?;
+        write!(f, "{past} others that run past the last chunk")
     }
 }
 

@@ -6,7 +6,7 @@
 use crate::numbers::{self, numbers};
 use crate::proved::wire::{self as proved, ENTRY_WORDS, LAID_WORDS};
 use ppspp::calls::{self, Numbers};
-use second::wire::{self, Layout, Message, Options, Step};
+use second::wire::{self, Addressing, Layout, Message, Options, Step};
 use second::{answer, hex};
 use std::fmt::Debug;
 
@@ -15,20 +15,27 @@ pub type Found = [u64; 7];
 
 /// Has both check the layout of a datagram, with such rooms for the entries and
 /// for what is found, and gives the number.
-pub fn layout(datagram: &[u8], entries: &[u64], found: &[u64]) -> u32 {
+pub fn layout(addressing: Addressing, datagram: &[u8], entries: &[u64], found: &[u64]) -> u32 {
     let mut got = Laid::before(entries, found);
-    got.number = proved::layout(datagram, &mut got.entries, &mut got.found);
-    let wanted = second_layout(datagram, entries, found);
-    compare("layout", || hex::encode(datagram), &got, &wanted);
+    let method = addressing.number();
+    got.number = proved::layout(method, datagram, &mut got.entries, &mut got.found);
+    let wanted = second_layout(addressing, datagram, entries, found);
+    let about = || format!("{} under {addressing:?}", hex::encode(datagram));
+    compare("layout", about, &got, &wanted);
     wanted.number
 }
 
 /// Has both read what stands at a place, with such words before; gives 0 for its
 /// end, 1 for a message and 2 for what is refused, and the place behind a message.
-pub fn read(datagram: &[u8], at: usize, before: &Found) -> (u32, Option<usize>) {
+pub fn read(
+    addressing: Addressing,
+    datagram: &[u8],
+    at: usize,
+    before: &Found,
+) -> (u32, Option<usize>) {
     let mut found = *before;
-    let step = calls::read(datagram, at, &mut found);
-    let (wanted, next) = match wire::step(datagram, at) {
+    let step = calls::read(datagram, addressing.number(), at, &mut found);
+    let (wanted, next) = match wire::step(addressing, datagram, at) {
         Step::End => ((0, *before), None),
         Step::Read { message, next } => {
             let words = numbers::found(&message, datagram, next);
@@ -36,7 +43,7 @@ pub fn read(datagram: &[u8], at: usize, before: &Found) -> (u32, Option<usize>) 
         }
         Step::Refused => ((2, *before), None),
     };
-    let about = || format!("{} at {at}", hex::encode(datagram));
+    let about = || format!("{} at {at} under {addressing:?}", hex::encode(datagram));
     compare("read", about, &(step, found), &wanted);
     (step, next)
 }
@@ -51,18 +58,37 @@ pub fn begin(room: &[u8], destination: u32) -> Sent {
 
 /// Has both add a message to the datagram in the first `len` bytes of such a
 /// room.
-pub fn add(room: &[u8], len: usize, message: &Message, source: &[u8]) -> Sent {
-    add_as(room, len, numbers(message, source), message, source)
+pub fn add(
+    addressing: Addressing,
+    room: &[u8],
+    len: usize,
+    message: &Message,
+    source: &[u8],
+) -> Sent {
+    let numbers = numbers(message, source);
+    add_as(addressing, room, len, numbers, message, source)
 }
 
 /// The same, with the numbers in which the proved code is given the message.
-pub fn add_as(room: &[u8], len: usize, numbers: Numbers, message: &Message, source: &[u8]) -> Sent {
-    let got = Sent::after(room, |room| calls::add(room, len, numbers));
-    let wanted = Sent::after_second(room, |room| wire::add(room, len, message, source));
+pub fn add_as(
+    addressing: Addressing,
+    room: &[u8],
+    len: usize,
+    numbers: Numbers,
+    message: &Message,
+    source: &[u8],
+) -> Sent {
+    let method = addressing.number();
+    let got = Sent::after(room, |room| calls::add(room, method, len, numbers));
+    let wanted = Sent::after_second(room, |room| {
+        wire::add(room, addressing, len, message, source)
+    });
     let about = || {
         let so_far = hex::encode(&room[..len.min(room.len())]);
         let size = room.len();
-        format!("{so_far} of {len} bytes in {size}, {message:?} as {numbers:?}")
+        format!(
+            "{so_far} of {len} bytes in {size}, {message:?} as {numbers:?} under {addressing:?}"
+        )
     };
     compare("add", about, &got, &wanted);
     wanted
@@ -115,14 +141,14 @@ impl Sent {
 
 /// `second` keeps the entries in a vector of its own and gives what it finds as
 /// a value, so only here can their rooms be too small.
-fn second_layout(datagram: &[u8], entries: &[u64], found: &[u64]) -> Laid {
+fn second_layout(addressing: Addressing, datagram: &[u8], entries: &[u64], found: &[u64]) -> Laid {
     let mut laid = Laid::before(entries, found);
     if entries.len() < ENTRY_WORDS || found.len() < LAID_WORDS {
         laid.number = answer::ROOM_TOO_SMALL.into();
         return laid;
     }
     let mut nodes = Vec::new();
-    let layout = wire::layout(datagram, &mut nodes);
+    let layout = wire::layout(addressing, datagram, &mut nodes);
     let words: Vec<u64> = nodes
         .into_iter()
         .flat_map(|(node, place)| [node, place as u64])

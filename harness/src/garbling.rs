@@ -1,6 +1,7 @@
-//! Changes of a store's state and rooms that no call makes.
+//! Changes of a store's state and rooms that no call makes, and of datagrams.
 
-use crate::channels::{Both, LENGTH, ROOT, ROWS, VERSION};
+use crate::channels::{Both, LENGTH, METHOD, ROOT, ROWS, VERSION};
+use crate::packets::CHOKE;
 use crate::random::Random;
 use crate::rooms::Rooms;
 use second::channel::CHANNELS;
@@ -8,7 +9,7 @@ use second::channel::CHANNELS;
 /// Changes something in the state or in a room of a store of a pack of such a
 /// length.
 pub fn garble(random: &mut Random, store: &mut Both, length: u32) {
-    match random.below(15) {
+    match random.below(17) {
         0..4 => {
             let row = random.place(CHANNELS);
             garble_row(random, store, row);
@@ -28,14 +29,18 @@ pub fn garble(random: &mut Random, store: &mut Both, length: u32) {
             store.change(|_, rooms| rooms.reply[at] ^= bit);
         }
         8 | 9 => {
-            // Where it was another one, 1 brings the state back.
-            let version = random.one_of(&[0, 1, 1, 2, 3, 257, 1 << 24, u32::MAX]);
+            // Where it was another one, 2 brings the state back; so may a method.
+            let version = random.one_of(&[0, 1, 2, 2, 3, 258, 1 << 25, u32::MAX]);
             store.change(|state, _| state[VERSION] = version);
+        }
+        10 | 11 => {
+            let method = random.one_of(&[0, 0, 1, 2, 2, 3, 4, 256, 258, u32::MAX]);
+            store.change(|state, _| state[METHOD] = method);
         }
         room => {
             let (at, bit) = (random.number() as usize, 1 << random.below(32));
             store.change(|_, rooms| {
-                let words = &mut word_rooms(rooms)[room as usize - 10];
+                let words = &mut word_rooms(rooms)[room as usize - 12];
                 let at = at % words.len();
                 words[at] ^= bit;
             });
@@ -65,4 +70,23 @@ fn word_rooms(rooms: &mut Rooms) -> [&mut Vec<u32>; 5] {
         &mut rooms.has,
         &mut rooms.wants,
     ]
+}
+
+/// A datagram, in one of ten cases cut, changed or longer.
+pub fn spoiled(random: &mut Random, mut datagram: Vec<u8>) -> Vec<u8> {
+    match random.below(60) {
+        0 | 1 => datagram.truncate(random.place(datagram.len() + 1)),
+        2 if !datagram.is_empty() => {
+            let at = random.place(datagram.len());
+            datagram[at] ^= 1 << random.below(8);
+        }
+        3 => {
+            let more = 1 + random.place(20);
+            datagram.extend(random.bytes(more));
+        }
+        4 => datagram.resize(2_040 + random.place(20), CHOKE),
+        5 => datagram.truncate(random.place(5)),
+        _ => {}
+    }
+    datagram
 }

@@ -9,6 +9,7 @@ pub mod arriving;
 pub mod bench;
 pub mod beside;
 pub mod by_hand;
+pub mod caller;
 pub mod calls;
 pub mod came;
 pub mod channels;

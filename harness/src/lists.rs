@@ -2,8 +2,8 @@
 
 use crate::arriving::{clock, Peer};
 use crate::calls::{Call, Told};
-use crate::channels::{Both, LENGTH, VERSION};
-use crate::composing::Composing;
+use crate::channels::{Both, LENGTH, METHOD, THIS_VERSION, VERSION};
+use crate::composing::{method_told, Composing, BAD_METHODS};
 use crate::garbling::garble_row;
 use crate::packets::{datagram, fixed, handshake, sent_to};
 use crate::packs::Pack;
@@ -11,12 +11,14 @@ use crate::random::Random;
 use crate::rooms::Rooms;
 use ppspp::sizes::STATE_WORDS;
 use second::channel::{Phase, CHANNELS};
+use second::wire::Addressing;
 
 /// Lengths that no order has.
 const BAD_LENGTHS: [u32; 3] = [0, 524_289, u32::MAX];
 
-/// A store, and who sends to it.
+/// A store, and who sends to it, mostly under one method.
 pub struct List<'a> {
+    addressing: Addressing,
     pub random: Random,
     pub peer: Peer<'a>,
     pub store: Both,
@@ -25,8 +27,8 @@ pub struct List<'a> {
 
 impl<'a> List<'a> {
     /// A store without an order, or in one case of four with any state, mostly of
-    /// the right version, in rooms with anything in them.
-    pub fn new(mut random: Random, pack: &'a Pack) -> Self {
+    /// the right version and of a method, in rooms with anything in them.
+    pub fn new(addressing: Addressing, mut random: Random, pack: &'a Pack) -> Self {
         let rooms = Rooms::random(&mut random, pack.length());
         let extra = random.place(3);
         let mut store = Both::new(vec![0; STATE_WORDS + extra], rooms);
@@ -35,18 +37,22 @@ impl<'a> List<'a> {
             store.change(|state, _| state.copy_from_slice(&words));
             store.change(|state, _| state[LENGTH] = pack.length());
             if !random.one_in(8) {
-                store.change(|state, _| state[VERSION] = 1);
+                store.change(|state, _| state[VERSION] = THIS_VERSION);
+            }
+            if !random.one_in(8) {
+                store.change(|state, _| state[METHOD] = addressing.number());
             }
             for i in 0..CHANNELS {
                 garble_row(&mut random, &mut store, i);
             }
         }
-        let peer = sender(&mut random, pack);
+        let peer = sender(addressing, &mut random, pack);
         List {
+            addressing,
             random,
             peer,
             store,
-            composing: Composing::default(),
+            composing: Composing::new(addressing),
         }
     }
 
@@ -132,40 +138,55 @@ impl<'a> List<'a> {
     }
 
     /// A start, or a building in one of three cases; now and then under another
-    /// root.
+    /// root or method.
     pub fn start(&mut self) -> Call {
         let pack = self.peer.pack;
         let length = pack.length();
+        let method = method_told(&mut self.random, self.addressing);
         match self.random.below(12) {
             0..4 => Call::Build {
                 length,
+                method,
                 content: pack.content.clone(),
             },
             4 => Call::Start {
                 root: self.random.digest(),
                 length,
+                method,
             },
             _ => Call::Start {
                 root: *pack.built.root(),
                 length,
+                method,
             },
         }
     }
 
-    /// A start or a building under another length, or from other content.
+    /// A start or a building under another length or under no method, or from
+    /// other content.
     fn wrong_start(&mut self) -> Call {
         let pack = self.peer.pack;
         let mut content = pack.content.clone();
         let mut length = pack.length();
-        match self.random.below(4) {
+        let mut method = self.addressing.number();
+        match self.random.below(5) {
             0 | 1 => length = self.random.one_of(&BAD_LENGTHS),
             2 => length = 1 + self.random.below(2 * length),
+            3 => method = self.random.one_of(&BAD_METHODS),
             _ => content.push(0),
         }
         let root = *pack.built.root();
         match self.random.below(2) {
-            0 => Call::Start { root, length },
-            _ => Call::Build { length, content },
+            0 => Call::Start {
+                root,
+                length,
+                method,
+            },
+            _ => Call::Build {
+                length,
+                method,
+                content,
+            },
         }
     }
 
@@ -207,16 +228,17 @@ impl<'a> List<'a> {
 }
 
 /// A whole store of a pack, with a channel that a peer opened.
-pub fn sender<'a>(random: &mut Random, pack: &'a Pack) -> Peer<'a> {
+pub fn sender<'a>(addressing: Addressing, random: &mut Random, pack: &'a Pack) -> Peer<'a> {
     let rooms = Rooms::random(random, pack.length());
     let mut sender = Both::unstarted(rooms);
     let build = Call::Build {
         length: pack.length(),
+        method: addressing.number(),
         content: pack.content.clone(),
     };
     assert_eq!(sender.call("the sender", &build).number, 0);
     let channel = 1 + random.below(1_000);
-    let opening = handshake(9, &fixed(pack.built.root()));
+    let opening = handshake(9, &fixed(addressing, pack.built.root()));
     let take = Call::Take {
         clock: 0,
         id: channel,
@@ -224,6 +246,7 @@ pub fn sender<'a>(random: &mut Random, pack: &'a Pack) -> Peer<'a> {
     };
     assert_eq!(sender.call("the sender", &take).number, 0);
     Peer {
+        addressing,
         pack,
         sender,
         channel,

@@ -13,6 +13,9 @@ const INTEGRITY: u32 = 4;
 const CHOKE: u32 = 10;
 const UNCHOKE: u32 = 11;
 
+/// What the type of an empty message is above that of the message.
+const EMPTY: u32 = 256;
+
 /// A type that the table lacks.
 const NO_TYPE: u32 = 255;
 
@@ -68,6 +71,7 @@ pub fn numbers<'a>(message: &Message, source: &'a [u8]) -> Numbers<'a> {
         Message::Cancel { first, last } => of(9, first, last, 0, &[]),
         Message::Choke => of(CHOKE, 0, 0, 0, &[]),
         Message::Unchoke => of(UNCHOKE, 0, 0, 0, &[]),
+        Message::Empty { kind } => of(EMPTY + u32::from(kind), 0, 0, 0, &[]),
     }
 }
 
@@ -106,7 +110,7 @@ pub fn with_unused<'a>(
     if ![DATA, ACK].contains(&message.kind) {
         changed.number = random.long_words(1)[0];
     }
-    if [CHOKE, UNCHOKE].contains(&message.kind) {
+    if [CHOKE, UNCHOKE].contains(&message.kind) || message.kind >= EMPTY {
         changed.first = random.number();
         changed.last = random.number();
     }
@@ -118,14 +122,19 @@ pub fn with_unused<'a>(
 }
 
 /// Numbers that no message has, made of those of one: a type that the table
-/// lacks, in a byte or in more, whose low byte may then be a type; or a HANDSHAKE
-/// with options that the table lacks or that are never written.
+/// lacks, in a byte or in more, whose low byte may then be a type; an empty
+/// message that there is none of; or a HANDSHAKE with options that the table lacks
+/// or that are never written.
 pub fn of_no_message<'a>(random: &mut Random, message: Numbers<'a>) -> Numbers<'a> {
     let mut changed = message;
-    match random.below(4) {
+    match random.below(5) {
         0 => changed.kind = 5 + random.below(3),
         1 => changed.kind = 12 + random.below(244),
-        2 => changed.kind = message.kind + 256 * (1 + random.below((1 << 24) - 1)),
+        2 => changed.kind = message.kind % 256 + 256 * (2 + random.below((1 << 24) - 2)),
+        3 => {
+            let of_type = random.one_of(&[0, 1, 2, 4, 5, 7, 10, 11, 12, 255]);
+            changed.kind = EMPTY + of_type;
+        }
         _ => {
             changed.kind = HANDSHAKE;
             let any = 2 + random.below(u32::MAX - 1);

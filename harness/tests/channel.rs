@@ -1,5 +1,5 @@
 //! The proved entry points against `second`'s, call by call, on random lists of
-//! calls in any state and in any rooms. No expected value comes from the proved
+//! calls in any state and in any rooms, under either method. No expected value comes from the proved
 //! code. A failure names the seed, which makes the same calls again, and the
 //! call.
 
@@ -11,17 +11,21 @@ use harness::lists::List;
 use harness::packs::{random_length, Pack};
 use harness::random::Random;
 use second::channel::Sizes;
-use second::wire::MIN_SIZE;
+use second::tree::chunk_count;
+use second::wire::{Addressing, MIN_SIZE};
 
 /// How many lists there are, how many calls a list has, and how often each
 /// number must come.
 const LISTS: u32 = 1_000;
-const CALLS: u32 = 190;
+const CALLS: u32 = 200;
 const OFTEN: usize = 200;
 
-/// How often each number must come in a state of another version, and how often
-/// a chunk must be written, and it be asked, in words that no call writes.
+/// How often each number must come in a state without an order, and how often a
+/// chunk must be written, and it be asked, in words that no call writes.
 const IN_ODD_STATES: usize = 50;
+
+/// How many calls there must be in the end.
+const LEAST_CALLS: usize = 200_000;
 
 /// How many rooms there are, and which of them is the reply room.
 const ROOMS: usize = 7;
@@ -31,7 +35,7 @@ const REPLY: usize = 6;
 const COUNTS: [u32; 6] = [1, 32, 33, 257, 511, 512];
 
 /// What beginning and adding can answer.
-const OF_COMPOSING: [(&str, &[usize]); 2] = [("begin", &[0, 11]), ("add", &[0, 1, 2, 3, 11])];
+const OF_COMPOSING: [(&str, &[usize]); 2] = [("begin", &[0, 11]), ("add", &[0, 1, 2, 3, 11, 12])];
 
 /// What is answered where the state room is too short.
 const OF_SHORT: [(&str, &[usize]); 6] = [
@@ -43,8 +47,9 @@ const OF_SHORT: [(&str, &[usize]); 6] = [
     ("ask", &[11]),
 ];
 
-/// What is answered in a state of another version, the refused starts left out.
-const OF_VERSIONS: [(&str, &[usize]); 6] = [
+/// What is answered in a state without an order, of another version or of no
+/// method, the refused starts left out.
+const WITHOUT_ORDER: [(&str, &[usize]); 6] = [
     ("start", &[0]),
     ("build", &[0]),
     ("open", &[12]),
@@ -54,27 +59,45 @@ const OF_VERSIONS: [(&str, &[usize]); 6] = [
 ];
 
 #[test]
-fn random_lists() {
+fn random_lists_under_ranges() {
+    random_lists(Addressing::Ranges);
+}
+
+#[test]
+fn random_lists_under_bins() {
+    let counts = random_lists(Addressing::Bins);
+    assert!(counts.bins.iter().all(|&times| times >= OFTEN));
+}
+
+fn random_lists(addressing: Addressing) -> Counts {
     let mut counts = Counts::default();
     for seed in 0..LISTS {
         let mut random = Random::new(seed);
         let length = random_length(&mut random);
-        run(seed, random, length, &mut counts);
+        run(addressing, seed, random, length, &mut counts);
     }
     for (seed, count) in (LISTS..).zip(COUNTS) {
         let mut random = Random::new(seed);
         let length = 1_024 * (count - 1) + 1 + random.below(1_024);
-        run(seed, random, length, &mut counts);
+        run(addressing, seed, random, length, &mut counts);
     }
-    println!("{counts}");
+    println!("{addressing:?}: {counts}");
+    check(&counts);
+    counts
+}
+
+/// All that a list may meet has been met often.
+fn check(counts: &Counts) {
+    assert!((0..15).map(|number| counts.of(number)).sum::<usize>() >= LEAST_CALLS);
     for number in 0..15 {
         let times = counts.of(number);
         assert!(times >= OFTEN, "{number} is rare: {times} times");
     }
     demand("all", &counts.numbers, &OF_COMPOSING, OFTEN);
     demand("too short", &counts.short, &OF_SHORT, OFTEN);
-    demand("versions", &counts.versions, &OF_VERSIONS, IN_ODD_STATES);
-    let Counts {
+    demand("versions", &counts.versions, &WITHOUT_ORDER, IN_ODD_STATES);
+    demand("methods", &counts.methods, &WITHOUT_ORDER, IN_ODD_STATES);
+    let &Counts {
         uncanonical,
         opened,
         stored,
@@ -90,11 +113,11 @@ fn random_lists() {
 }
 
 /// One list of calls on a store of a pack.
-fn run(seed: u32, mut random: Random, length: u32, counts: &mut Counts) {
+fn run(addressing: Addressing, seed: u32, mut random: Random, length: u32, counts: &mut Counts) {
     let pack = Pack::new(&mut random, length);
-    let mut list = List::new(random, &pack);
+    let mut list = List::new(addressing, random, &pack);
     for number in 0..CALLS {
-        let case = format!("seed {seed}, length {length}, call {number}");
+        let case = format!("{addressing:?}, seed {seed}, length {length}, call {number}");
         if number == 0 && !list.random.one_in(8) {
             let start = list.start();
             counts.add(&start, list.call(&case, &start).number);
@@ -117,14 +140,26 @@ fn run(seed: u32, mut random: Random, length: u32, counts: &mut Counts) {
 fn made(list: &mut List, case: &str, call: &Call, counts: &mut Counts) {
     let held = list.held();
     let own = is_in_reply_room(&list.store, call);
-    let (has_version, canonical) = (list.store.has_version(), list.store.is_canonical());
+    let words = list.store.kind();
     let told = list.call(case, call);
     counts.add(call, told.number);
-    counts.add_state(call, told.number, has_version, canonical);
+    counts.add_state(call, told.number, words);
+    if told.number == 0 {
+        count_bins(&list.store, call, counts);
+    }
     if !call.composes() {
-        counts.taken(&told, held != list.held(), own);
+        let reply = list.store.reply(&told);
+        counts.taken(told.number, &reply, held != list.held(), own);
     } else if let Some(take) = list.taken_by_peer(&told) {
         peer_takes(list, case, &take, counts);
+    }
+}
+
+/// Counts what was taken in by a store under bins.
+fn count_bins(store: &Both, call: &Call, counts: &mut Counts) {
+    let state = store.state();
+    if let (Addressing::Bins, Call::Take { datagram, .. }) = (state.addressing, call) {
+        counts.add_bins(datagram, chunk_count(state.length));
     }
 }
 
@@ -180,7 +215,7 @@ fn small_room(list: &mut List, case: &str, call: &Call, counts: &mut Counts) {
 /// The same call, if it is lent a state, with too few words of it.
 fn short_state(random: &mut Random, store: &Both, case: &str, call: &Call, counts: &mut Counts) {
     if !call.composes() {
-        let words = random.one_of(&[0, 1, 8, 9, 10, 72, 73]);
+        let words = random.one_of(&[0, 1, 8, 9, 10, 11, 73, 74]);
         let number = store.call_short(case, call, words);
         count(&mut counts.short, call, number);
     }

@@ -1,85 +1,21 @@
 //! Whole downloads from one store to another, and the values that 01 names,
-//! through the proved entry points of the channels. Each call goes to `second`
-//! too, and must give and leave the same.
+//! through the proved entry points of the channels, under either method. Each
+//! call goes to `second` too, and must give and leave the same.
 
-use harness::calls::{Call, Told};
+use harness::caller::Caller;
 use harness::came::leave_least;
-use harness::channels::Both;
 use harness::packets::*;
 use harness::packs::Pack;
 use harness::random::Random;
-use harness::rooms::Rooms;
-use second::channel::Phase;
-use second::sha256::Digest;
+use second::wire::Addressing;
 use second::{answer, hex};
 
 /// The length of 01's pack of seven chunks.
 const SEVEN: u32 = 7_162;
 
-/// A store that is called, in rooms of some length.
-struct Caller(Both);
-
-impl Caller {
-    /// Without an order, in rooms with anything in them.
-    fn new(random: &mut Random, length: u32) -> Self {
-        Caller(Both::unstarted(Rooms::random(random, length)))
-    }
-
-    /// With an order, and nothing else.
-    fn started(random: &mut Random, root: &Digest, length: u32) -> Self {
-        let mut caller = Caller::new(random, length);
-        assert_eq!(caller.start(root, length), 0);
-        caller
-    }
-
-    /// The number of a call, and its reply.
-    fn call(&mut self, call: &Call) -> (u32, Vec<u8>) {
-        let told = self.0.call("a call by hand", call);
-        (told.number, self.0.reply(&told))
-    }
-
-    fn start(&mut self, root: &Digest, length: u32) -> u32 {
-        let root = *root;
-        self.call(&Call::Start { root, length }).0
-    }
-
-    fn build(&mut self, length: u32, content: &[u8]) -> u32 {
-        let content = content.to_vec();
-        self.call(&Call::Build { length, content }).0
-    }
-
-    fn open(&mut self, id: u32) -> (u32, Vec<u8>) {
-        self.call(&Call::Open { id })
-    }
-
-    fn take(&mut self, clock: u64, id: u32, datagram: &[u8]) -> (u32, Vec<u8>) {
-        let datagram = datagram.to_vec();
-        self.call(&Call::Take {
-            clock,
-            id,
-            datagram,
-        })
-    }
-
-    fn write(&mut self, id: u32, chunk: u32, clock: u64) -> (u32, Vec<u8>) {
-        self.call(&Call::Write { id, chunk, clock })
-    }
-
-    /// The number, the held count and whether all are held.
-    fn ask(&mut self) -> (u32, u32, u32) {
-        let Told { number, held, .. } = self.0.call("asked by hand", &Call::Ask);
-        (number, held[0], held[1])
-    }
-
-    /// The place of the row that is in use under an ID.
-    fn row(&self, id: u32) -> Option<usize> {
-        let mut rows = self.0.state().rows.iter();
-        rows.position(|row| row.phase != Phase::Free && row.id == id)
-    }
-}
-
 /// Two stores, of which one has the pack, with a channel between them.
 struct Download<'a> {
+    addressing: Addressing,
     pack: &'a Pack,
     whole: Caller,
     store: Caller,
@@ -91,17 +27,21 @@ const OURS: u32 = 5;
 
 impl<'a> Download<'a> {
     /// Our store calls, the whole one answers, and so both ends are open.
-    fn new(random: &mut Random, pack: &'a Pack) -> Self {
-        let length = pack.length();
-        let mut whole = Caller::new(random, length);
-        assert_eq!(whole.build(length, &pack.content), 0);
-        let mut store = Caller::started(random, pack.built.root(), length);
+    fn new(addressing: Addressing, random: &mut Random, pack: &'a Pack) -> Self {
+        let mut whole = Caller::built(addressing, random, pack);
+        let (root, length) = (pack.built.root(), pack.length());
+        let mut store = Caller::started(addressing, random, root, length);
         let (number, calling) = store.open(OURS);
         assert_eq!((number, calling.len()), (0, 60));
         let (number, answering) = whole.take(0, ITS, &calling);
         assert_eq!((number, answering.len()), (0, 60));
         assert_eq!(store.take(0, 0, &answering), (0, vec![]));
-        Download { pack, whole, store }
+        Download {
+            addressing,
+            pack,
+            whole,
+            store,
+        }
     }
 
     /// Brings a chunk over, with all hashes or the least, and the ACK back; gives
@@ -110,15 +50,14 @@ impl<'a> Download<'a> {
         let (sent, got) = (1_000 + u64::from(chunk), 5_000);
         let (number, written) = self.whole.write(ITS, chunk, sent);
         assert_eq!(number, 0);
-        let mut parts = messages(&written);
+        let mut parts = messages(self.addressing, &written);
         if least {
-            let store = &self.store.0;
-            leave_least(&mut parts, self.pack.count(), chunk, |node| {
-                store.trusts(node)
-            });
+            let trusts = |node| self.store.0.trusts(node);
+            let count = self.pack.count();
+            leave_least(self.addressing, &mut parts, count, chunk, trusts);
         }
         let (number, acknowledgement) = self.store.take(got, 0, &datagram(OURS, &parts));
-        let wanted = datagram(ITS, &[ack(chunk, chunk, got - sent)]);
+        let wanted = datagram(ITS, &[ack(self.addressing, chunk, chunk, got - sent)]);
         assert_eq!((number, &acknowledgement), (0, &wanted));
         assert_eq!(self.whole.take(0, 0, &acknowledgement), (0, vec![]));
         parts.iter().filter(|part| is_integrity(part)).count()
@@ -133,29 +72,36 @@ impl<'a> Download<'a> {
 }
 
 /// "N=7 taken in order, least hashes: chunk 0 the five above; 2 needs leaf 6; 4
-/// needs leaf 10; 1, 3, 5, 6 none. The chunk 0 datagram has 1,250 bytes."
+/// needs leaf 10; 1, 3, 5, 6 none. The chunk 0 datagram has 1,250 bytes." Under
+/// bins, each of its six messages has four bytes fewer.
 #[test]
 fn seven_chunks_in_order() {
-    let mut random = Random::new(7);
-    let pack = Pack::new(&mut random, SEVEN);
-    let mut download = Download::new(&mut random, &pack);
-    let (number, first) = download.whole.write(ITS, 0, 0);
-    assert_eq!((number, first.len()), (0, 1_250));
-    for (chunk, wanted) in (0..).zip([5, 0, 1, 0, 1, 0, 0]) {
-        assert_eq!(download.store.ask(), (0, chunk, 0));
-        assert_eq!(download.chunk(chunk, true), wanted, "chunk {chunk}");
+    for (addressing, size) in METHODS.into_iter().zip([1_226, 1_250]) {
+        let mut random = Random::new(7);
+        let pack = Pack::new(&mut random, SEVEN);
+        let mut download = Download::new(addressing, &mut random, &pack);
+        let (number, first) = download.whole.write(ITS, 0, 0);
+        assert_eq!((number, first.len()), (0, size));
+        for (chunk, wanted) in (0..).zip([5, 0, 1, 0, 1, 0, 0]) {
+            assert_eq!(download.store.ask(), (0, chunk, 0));
+            assert_eq!(download.chunk(chunk, true), wanted, "chunk {chunk}");
+        }
+        download.check_whole();
     }
-    download.check_whole();
 }
 
 /// Packs of other sizes, in any order, with all hashes or the least.
 #[test]
 fn downloads_in_any_order() {
+    METHODS.into_iter().for_each(downloads);
+}
+
+fn downloads(addressing: Addressing) {
     for (seed, count) in (0..).zip([1, 2, 3, 5, 8, 31, 32, 33, 40, 100, 257, 512]) {
         let mut random = Random::new(seed);
         let length = 1_024 * (count - 1) + 1 + random.below(1_024);
         let pack = Pack::new(&mut random, length);
-        let mut download = Download::new(&mut random, &pack);
+        let mut download = Download::new(addressing, &mut random, &pack);
         let mut order: Vec<u32> = (0..count).collect();
         random.shuffle(&mut order);
         for chunk in order {
@@ -172,34 +118,41 @@ fn lengths() {
     let mut caller = Caller::new(&mut random, 524_289);
     let content = random.bytes(524_289);
     for (length, number) in [(0, 12), (524_288, 0), (524_289, 12)] {
-        assert_eq!(caller.start(&[3; 32], length), number, "{length}");
-        let content = &content[..length as usize];
-        assert_eq!(caller.build(length, content), number, "{length}");
+        for method in METHODS.map(Addressing::number) {
+            let content = &content[..length as usize];
+            let started = caller.start(&[3; 32], length, method);
+            let built = caller.build(length, method, content);
+            assert_eq!([started, built], [number; 2], "{length}");
+        }
     }
 }
 
 /// "Datagram of 3 bytes: 1; 4: 5 or done; 2,049: 1."
 #[test]
 fn sizes() {
-    let mut random = Random::new(2);
-    let mut caller = Caller::started(&mut random, &[3; 32], SEVEN);
-    let opening = datagram(0, &[handshake(9, &fixed(&[3; 32]))]);
-    assert_eq!(caller.take(0, 5, &opening).0, 0);
-    assert_eq!(caller.take(0, 0, &[0, 0, 0]).0, 1);
-    assert_eq!(caller.take(0, 0, &datagram(6, &[])).0, 5);
-    assert_eq!(caller.take(0, 0, &datagram(5, &[])).0, 0);
-    let chokes = |size: usize| datagram(5, &[vec![CHOKE; size - 4]]);
-    assert_eq!(caller.take(0, 0, &chokes(2_048)).0, 0);
-    assert_eq!(caller.take(0, 0, &chokes(2_049)).0, 1);
+    for addressing in METHODS {
+        let started = Caller::started(addressing, &mut Random::new(2), &[3; 32], SEVEN);
+        let mut caller = started.opened(5, 9);
+        assert_eq!(caller.take(0, 0, &[0, 0, 0]).0, 1);
+        assert_eq!(caller.take(0, 0, &datagram(6, &[])).0, 5);
+        assert_eq!(caller.take(0, 0, &datagram(5, &[])).0, 0);
+        let chokes = |size: usize| datagram(5, &[vec![CHOKE; size - 4]]);
+        assert_eq!(caller.take(0, 0, &chokes(2_048)).0, 0);
+        assert_eq!(caller.take(0, 0, &chokes(2_049)).0, 1);
+    }
 }
 
 /// "16 open: 6; one closed: its row is used." Opened by us and by peers in turn.
 #[test]
 fn sixteen_channels() {
-    let mut random = Random::new(3);
+    METHODS.into_iter().for_each(sixteen);
+}
+
+fn sixteen(addressing: Addressing) {
     let root = [3; 32];
-    let mut caller = Caller::started(&mut random, &root, SEVEN);
-    let opening = |source| datagram(0, &[handshake(source, &fixed(&root))]);
+    let mut caller = Caller::started(addressing, &mut Random::new(3), &root, SEVEN);
+    let options = fixed(addressing, &root);
+    let opening = |source| datagram(0, &[handshake(source, &options)]);
     for id in 1..=16 {
         let number = match id % 2 {
             0 => caller.open(id).0,
@@ -214,7 +167,7 @@ fn sixteen_channels() {
     assert_eq!(caller.take(0, 0, &closing), (0, vec![]));
     assert_eq!(caller.row(7), None);
     let (number, reply) = caller.take(0, 17, &opening(117));
-    let ours = datagram(117, &[handshake(17, &fixed(&root))]);
+    let ours = datagram(117, &[handshake(17, &options)]);
     assert_eq!((number, reply, caller.row(17)), (0, ours, Some(6)));
     assert_eq!(caller.open(18).0, full);
 }
@@ -222,14 +175,14 @@ fn sixteen_channels() {
 /// "Range 6..6 with N=7 taken, 7..7: 7."
 #[test]
 fn ranges() {
-    let mut random = Random::new(4);
-    let mut caller = Caller::started(&mut random, &[3; 32], SEVEN);
-    let opening = datagram(0, &[handshake(9, &fixed(&[3; 32]))]);
-    assert_eq!(caller.take(0, 5, &opening).0, 0);
-    for kind in [HAVE, REQUEST, CANCEL] {
-        for (chunk, number) in [(6, 0), (7, 7)] {
-            let message = ranged(kind, chunk, chunk);
-            assert_eq!(caller.take(0, 0, &datagram(5, &[message])).0, number);
+    for addressing in METHODS {
+        let started = Caller::started(addressing, &mut Random::new(4), &[3; 32], SEVEN);
+        let mut caller = started.opened(5, 9);
+        for kind in [HAVE, REQUEST, CANCEL] {
+            for (chunk, number) in [(6, 0), (7, 7)] {
+                let message = ranged(addressing, kind, chunk, chunk);
+                assert_eq!(caller.take(0, 0, &datagram(5, &[message])).0, number);
+            }
         }
     }
 }
@@ -240,8 +193,9 @@ fn ranges() {
 #[test]
 fn the_replayed_example() {
     let mut random = Random::new(5);
-    let mut caller = Caller::started(&mut random, &[0; 32], 1);
-    let opening = datagram(0, &[handshake(0x11, &fixed(&[0; 32]))]);
+    let ranges = Addressing::Ranges;
+    let mut caller = Caller::started(ranges, &mut random, &[0; 32], 1);
+    let opening = datagram(0, &[handshake(0x11, &fixed(ranges, &[0; 32]))]);
     let (number, reply) = caller.take(0, 1, &opening);
     let root = "00".repeat(32);
     let wanted = [

@@ -1,8 +1,10 @@
 //! The comparisons. What is wanted comes from the independent second program, or
 //! is worked out by hand from the papers.
 
+mod bins;
 mod channel;
 mod channel_values;
+mod methods;
 mod sha256;
 mod state_room;
 mod store;
@@ -10,4 +12,5 @@ mod tree;
 mod wire;
 mod wire_adding;
 mod wire_by_hand;
+mod wire_by_hand_bins;
 mod wire_by_hand_refused;

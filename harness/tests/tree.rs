@@ -2,11 +2,13 @@
 //! lengths, peaks and sending orders. No expected value comes from the proved
 //! code.
 
-use harness::packets::{datagram, ranged, INTEGRITY};
+use harness::packets::{datagram, ranged, with_bin, EMPTY, EVERYTHING, INTEGRITY};
 use harness::proved::tree as proved;
 use harness::proved::wire::{layout, ENTRY_WORDS, LAID_WORDS};
 use harness::random::Random;
+use ppspp::calls;
 use second::tree;
+use second::wire::Addressing;
 
 /// How many nodes, ranges and lengths are tried beside those named here.
 const TIMES: u32 = 20_000;
@@ -86,20 +88,53 @@ fn ranges() {
     let any: Vec<(u32, u32)> = (0..TIMES).map(|_| any_range(&mut random)).collect();
     let (mut nodes, mut others) = (0, 0);
     for (first, last) in near.chain(FAR_RANGES).chain(any) {
-        let message = [ranged(INTEGRITY, first, last), vec![7; 32]].concat();
-        let (mut entries, mut found) = ([0; ENTRY_WORDS], [0; LAID_WORDS]);
-        let number = layout(&datagram(5, &[message]), &mut entries, &mut found);
         let wanted = match tree::node_of_range(first, last) {
             Some(node) => (0, node),
             None => (2, 0),
         };
-        assert_eq!((number, entries[0]), wanted, "range {first}..{last}");
+        let name = ranged(Addressing::Ranges, INTEGRITY, first, last);
+        let entered = entered(Addressing::Ranges, &name);
+        assert_eq!(entered, wanted, "range {first}..{last}");
         match wanted {
             (0, _) => nodes += 1,
             _ => others += 1,
         }
     }
     assert!(nodes >= 1_000 && others >= 1_000, "{nodes}, {others}");
+}
+
+/// Of an INTEGRITY with such a name, the number that the layout checks give and the
+/// node that they enter, 0 for none.
+fn entered(addressing: Addressing, name: &[u8]) -> (u32, u64) {
+    let message = [name, &[7; 32]].concat();
+    let (mut entries, mut found) = ([0; ENTRY_WORDS], [0; LAID_WORDS]);
+    let datagram = datagram(5, &[message]);
+    let number = layout(addressing.number(), &datagram, &mut entries, &mut found);
+    (number, entries[0])
+}
+
+/// Under bins each number names the node of that number, but for the empty bin and
+/// for everything, and is read as the first and the last chunk that it covers.
+#[test]
+fn bins() {
+    let mut random = Random::new(6);
+    let any: Vec<u32> = (0..TIMES).map(|_| any_node(&mut random)).collect();
+    for bin in (0..=40).chain(FAR_NODES).chain(any) {
+        let name = with_bin(INTEGRITY, bin);
+        let wanted = match bin {
+            EMPTY | EVERYTHING => (2, 0),
+            _ => (0, bin.into()),
+        };
+        assert_eq!(entered(Addressing::Bins, &name), wanted, "bin {bin:x}");
+        let [first, last] = [tree::first_chunk(bin.into()), tree::last_chunk(bin.into())];
+        let mut found = [0; 7];
+        let step = calls::read(&with_bin(3, bin), 0, 0, &mut found);
+        let wanted = match bin {
+            EMPTY => [259, 0, 0, 0, 0, 0, 5],
+            _ => [3, first, last, 0, 0, 0, 5],
+        };
+        assert_eq!((step, found), (1, wanted), "bin {bin:x}");
+    }
 }
 
 /// The range of a node by chance, in half of the cases with one end moved.

@@ -1,22 +1,25 @@
 //! The proved reader of datagrams against `second`'s, call by call, on random
 //! datagrams, on cut ones and on those made by hand, which are also written
-//! again. No expected value comes from the proved code. A failure prints the
+//! again, under either method. No expected value comes from the proved code. A failure prints the
 //! datagram.
 
 use harness::datagrams::{add, begin, layout, read};
+use harness::packets::{other, METHODS};
 use harness::proved::wire::{ENTRY_WORDS, LAID_WORDS};
 use harness::random::Random;
 use second::answer;
 use second::by_hand::parse;
-use second::wire::{self, Message, Options, Step};
+use second::wire::{self, Addressing, Message, Options, Step};
 use second::wire_cases::{cuts, datagrams};
 
 /// How many random datagrams are read.
 const SEEDS: u64 = 40;
 const OF_A_SEED: usize = 1_000;
 
-/// How many random datagrams are cut everywhere.
+/// How many random datagrams are cut everywhere, and how many of the other method
+/// are read.
 const CUT: usize = 400;
+const OTHERS: usize = 10_000;
 
 /// What the layout checks can answer.
 const NUMBERS: [u32; 5] = [0, 1, 2, 3, 11];
@@ -25,9 +28,13 @@ const TOO_SMALL: u32 = answer::ROOM_TOO_SMALL as u32;
 
 #[test]
 fn random_datagrams() {
-    let mut compared = Compared::new(1);
+    METHODS.into_iter().for_each(random_under);
+}
+
+fn random_under(addressing: Addressing) {
+    let mut compared = Compared::new(addressing, 1);
     for seed in 0..SEEDS {
-        for datagram in datagrams(seed, OF_A_SEED) {
+        for datagram in datagrams(addressing, seed, OF_A_SEED) {
             compared.datagram(&datagram);
         }
     }
@@ -44,29 +51,57 @@ fn random_datagrams() {
 
 #[test]
 fn every_cut() {
-    let mut compared = Compared::new(2);
-    for datagram in datagrams(1_000, CUT) {
-        for cut in cuts(&datagram) {
-            compared.datagram(cut);
+    for addressing in METHODS {
+        let mut compared = Compared::new(addressing, 2);
+        for datagram in datagrams(addressing, 1_000, CUT) {
+            for cut in cuts(&datagram) {
+                compared.datagram(cut);
+            }
+        }
+        println!("cut datagrams: {compared}");
+    }
+}
+
+/// Those that were made for the other method.
+#[test]
+fn datagrams_of_the_other_method() {
+    for addressing in METHODS {
+        let mut compared = Compared::new(addressing, 5);
+        for datagram in datagrams(other(addressing), 3_000, OTHERS) {
+            compared.datagram(&datagram);
+        }
+        println!("datagrams of the other method: {compared}");
+        for number in NUMBERS {
+            let times = compared.numbers[number as usize];
+            assert!(times >= 50, "{number} is rare: {compared}");
         }
     }
-    println!("cut datagrams: {compared}");
 }
 
 #[test]
 fn datagrams_made_by_hand() {
-    let text = include_str!("../../tests/wire/datagrams.txt");
-    let mut compared = Compared::new(3);
+    let ranges = include_str!("../../tests/wire/datagrams.txt");
+    let bins = include_str!("../../tests/wire/bins.txt");
+    made_by_hand(Addressing::Ranges, ranges, 368);
+    made_by_hand(Addressing::Bins, bins, 233);
+}
+
+/// Those of a text, which has so many, for a method. Under the other one they are
+/// compared, too.
+fn made_by_hand(addressing: Addressing, text: &str, count: usize) {
+    let mut compared = Compared::new(addressing, 3);
+    let mut under_other = Compared::new(other(addressing), 3);
     let all = parse(text).expect("the datagrams made by hand");
-    assert_eq!(all.len(), 368);
+    assert_eq!(all.len(), count);
     for hand_made in &all {
         let datagram = &hand_made.datagram;
         let got = compared.layout_in(datagram, ENTRY_WORDS, LAID_WORDS);
         let wanted = u32::from(hand_made.number);
         assert_eq!(got, wanted, "line {}: both", hand_made.line);
         compared.datagram(datagram);
+        under_other.datagram(datagram);
         if let Some(destination) = datagram.first_chunk() {
-            written_again(u32::from_be_bytes(*destination), datagram);
+            written_again(addressing, u32::from_be_bytes(*destination), datagram);
         }
     }
     println!("datagrams made by hand: {compared}");
@@ -75,10 +110,10 @@ fn datagrams_made_by_hand() {
 /// Begins a datagram and adds the messages of another to it, up to the first
 /// that is refused or cannot be read. If its layout is sound and it has no other
 /// options, it stands there again, byte for byte.
-fn written_again(destination: u32, datagram: &[u8]) {
+fn written_again(addressing: Addressing, destination: u32, datagram: &[u8]) {
     let mut sent = begin(&[0; wire::MAX_SIZE], destination);
     let (mut len, mut at, mut other) = (sent.len, wire::MIN_SIZE, false);
-    while let Step::Read { message, next } = wire::step(datagram, at) {
+    while let Step::Read { message, next } = wire::step(addressing, datagram, at) {
         other |= matches!(
             message,
             Message::Handshake {
@@ -86,14 +121,14 @@ fn written_again(destination: u32, datagram: &[u8]) {
                 ..
             }
         );
-        sent = add(&sent.room, len, &message, datagram);
+        sent = add(addressing, &sent.room, len, &message, datagram);
         if sent.number != 0 {
             break;
         }
         (len, at) = (sent.len, next);
     }
     let same = datagram == &sent.room[..len];
-    if wire::layout(datagram, &mut Vec::new()).is_ok() && !other {
+    if wire::layout(addressing, datagram, &mut Vec::new()).is_ok() && !other {
         assert!(
             same,
             "{datagram:02x?} written again: {:02x?}",
@@ -105,13 +140,15 @@ fn written_again(destination: u32, datagram: &[u8]) {
 /// Rooms of every length around the least ones.
 #[test]
 fn rooms_around_the_least() {
-    let mut compared = Compared::new(4);
-    for datagram in datagrams(2_000, 50) {
-        for entries in [0, 1, 50, 97, 98, 99, 200] {
-            for found in [0, 1, 5, 6, 7, 20] {
-                let number = compared.layout_in(&datagram, entries, found);
-                let too_small = entries < 98 || found < 6;
-                assert_eq!(number == TOO_SMALL, too_small, "both");
+    for addressing in METHODS {
+        let mut compared = Compared::new(addressing, 4);
+        for datagram in datagrams(addressing, 2_000, 50) {
+            for entries in [0, 1, 50, 98, 109, 110, 111, 200] {
+                for found in [0, 1, 5, 6, 7, 20] {
+                    let number = compared.layout_in(&datagram, entries, found);
+                    let too_small = entries < 110 || found < 6;
+                    assert_eq!(number == TOO_SMALL, too_small, "both");
+                }
             }
         }
     }
@@ -119,6 +156,7 @@ fn rooms_around_the_least() {
 
 /// Calls of the reader, compared.
 struct Compared {
+    addressing: Addressing,
     random: Random,
     /// How often each number was that of a layout.
     numbers: [usize; 12],
@@ -127,8 +165,9 @@ struct Compared {
 }
 
 impl Compared {
-    fn new(seed: u32) -> Self {
+    fn new(addressing: Addressing, seed: u32) -> Self {
         Compared {
+            addressing,
             random: Random::new(seed),
             numbers: [0; 12],
             steps: [0; 3],
@@ -167,7 +206,7 @@ impl Compared {
     fn layout_in(&mut self, datagram: &[u8], entries: usize, found: usize) -> u32 {
         let entries = self.random.long_words(entries);
         let found = self.random.long_words(found);
-        let number = layout(datagram, &entries, &found);
+        let number = layout(self.addressing, datagram, &entries, &found);
         self.numbers[number as usize] += 1;
         number
     }
@@ -175,7 +214,7 @@ impl Compared {
     fn read_at(&mut self, datagram: &[u8], at: usize) -> Option<usize> {
         let before = self.random.long_words(7);
         let before = before.try_into().expect("seven words");
-        let (step, next) = read(datagram, at, &before);
+        let (step, next) = read(self.addressing, datagram, at, &before);
         self.steps[step as usize] += 1;
         next
     }
@@ -187,7 +226,7 @@ impl Compared {
 
 impl std::fmt::Display for Compared {
     fn fmt(&self, f: &mut std::fmt::Formatter) -> std::fmt::Result {
-        write!(f, "{} layouts, ", self.layouts())?;
+        write!(f, "{:?}: {} layouts, ", self.addressing, self.layouts())?;
         for number in NUMBERS {
             write!(f, "{number}: {}, ", self.numbers[number as usize])?;
         }

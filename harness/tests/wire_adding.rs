@@ -1,12 +1,14 @@
 //! The proved writer of datagrams against `second`'s, call by call, on random
-//! datagrams and messages. No expected value comes from the proved code. A
-//! failure prints the datagram so far and the message.
+//! datagrams and messages, under either method. No expected value comes from the
+//! proved code. A failure prints the datagram so far and the message.
 
 use harness::composing::{data, length_told};
 use harness::datagrams::{add, add_as, begin, layout};
 use harness::numbers::{numbers, of_no_message, with_unused, UNWRITABLE};
+use harness::packets::METHODS;
 use harness::proved::wire::{ENTRY_WORDS, LAID_WORDS};
 use harness::random::Random;
+use second::wire::Addressing;
 use second::wire_cases::{datagrams, messages};
 
 /// How many messages are added to random datagrams.
@@ -29,18 +31,22 @@ type Counts = [usize; 12];
 /// behind them; half of them with anything in the numbers that have no use.
 #[test]
 fn random_adds() {
+    METHODS.into_iter().for_each(random_adds_under);
+}
+
+fn random_adds_under(addressing: Addressing) {
     let mut random = Random::new(5);
     let mut counts = [0; 12];
     for seed in 0..SEEDS {
-        let so_far = datagrams(3_000 + seed, OF_A_SEED);
-        for (so_far, (message, source)) in so_far.zip(messages(seed, OF_A_SEED)) {
+        let so_far = datagrams(addressing, 3_000 + seed, OF_A_SEED);
+        for (so_far, (message, source)) in so_far.zip(messages(addressing, seed, OF_A_SEED)) {
             let (room, len) = told_room(&mut random, &so_far);
             let any_bytes = any_bytes(&mut random);
             let sent = if random.one_in(2) {
                 let numbers = with_unused(&mut random, numbers(&message, &source), &any_bytes);
-                add_as(&room, len, numbers, &message, &source)
+                add_as(addressing, &room, len, numbers, &message, &source)
             } else {
-                add(&room, len, &message, &source)
+                add(addressing, &room, len, &message, &source)
             };
             counts[sent.number as usize] += 1;
         }
@@ -52,14 +58,18 @@ fn random_adds() {
 /// a message that cannot be written.
 #[test]
 fn numbers_of_no_message() {
+    METHODS.into_iter().for_each(numbers_of_no_message_under);
+}
+
+fn numbers_of_no_message_under(addressing: Addressing) {
     let mut random = Random::new(9);
     let mut counts = [0; 12];
     for seed in 0..SEEDS {
-        let so_far = datagrams(5_000 + seed, OF_A_SEED);
-        for (so_far, (message, source)) in so_far.zip(messages(500 + seed, OF_A_SEED)) {
+        let so_far = datagrams(addressing, 5_000 + seed, OF_A_SEED);
+        for (so_far, (message, source)) in so_far.zip(messages(addressing, 500 + seed, OF_A_SEED)) {
             let (room, len) = told_room(&mut random, &so_far);
             let numbers = of_no_message(&mut random, numbers(&message, &source));
-            let sent = add_as(&room, len, numbers, &UNWRITABLE, &[]);
+            let sent = add_as(addressing, &room, len, numbers, &UNWRITABLE, &[]);
             counts[sent.number as usize] += 1;
         }
     }
@@ -69,13 +79,17 @@ fn numbers_of_no_message() {
 /// The same for DATA with any two numbers for its range.
 #[test]
 fn data_with_any_range() {
+    METHODS.into_iter().for_each(data_with_any_range_under);
+}
+
+fn data_with_any_range_under(addressing: Addressing) {
     let mut random = Random::new(11);
     let mut counts = [0; 12];
     for seed in 0..SEEDS {
-        for so_far in datagrams(7_000 + seed, OF_A_SEED) {
+        for so_far in datagrams(addressing, 7_000 + seed, OF_A_SEED) {
             let (room, len) = told_room(&mut random, &so_far);
             let (message, source) = data(&mut random);
-            let sent = add(&room, len, &message, &source);
+            let sent = add(addressing, &room, len, &message, &source);
             counts[sent.number as usize] += 1;
         }
     }
@@ -119,6 +133,10 @@ fn demand(what: &str, counts: &Counts, wanted: &[u32]) {
 /// Datagrams begun, and messages added until some are refused.
 #[test]
 fn lists_of_adds() {
+    METHODS.into_iter().for_each(lists_of_adds_under);
+}
+
+fn lists_of_adds_under(addressing: Addressing) {
     let mut random = Random::new(6);
     let mut counts = [0; 12];
     let mut longest = 0;
@@ -129,8 +147,8 @@ fn lists_of_adds() {
         assert_eq!((sent.number, sent.len), (0, 4), "both begin");
         let mut len = sent.len;
         let mut refusals = 0;
-        for (message, source) in messages(10_000 + seed, 400) {
-            sent = add(&sent.room, len, &message, &source);
+        for (message, source) in messages(addressing, 10_000 + seed, 400) {
+            sent = add(addressing, &sent.room, len, &message, &source);
             counts[sent.number as usize] += 1;
             if sent.number == 0 {
                 len = sent.len;
@@ -143,7 +161,11 @@ fn lists_of_adds() {
         }
         let entries = random.long_words(ENTRY_WORDS);
         let found = random.long_words(LAID_WORDS);
-        assert_eq!(layout(&sent.room[..len], &entries, &found), 0, "both");
+        assert_eq!(
+            layout(addressing, &sent.room[..len], &entries, &found),
+            0,
+            "both"
+        );
         longest = longest.max(len);
     }
     println!(

@@ -4,9 +4,9 @@
 //! Each call gives back a number of the header's `enum ppspp_answer`, and any numbers and bytes get one.
 //!
 //! ```
-//! use ppspp::{calls, Lend, OwnedRooms};
+//! use ppspp::{calls, Lend, Order, OwnedRooms};
 //! let mut rooms = OwnedRooms::for_length(1_500);
-//! assert_eq!(calls::build(rooms.lend(), 1_500, &[7; 1_500]), 0);
+//! assert_eq!(calls::build(rooms.lend(), &Order::to_build(1_500), &[7; 1_500]), 0);
 //! assert_eq!(calls::open(rooms.lend(), 17), (0, 60));
 //! assert_eq!(calls::open(rooms.lend(), 17), (14, 0));
 //! assert_eq!(calls::ask(rooms.view().state, rooms.view().map), (0, 2, 1));
@@ -18,6 +18,7 @@
 
 pub use crate::numbers::Numbers;
 
+use crate::order::Order;
 use crate::rooms::Rooms;
 use crate::sys;
 
@@ -82,13 +83,15 @@ macro_rules! on_rooms {
 }
 
 /// Starts an empty store under an order.
-pub fn start(rooms: Rooms<'_>, root: &[u8; sys::PPSPP_ROOT_BYTES], length: u32) -> u32 {
-    on_rooms!(ppspp_start, rooms, root.as_ptr(), length)
+pub fn start(rooms: Rooms<'_>, order: &Order) -> u32 {
+    let order = sys::ppspp_order::from(*order);
+    on_rooms!(ppspp_start, rooms, &order)
 }
 
-/// Builds a whole store of a length from its content; the root found is in the state.
-pub fn build(rooms: Rooms<'_>, length: u32, content: &[u8]) -> u32 {
-    on_rooms!(ppspp_build, rooms, length, content.as_ptr(), content.len())
+/// Builds a whole store from its content. The order's root is not looked at; the one found is in the state.
+pub fn build(rooms: Rooms<'_>, order: &Order, content: &[u8]) -> u32 {
+    let order = sys::ppspp_order::from(*order);
+    on_rooms!(ppspp_build, rooms, &order, content.as_ptr(), content.len())
 }
 
 /// Opens a channel under an ID; the reply is our HANDSHAKE.
@@ -138,14 +141,15 @@ pub fn begin(room: &mut [u8], destination: u32) -> Answered {
     (number, len)
 }
 
-/// Adds a message to the datagram in the first `so_far` bytes of a room.
-pub fn add(room: &mut [u8], so_far: usize, message: Numbers<'_>) -> Answered {
+/// Adds a message to the datagram in the first `so_far` bytes of a room, under the addressing of a number.
+pub fn add(room: &mut [u8], addressing: u32, so_far: usize, message: Numbers<'_>) -> Answered {
     let mut len = NO_LENGTH;
     // SAFETY: two slices, valid for their lengths, the mutable one overlaps nothing, and a place of this function.
     let number = unsafe {
         sys::ppspp_add(
             room.as_mut_ptr(),
             room.len(),
+            addressing,
             so_far,
             message.kind,
             message.first,
@@ -159,9 +163,16 @@ pub fn add(room: &mut [u8], so_far: usize, message: Numbers<'_>) -> Answered {
     (number, len)
 }
 
-/// What stands at a place of a datagram, a number of the header's `enum ppspp_step`. Any place is read as if a message
-/// began there, the first four too. Of a message, `found` gets the words; else it stays as it is.
-pub fn read(datagram: &[u8], at: usize, found: &mut [u64; sys::PPSPP_FOUND_WORDS]) -> u32 {
+/// What stands at a place of a datagram under the addressing of a number, itself a number of the header's
+/// `enum ppspp_step`. Any place is read as if a message began there, the first four too. Of a message, `found` gets the
+/// words; else it stays as it is.
+pub fn read(
+    datagram: &[u8],
+    addressing: u32,
+    at: usize,
+    found: &mut [u64; sys::PPSPP_FOUND_WORDS],
+) -> u32 {
+    let (bytes, count) = (datagram.as_ptr(), datagram.len());
     // SAFETY: a slice, valid for its length, and an array of as many words as the library writes.
-    unsafe { sys::ppspp_read(datagram.as_ptr(), datagram.len(), at, found.as_mut_ptr()) }
+    unsafe { sys::ppspp_read(bytes, count, addressing, at, found.as_mut_ptr()) }
 }

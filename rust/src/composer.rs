@@ -1,37 +1,62 @@
 //! Composing a datagram.
 
 use crate::calls;
-use crate::message::{Message, Options};
+use crate::message::{EmptyKind, Message, Options};
+use crate::order::Addressing;
 use crate::refusal::Refusal;
 use crate::sizes::ROOT_BYTES;
 
 /// A datagram that is being composed in a room. A message is added with [`add`](Composer::add), or builder-style:
 ///
 /// ```
-/// use ppspp::{messages, Composer, Message};
+/// use ppspp::{messages, Addressing, Composer, Message};
 /// let mut room = [0; ppspp::sizes::REPLY_BYTES];
-/// let datagram = Composer::begin(&mut room, 17)?.have(0, 6)?.unchoke()?.finish();
-/// assert_eq!(datagram, [0, 0, 0, 17, 3, 0, 0, 0, 0, 0, 0, 0, 6, 11]);
-/// assert_eq!(messages(datagram).next(), Some(Ok((4, Message::Have { first: 0, last: 6 }))));
+/// let have = Message::Have { first: 0, last: 3 };
+///
+/// let ranges = Addressing::Ranges;
+/// let datagram = Composer::begin(&mut room, ranges, 17)?.with(have)?.unchoke()?.finish();
+/// assert_eq!(datagram, [0, 0, 0, 17, 3, 0, 0, 0, 0, 0, 0, 0, 3, 11]);
+/// assert_eq!(messages(ranges, datagram).next(), Some(Ok((4, have))));
+///
+/// let bins = Addressing::Bins;
+/// let datagram = Composer::begin(&mut room, bins, 17)?.with(have)?.unchoke()?.finish();
+/// assert_eq!(datagram, [0, 0, 0, 17, 3, 0, 0, 0, 3, 11]);
+/// assert_eq!(messages(bins, datagram).next(), Some(Ok((4, have))));
 /// # Ok::<(), ppspp::Refusal>(())
 /// ```
 #[derive(Debug)]
 pub struct Composer<'a> {
     room: &'a mut [u8],
+    /// The number of the addressing.
+    method: u32,
     len: usize,
 }
 
 impl<'a> Composer<'a> {
-    /// Begins a datagram in a room of at least 2,048 bytes; its destination is the peer's channel.
-    pub fn begin(room: &'a mut [u8], destination: u32) -> Result<Composer<'a>, Refusal> {
+    /// Begins a datagram in a room of at least 2,048 bytes, under an addressing; its destination is the peer's channel.
+    pub fn begin(
+        room: &'a mut [u8],
+        addressing: Addressing,
+        destination: u32,
+    ) -> Result<Composer<'a>, Refusal> {
+        Composer::begin_under(room, addressing.number(), destination)
+    }
+
+    /// The same under the addressing of a number. If it is none's, no message can be added: that is
+    /// [`Refusal::Length`].
+    pub fn begin_under(
+        room: &'a mut [u8],
+        method: u32,
+        destination: u32,
+    ) -> Result<Composer<'a>, Refusal> {
         let (number, len) = calls::begin(room, destination);
         Refusal::check(number)?;
-        Ok(Composer { room, len })
+        Ok(Composer { room, method, len })
     }
 
     /// Adds a message. After a refusal the datagram is as it was, and others may be added.
     pub fn add(&mut self, message: Message<'_>) -> Result<(), Refusal> {
-        let (number, len) = calls::add(self.room, self.len, message.numbers());
+        let (number, len) = calls::add(self.room, self.method, self.len, message.numbers());
         Refusal::check(number)?;
         self.len = len;
         Ok(())
@@ -112,5 +137,10 @@ impl<'a> Composer<'a> {
     /// With an UNCHOKE.
     pub fn unchoke(self) -> Result<Self, Refusal> {
         self.with(Message::Unchoke)
+    }
+
+    /// With a HAVE, REQUEST or CANCEL over no chunk, which only bins can name.
+    pub fn empty(self, kind: EmptyKind) -> Result<Self, Refusal> {
+        self.with(Message::Empty { kind })
     }
 }

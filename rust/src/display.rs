@@ -1,44 +1,72 @@
 //! Messages in words.
 
 use crate::message::{Message, Options};
+use crate::order::Addressing;
 use core::fmt;
 
 /// In words, such as `HAVE of chunks 0 to 6`.
 impl fmt::Display for Message<'_> {
     fn fmt(&self, f: &mut fmt::Formatter<'_>) -> fmt::Result {
-        match *self {
+        self.in_words(Addressing::Ranges).fmt(f)
+    }
+}
+
+impl<'a> Message<'a> {
+    /// In words under an addressing: under bins such as `HAVE of chunks 4..7 (bin 11)`, else as it is displayed.
+    pub fn in_words(self, addressing: Addressing) -> InWords<'a> {
+        InWords {
+            message: self,
+            addressing,
+            n: u32::MAX,
+        }
+    }
+}
+
+/// A message in words under an addressing; see [`Message::in_words`].
+#[derive(Clone, Copy, Debug)]
+pub struct InWords<'a> {
+    message: Message<'a>,
+    addressing: Addressing,
+    n: u32,
+}
+
+impl<'a> InWords<'a> {
+    /// The same of a message to a store of n chunks: of a bin that runs past the last one, its part inside the pack, as
+    /// in `HAVE of chunks 4..6 (bin 11)`.
+    pub fn in_pack(self, n: u32) -> Self {
+        InWords { n, ..self }
+    }
+
+    /// What it names alone, such as `chunks 4..6 (bin 11)`; nothing of a HANDSHAKE, CHOKE or UNCHOKE.
+    pub fn chunks(self) -> impl fmt::Display + 'a {
+        Chunks(self)
+    }
+}
+
+impl fmt::Display for InWords<'_> {
+    fn fmt(&self, f: &mut fmt::Formatter<'_>) -> fmt::Result {
+        let (name, of) = (self.message.name(), self.chunks());
+        match self.message {
             Message::Handshake {
                 source: 0,
                 options: Options::End,
-            } => write!(f, "HANDSHAKE that closes the channel"),
+            } => write!(f, "{name} that closes the channel"),
             Message::Handshake { source, options } => {
-                write!(f, "HANDSHAKE from channel {source} with {options}")
+                write!(f, "{name} from channel {source} with {options}")
             }
             Message::Data {
-                first,
-                last,
-                timestamp,
-                bytes,
+                timestamp, bytes, ..
             } => {
-                let (of, count) = (Chunks(first, last), bytes.len());
-                write!(f, "DATA of {of}, {count} bytes, sent at {timestamp}")
+                let count = bytes.len();
+                write!(f, "{name} of {of}, {count} bytes, sent at {timestamp}")
             }
-            Message::Ack { first, last, delay } => {
-                write!(f, "ACK of {}, delay {delay}", Chunks(first, last))
-            }
-            Message::Have { first, last } => write!(f, "HAVE of {}", Chunks(first, last)),
-            Message::Integrity { first, last, hash } => {
-                write!(
-                    f,
-                    "INTEGRITY of {}, hash {}",
-                    Chunks(first, last),
-                    Hex(hash)
-                )
-            }
-            Message::Request { first, last } => write!(f, "REQUEST of {}", Chunks(first, last)),
-            Message::Cancel { first, last } => write!(f, "CANCEL of {}", Chunks(first, last)),
-            Message::Choke => write!(f, "CHOKE"),
-            Message::Unchoke => write!(f, "UNCHOKE"),
+            Message::Ack { delay, .. } => write!(f, "{name} of {of}, delay {delay}"),
+            Message::Integrity { hash, .. } => write!(f, "{name} of {of}, hash {}", Hex(hash)),
+            Message::Choke | Message::Unchoke => f.write_str(name),
+            Message::Have { .. }
+            | Message::Request { .. }
+            | Message::Cancel { .. }
+            | Message::Empty { .. } => write!(f, "{name} of {of}"),
         }
     }
 }
@@ -54,16 +82,27 @@ impl fmt::Display for Options<'_> {
     }
 }
 
-/// A range in words.
-struct Chunks(u32, u32);
+/// What a message names, in words.
+struct Chunks<'a>(InWords<'a>);
 
-impl fmt::Display for Chunks {
+impl fmt::Display for Chunks<'_> {
     fn fmt(&self, f: &mut fmt::Formatter<'_>) -> fmt::Result {
-        let Chunks(first, last) = *self;
-        if first == last {
-            return write!(f, "chunk {first}");
+        let InWords {
+            message,
+            addressing,
+            n,
+        } = self.0;
+        match (addressing, message.range(), message.bin()) {
+            (_, None, Some(empty)) => empty.fmt(f),
+            // One that reaches past the pack is refused, so that no part of it counts.
+            (Addressing::Bins, _, Some(bin)) if matches!(message, Message::Integrity { .. }) => {
+                bin.fmt(f)
+            }
+            (Addressing::Bins, _, Some(bin)) => bin.in_pack(n).fmt(f),
+            (_, Some((first, last)), _) if first == last => write!(f, "chunk {first}"),
+            (_, Some((first, last)), _) => write!(f, "chunks {first} to {last}"),
+            (_, None, None) => Ok(()),
         }
-        write!(f, "chunks {first} to {last}")
     }
 }
 

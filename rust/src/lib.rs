@@ -1,10 +1,10 @@
 //! Route packs by RFC 7574 (PPSPP), yard profile: a safe wrapper over the proved library `libloader.a`.
 //!
-//! A [`Store`] is a pack under an [`Order`], its root hash and length. It lives in eight rooms, which are allocated
-//! ([`OwnedRooms`]) or lent ([`Rooms`]). Datagrams come in with [`take`](Store::take), and chunks go out with
-//! [`write`](Store::write); a chunk is stored only if it leads, with the hashes that came, to the ordered root. Each
-//! call takes any numbers and any bytes, and is done or refused for a [`Refusal`], which leaves every room as it was.
-//! Sockets, clocks and the choice of chunks are the caller's.
+//! A [`Store`] is a pack under an [`Order`]: its root hash, its length, and how messages name chunks ([`Addressing`]).
+//! It lives in eight rooms, which are allocated ([`OwnedRooms`]) or lent ([`Rooms`]). Datagrams come in with
+//! [`take`](Store::take), and chunks go out with [`write`](Store::write); a chunk is stored only if it leads, with the
+//! hashes that came, to the ordered root. Each call takes any numbers and any bytes, and is done or refused for a
+//! [`Refusal`], which leaves every room as it was. Sockets, clocks and the choice of chunks are the caller's.
 //!
 //! A van downloads a pack of two chunks from the server:
 //!
@@ -13,7 +13,7 @@
 //!
 //! // The server has the pack, and with it the order.
 //! let content = [7; 1500];
-//! let mut server = Store::build(&content)?;
+//! let mut server = Store::build(Order::to_build(1500), &content)?;
 //! let order: Order = server.order().expect("a built store has an order");
 //!
 //! // The van starts empty and opens channel 17. The server's channel for it is 5.
@@ -60,6 +60,7 @@ mod composer;
 mod display;
 mod look;
 mod message;
+mod naming;
 mod numbers;
 mod order;
 #[cfg(feature = "alloc")]
@@ -73,8 +74,10 @@ pub mod sys;
 mod table;
 
 pub use composer::Composer;
-pub use message::{Message, Options};
-pub use order::{Held, Order};
+pub use display::InWords;
+pub use message::{EmptyKind, Message, Options};
+pub use naming::Bin;
+pub use order::{Addressing, Held, Order};
 #[cfg(feature = "alloc")]
 pub use owned::OwnedRooms;
 pub use reading::{destination, messages, Malformed, Messages};

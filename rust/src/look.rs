@@ -2,7 +2,10 @@
 //!
 //! Every room may have any length and any words: nothing here panics. Without an order there is nothing to be seen.
 
-use crate::order::Order;
+use crate::display::InWords;
+use crate::message::Message;
+use crate::order::{Addressing, Order};
+use crate::reading::{messages, Messages};
 use crate::rooms::Lend;
 use crate::sizes::{self, fixed};
 use crate::store::Store;
@@ -24,9 +27,29 @@ impl<R: Lend> Store<R> {
         for (bytes, word) in root.chunks_exact_mut(4).zip(words) {
             bytes.copy_from_slice(&word.to_be_bytes());
         }
-        (1..=sizes::MAX_LENGTH)
-            .contains(&length)
-            .then_some(Order { root, length })
+        let order = Order::new(root, length).method(state[sys::PPSPP_WORD_ADDRESSING]);
+        let sound = (1..=sizes::MAX_LENGTH).contains(&length) && order.known_addressing().is_some();
+        sound.then_some(order)
+    }
+
+    /// The order's addressing; without an order ranges.
+    pub fn addressing(&self) -> Addressing {
+        let ordered = self.order().and_then(|order| order.known_addressing());
+        ordered.unwrap_or_default()
+    }
+
+    /// The messages of a datagram, read under the store's addressing; see [`messages`].
+    pub fn messages<'a>(&self, datagram: &'a [u8]) -> Messages<'a> {
+        messages(self.addressing(), datagram)
+    }
+
+    /// A message in words, under the store's addressing and cut to its pack; see [`InWords::in_pack`].
+    pub fn in_words<'a>(&self, message: Message<'a>) -> InWords<'a> {
+        let words = message.in_words(self.addressing());
+        match self.count() {
+            0 => words,
+            n => words.in_pack(n),
+        }
     }
 
     /// Whether a chunk is held.

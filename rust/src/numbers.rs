@@ -1,6 +1,6 @@
 //! Messages in the numbers of the library.
 
-use crate::message::{Message, Options};
+use crate::message::{EmptyKind, Message, Options};
 use crate::sys;
 
 /// A message in numbers and bytes, as the header's table has it. Numbers that its type has no use for are not looked at.
@@ -48,6 +48,7 @@ impl<'a> Message<'a> {
             Message::Cancel { first, last } => of(sys::PPSPP_CANCEL, first, last, 0, &[]),
             Message::Choke => of(sys::PPSPP_CHOKE, 0, 0, 0, &[]),
             Message::Unchoke => of(sys::PPSPP_UNCHOKE, 0, 0, 0, &[]),
+            Message::Empty { kind } => of(kind.number(), 0, 0, 0, &[]),
         }
     }
 
@@ -86,7 +87,32 @@ impl<'a> Message<'a> {
             sys::PPSPP_CANCEL => Message::Cancel { first, last },
             sys::PPSPP_CHOKE => Message::Choke,
             sys::PPSPP_UNCHOKE => Message::Unchoke,
-            _ => unreachable!("the library read a message of type {kind}, which there is none of"),
+            _ => Message::Empty {
+                kind: EmptyKind::of(kind),
+            },
+        }
+    }
+}
+
+impl EmptyKind {
+    /// The type of the library.
+    fn number(self) -> u32 {
+        match self {
+            EmptyKind::Have => sys::PPSPP_EMPTY_HAVE,
+            EmptyKind::Request => sys::PPSPP_EMPTY_REQUEST,
+            EmptyKind::Cancel => sys::PPSPP_EMPTY_CANCEL,
+        }
+    }
+
+    /// Of the type of the library, which has no other types than these and those of other messages.
+    fn of(number: u32) -> EmptyKind {
+        match number {
+            sys::PPSPP_EMPTY_HAVE => EmptyKind::Have,
+            sys::PPSPP_EMPTY_REQUEST => EmptyKind::Request,
+            sys::PPSPP_EMPTY_CANCEL => EmptyKind::Cancel,
+            _ => {
+                unreachable!("the library read a message of type {number}, which there is none of")
+            }
         }
     }
 }

@@ -2,6 +2,7 @@
 
 use crate::calls::{self, Numbers};
 use crate::message::Message;
+use crate::order::Addressing;
 use crate::sizes::MIN_DATAGRAM;
 use crate::sys;
 use core::error::Error;
@@ -13,13 +14,14 @@ pub fn destination(datagram: &[u8]) -> Option<u32> {
     datagram.first_chunk().copied().map(u32::from_be_bytes)
 }
 
-/// The messages of a datagram from left to right, each with its place. They stop behind the first one that cannot be
-/// read, which is an error.
+/// The messages of a datagram from left to right, each with its place, read under an addressing. They stop behind the
+/// first one that cannot be read, which is an error.
 ///
 /// Each message is judged alone. A store also refuses a datagram for its size, for a node that has two INTEGRITY
 /// messages, and for a HANDSHAKE that is not alone or not sound.
-pub fn messages(datagram: &[u8]) -> Messages<'_> {
+pub fn messages(addressing: Addressing, datagram: &[u8]) -> Messages<'_> {
     Messages {
+        addressing,
         datagram,
         at: Some(MIN_DATAGRAM),
     }
@@ -28,6 +30,7 @@ pub fn messages(datagram: &[u8]) -> Messages<'_> {
 /// Iterator over the messages of a datagram and their places; see [`messages`].
 #[derive(Clone, Debug)]
 pub struct Messages<'a> {
+    addressing: Addressing,
     datagram: &'a [u8],
     /// The place of the next message, unless the last one could not be read.
     at: Option<usize>,
@@ -39,7 +42,7 @@ impl<'a> Iterator for Messages<'a> {
     fn next(&mut self) -> Option<Self::Item> {
         let place = self.at.take()?;
         let mut found = [0; sys::PPSPP_FOUND_WORDS];
-        match calls::read(self.datagram, place, &mut found) {
+        match calls::read(self.datagram, self.addressing.number(), place, &mut found) {
             sys::PPSPP_STEP_END => None,
             sys::PPSPP_STEP_MESSAGE => {
                 let (message, next) = message(self.datagram, found);

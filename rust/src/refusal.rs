@@ -30,7 +30,7 @@ pub enum Refusal {
     HashMismatch = 10,
     /// A room is too small.
     Room = 11,
-    /// No order, or its length is 0 or over 524,288, or the content has another length.
+    /// No order, its length 0, over 524,288 or not the content's, or no such addressing.
     Length = 12,
     /// The chunk to be written is not held.
     NotHeld = 13,
@@ -107,7 +107,7 @@ impl fmt::Display for Refusal {
             }
             Refusal::Room => "a room is too small",
             Refusal::Length => {
-                "no order, or its length is 0 or over 524,288, or the content has another length"
+                "no order, its length 0, over 524,288 or not the content's, or no such addressing"
             }
             Refusal::NotHeld => "the chunk to be written is not held",
             Refusal::Id => "a channel is to be opened under ID 0 or one in use",

@@ -19,7 +19,7 @@
 ///     wants: &mut [0; fixed::peer_words(N)],
 ///     reply: &mut [0; REPLY_BYTES],
 /// };
-/// let store = Store::start_in(rooms, Order { root: [7; 32], length: LENGTH })?;
+/// let store = Store::start_in(rooms, Order::new([7; 32], LENGTH))?;
 /// assert_eq!(store.missing().count(), 5);
 /// # Ok::<(), ppspp::Refusal>(())
 /// ```

@@ -29,15 +29,14 @@ impl Store {
         Store::start_in(OwnedRooms::for_length(order.length), order)
     }
 
-    /// Builds a whole store from its content, in rooms that are allocated for it; [`order`](Store::order) has the root.
+    /// Builds a whole store from its content, which must have the order's length, in rooms that are allocated for it.
+    /// The order's root is not looked at: [`order`](Store::order) has the one found.
     ///
     /// # Panics
     ///
     /// If the linked library has another layout of the state than this crate.
-    pub fn build(content: &[u8]) -> Result<Store, Refusal> {
-        // A length that a u32 cannot hold is over the limit, as its highest number is.
-        let length = u32::try_from(content.len()).unwrap_or(u32::MAX);
-        Store::build_in(OwnedRooms::for_length(length), length, content)
+    pub fn build(order: Order, content: &[u8]) -> Result<Store, Refusal> {
+        Store::build_in(OwnedRooms::for_length(order.length), order, content)
     }
 }
 
@@ -53,14 +52,14 @@ impl<R: Lend> Store<R> {
         Ok(store)
     }
 
-    /// Builds a whole store of a length from its content, which must have that length.
+    /// Builds a whole store from its content, which must have the order's length. The order's root is not looked at.
     ///
     /// # Panics
     ///
     /// If the linked library has another layout of the state than this crate.
-    pub fn build_in(rooms: R, length: u32, content: &[u8]) -> Result<Store<R>, Refusal> {
+    pub fn build_in(rooms: R, order: Order, content: &[u8]) -> Result<Store<R>, Refusal> {
         let mut store = Store::resume(rooms);
-        store.rebuild(length, content)?;
+        store.rebuild(order, content)?;
         Ok(store)
     }
 
@@ -68,8 +67,8 @@ impl<R: Lend> Store<R> {
     ///
     /// Rooms that were never started or built have no order, if the first word of the state room is not the layout's
     /// version: rooms of zeros will do. Until they are, calls on the store are answered with [`Refusal::Length`], or
-    /// with [`Refusal::Room`] where the state room has under 74 words. Composing needs no order: it looks at the reply
-    /// room alone.
+    /// with [`Refusal::Room`] where the state room has under 75 words. Composing needs no order: without one it is
+    /// under ranges.
     ///
     /// # Panics
     ///
@@ -81,12 +80,12 @@ impl<R: Lend> Store<R> {
 
     /// Starts the store anew under an order, in the rooms that it has. A refusal leaves the store that was there.
     pub fn restart(&mut self, order: Order) -> Result<(), Refusal> {
-        Refusal::check(calls::start(self.rooms.lend(), &order.root, order.length))
+        Refusal::check(calls::start(self.rooms.lend(), &order))
     }
 
     /// Builds the store anew of a content, in the rooms that it has. A refusal leaves the store that was there.
-    pub fn rebuild(&mut self, length: u32, content: &[u8]) -> Result<(), Refusal> {
-        Refusal::check(calls::build(self.rooms.lend(), length, content))
+    pub fn rebuild(&mut self, order: Order, content: &[u8]) -> Result<(), Refusal> {
+        Refusal::check(calls::build(self.rooms.lend(), &order, content))
     }
 
     /// Opens a channel under an ID that is not 0 and not in use; the reply is our HANDSHAKE.
@@ -121,7 +120,7 @@ impl<R: Lend> Store<R> {
     ///
     /// ```
     /// use ppspp::{Order, Refusal, Store};
-    /// let mut van = Store::start(Order { root: [7; 32], length: 4_500 })?;
+    /// let mut van = Store::start(Order::new([7; 32], 4_500))?;
     /// van.open(17)?; // and no peer ever answers
     /// assert_eq!(van.close(17), Ok(()));
     /// assert_eq!(van.channel(17), None);
@@ -130,15 +129,18 @@ impl<R: Lend> Store<R> {
     /// ```
     pub fn close(&mut self, id: u32) -> Result<(), Refusal> {
         let mut room = [0; sizes::REPLY_BYTES];
+        let addressing = self.addressing();
         // A keepalive changes nothing, and is refused where there is no row.
-        self.take(0, 0, Composer::begin(&mut room, id)?.finish())?;
+        let keepalive = Composer::begin(&mut room, addressing, id)?;
+        self.take(0, 0, keepalive.finish())?;
         // A calling row is opened first, by a HANDSHAKE as its peer would send it.
         let calling = |channel: &Channel| channel.phase == Phase::Calling;
         if let (Some(_), Some(order)) = (self.channel(id).filter(calling), self.order()) {
-            let opening = Composer::begin(&mut room, id)?.handshake(1, &order.root)?;
+            let opening = Composer::begin(&mut room, addressing, id)?;
+            let opening = opening.handshake(1, &order.root)?;
             self.take(0, 0, opening.finish())?;
         }
-        let closing = Composer::begin(&mut room, id)?.close()?;
+        let closing = Composer::begin(&mut room, addressing, id)?.close()?;
         self.take(0, 0, closing.finish())?;
         Ok(())
     }
@@ -154,9 +156,10 @@ impl<R: Lend> Store<R> {
         })
     }
 
-    /// Begins a datagram in the reply room; its destination is the peer's channel.
+    /// Begins a datagram in the reply room, under the store's own addressing; its destination is the peer's channel.
     pub fn compose(&mut self, destination: u32) -> Result<Composer<'_>, Refusal> {
-        Composer::begin(self.rooms.lend().reply, destination)
+        let addressing = self.addressing();
+        Composer::begin(self.rooms.lend().reply, addressing, destination)
     }
 
     /// The rooms, for reading.

@@ -1,8 +1,8 @@
 //! Stores in rooms that are lent, of any sizes.
 
-use crate::support::{any_order, content, SEVEN};
+use crate::support::{any_order, built, content, RANGES, SEVEN};
 use ppspp::sizes::{self, fixed};
-use ppspp::{Held, Lend, OwnedRooms, Refusal, Rooms, Store, View};
+use ppspp::{Held, Lend, Order, OwnedRooms, Refusal, Rooms, Store, View};
 
 /// Rooms for seven chunks, without an allocator. The trusted bits are 2 for each of 8 leaf places.
 struct Fixed {
@@ -65,7 +65,8 @@ fn shortened(rooms: Rooms<'_>, which: usize) -> Rooms<'_> {
 #[test]
 fn store_stands_in_lent_rooms() {
     let mut there = FIXED;
-    let store = Store::build_in(there.rooms(), SEVEN, &content(SEVEN)).expect("rooms of size");
+    let seven = Order::to_build(SEVEN);
+    let store = Store::build_in(there.rooms(), seven, &content(SEVEN)).expect("rooms of size");
     let order = store.order().expect("it was built");
     assert_eq!(
         store.ask(),
@@ -74,10 +75,7 @@ fn store_stands_in_lent_rooms() {
             whole: true
         })
     );
-    assert_eq!(
-        Store::build(&content(SEVEN)).expect("its length").order(),
-        Some(order)
-    );
+    assert_eq!(built(RANGES, SEVEN).order(), Some(order));
     // The rooms keep the store when it is dropped.
     let later = Store::resume(there.rooms());
     assert_eq!(later.order(), Some(order));
@@ -92,7 +90,7 @@ fn each_room_that_is_too_small_is_answered() {
         let started = Store::start_in(rooms, any_order(SEVEN));
         assert_eq!(started.err(), Some(Refusal::Room), "room {which}");
         let rooms = shortened(there.rooms(), which);
-        let built = Store::build_in(rooms, SEVEN, &content(SEVEN));
+        let built = Store::build_in(rooms, Order::to_build(SEVEN), &content(SEVEN));
         assert_eq!(built.err(), Some(Refusal::Room), "room {which}");
         let mut before = FIXED;
         assert_eq!(there.rooms(), before.rooms(), "room {which}");
@@ -170,7 +168,8 @@ fn rooms_that_are_not_the_same_panic() {
 #[test]
 fn rooms_may_be_larger_and_are_given_back() {
     let mut rooms = OwnedRooms::for_length(sizes::MAX_LENGTH);
-    let store = Store::build_in(&mut rooms, 3, b"abc").expect("larger rooms");
+    let abc = Order::to_build(3);
+    let store = Store::build_in(&mut rooms, abc, b"abc").expect("larger rooms");
     assert_eq!(store.bytes(), b"abc");
     let first = rooms.view().map[0];
     assert_eq!(first, 1);

@@ -38,7 +38,7 @@ fn open_channel_is_closed_and_its_peer_not_told() {
     assert_eq!(van.close(VAN), Ok(()));
     assert_eq!(ids(&van), [18]);
     // The row's four words are as after starting.
-    assert_eq!(van.view().state[10..14], [0; 4]);
+    assert_eq!(van.view().state[11..15], [0; 4]);
     assert_eq!(server, before);
     let phase = server.channel(SERVER).map(|channel| channel.phase);
     assert_eq!(phase, Some(Phase::Open));
@@ -60,7 +60,7 @@ fn only_the_row_changes() {
     assert_eq!(van.view().reply, composed);
     let mut rooms = van.into_rooms();
     let mut wanted = before.into_rooms();
-    wanted.lend().state[10..14].fill(0);
+    wanted.lend().state[11..15].fill(0);
     wanted.lend().reply.copy_from_slice(&composed);
     assert_eq!(rooms.lend(), wanted.lend());
 }

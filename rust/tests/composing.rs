@@ -1,6 +1,6 @@
 //! Composing datagrams, and reading them back.
 
-use crate::support::{bytes, Pair, SEVEN, VAN};
+use crate::support::{bytes, Pair, RANGES, SEVEN, VAN};
 use ppspp::{destination, messages, Composer, Malformed, Message, Options, Refusal};
 
 /// A root or hash.
@@ -36,14 +36,14 @@ fn one_of_each() -> [Message<'static>; 8] {
 
 /// The messages of a datagram that has no other.
 fn read(datagram: &[u8]) -> Vec<Message<'_>> {
-    let all: Result<Vec<_>, Malformed> = messages(datagram).collect();
+    let all: Result<Vec<_>, Malformed> = messages(RANGES, datagram).collect();
     all.expect("sound").into_iter().map(|(_, m)| m).collect()
 }
 
 #[test]
 fn messages_read_back_as_composed() {
     let mut room = [0xc5; 2_048];
-    let mut composer = Composer::begin(&mut room, 9).expect("room");
+    let mut composer = Composer::begin(&mut room, RANGES, 9).expect("room");
     for message in one_of_each() {
         composer.add(message).expect("a sound message");
     }
@@ -55,7 +55,7 @@ fn messages_read_back_as_composed() {
 #[test]
 fn composed_bytes_are_those_of_01() {
     let mut room = [0xc5; 2_048];
-    let composed = Composer::begin(&mut room, 0x0102_0304)
+    let composed = Composer::begin(&mut room, RANGES, 0x0102_0304)
         .and_then(|c| c.have(1, 2))
         .and_then(|c| c.ack(3, 3, 100))
         .and_then(|c| c.integrity(4, 5, &HASH))
@@ -75,7 +75,7 @@ fn composed_bytes_are_those_of_01() {
 #[test]
 fn handshakes_read_back_as_composed() {
     let mut room = [0; 2_048];
-    let opening = Composer::begin(&mut room, 0).and_then(|c| c.handshake(17, &HASH));
+    let opening = Composer::begin(&mut room, RANGES, 0).and_then(|c| c.handshake(17, &HASH));
     let opening = opening.expect("a sound message").finish();
     let fixed = "00010101020020 07*32 0301040206020900000400ff";
     assert_eq!(opening, bytes(&format!("00000000 00 00000011 {fixed}")));
@@ -87,7 +87,7 @@ fn handshakes_read_back_as_composed() {
             options
         }]
     );
-    let closing = Composer::begin(&mut room, 17).and_then(|c| c.close());
+    let closing = Composer::begin(&mut room, RANGES, 17).and_then(|c| c.close());
     let closing = closing.expect("a sound message").finish();
     assert_eq!(closing, bytes("00000011 00 00000000 ff"));
     assert_eq!(read(closing), [Message::CLOSING]);
@@ -96,7 +96,7 @@ fn handshakes_read_back_as_composed() {
 /// A message behind another one must be refused so, and leave the datagram; then one more fits.
 fn refused_behind(so_far: Option<Message<'_>>, message: Message<'_>, wanted: Refusal) {
     let mut room = [0xc5; 2_048];
-    let mut composer = Composer::begin(&mut room, 9).expect("room");
+    let mut composer = Composer::begin(&mut room, RANGES, 9).expect("room");
     if let Some(so_far) = so_far {
         composer.add(so_far).expect("a sound message");
     }
@@ -148,7 +148,7 @@ fn message_that_cannot_be_read_is_refused() {
 #[test]
 fn data_that_is_not_of_one_chunk_is_refused() {
     let mut room = [0xc5; 2_048];
-    let mut composer = Composer::begin(&mut room, 9).expect("room");
+    let mut composer = Composer::begin(&mut room, RANGES, 9).expect("room");
     assert_eq!(composer.add(over((5, 5), b"abc")), Ok(()));
     let five = "00000009 01 00000005 00000005 000000000000002a 616263";
     assert_eq!(composer.finish(), bytes(five));
@@ -196,7 +196,7 @@ fn datagram_over_2048_bytes_is_refused() {
     // Destination, type, range and timestamp leave 2,027 bytes.
     refused_behind(None, data(&[0; 2_028]), Refusal::Size);
     let mut room = [0; 2_048];
-    let mut composer = Composer::begin(&mut room, 9).expect("room");
+    let mut composer = Composer::begin(&mut room, RANGES, 9).expect("room");
     assert_eq!(composer.add(data(&[0; 2_027])), Ok(()));
     assert_eq!(composer.finish().len(), 2_048);
 }
@@ -204,7 +204,7 @@ fn datagram_over_2048_bytes_is_refused() {
 #[test]
 fn message_fits_after_a_refused_one() {
     let mut room = [0; 2_048];
-    let mut composer = Composer::begin(&mut room, 9).expect("room");
+    let mut composer = Composer::begin(&mut room, RANGES, 9).expect("room");
     assert!(composer.add(Message::Have { first: 1, last: 0 }).is_err());
     assert!(composer.add(Message::Have { first: 0, last: 1 }).is_ok());
     assert_eq!(composer.finish(), bytes("00000009 03 00000000 00000001"));
@@ -213,10 +213,13 @@ fn message_fits_after_a_refused_one() {
 #[test]
 fn room_under_2048_bytes_is_too_small() {
     assert_eq!(
-        Composer::begin(&mut [0; 2_047], 9).err(),
+        Composer::begin(&mut [0; 2_047], RANGES, 9).err(),
         Some(Refusal::Room)
     );
-    assert_eq!(Composer::begin(&mut [], 9).err(), Some(Refusal::Room));
+    assert_eq!(
+        Composer::begin(&mut [], RANGES, 9).err(),
+        Some(Refusal::Room)
+    );
 }
 
 #[test]

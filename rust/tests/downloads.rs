@@ -1,12 +1,12 @@
 //! Whole downloads.
 
-use crate::support::{content, Pair, SERVER};
-use ppspp::{Held, Message, Refusal, Store};
+use crate::support::{built, content, Pair, BINS, RANGES, SERVER};
+use ppspp::{Addressing, Held, Message, Order, Refusal, Store};
 use second::store::Store as Second;
 
 /// Downloads a pack of a length, its chunks in some order.
-fn download(length: u32, order_of: impl FnOnce(u32) -> Vec<u32>) {
-    let mut pair = Pair::new(length);
+fn download(addressing: Addressing, length: u32, order_of: impl FnOnce(u32) -> Vec<u32>) {
+    let mut pair = Pair::under(addressing, length);
     let n = pair.order.chunk_count();
     let chunks = order_of(n);
     let row = pair.server.channel(SERVER).expect("it is open").row;
@@ -19,7 +19,7 @@ fn download(length: u32, order_of: impl FnOnce(u32) -> Vec<u32>) {
             delay: 250,
         };
         assert_eq!(ppspp::destination(ack), Some(SERVER));
-        assert!(ppspp::messages(ack).eq([Ok((4, wanted))]));
+        assert!(ppspp::messages(addressing, ack).eq([Ok((4, wanted))]));
         assert_eq!(pair.server.take(0, 0, ack), Ok(&[][..]));
         assert!(pair.server.peer_has(row, chunk));
         let held = Held {
@@ -35,14 +35,16 @@ fn download(length: u32, order_of: impl FnOnce(u32) -> Vec<u32>) {
 #[test]
 fn chunks_in_rising_order() {
     for length in [1, 1_023, 1_024, 1_025, 7_162, 33 * 1_024, 524_288] {
-        download(length, |n| (0..n).collect());
+        download(RANGES, length, |n| (0..n).collect());
+        download(BINS, length, |n| (0..n).collect());
     }
 }
 
 #[test]
 fn chunks_in_falling_order() {
     for length in [1_025, 7_162, 8_192, 500_000] {
-        download(length, |n| (0..n).rev().collect());
+        download(RANGES, length, |n| (0..n).rev().collect());
+        download(BINS, length, |n| (0..n).rev().collect());
     }
 }
 
@@ -50,9 +52,11 @@ fn chunks_in_falling_order() {
 fn roots_are_those_of_the_second_program() {
     for length in [1, 1_024, 1_025, 3_072, 7_162, 8_192, 17_000, 524_288] {
         let content = content(length);
-        let order = Store::build(&content).expect("a pack's length").order();
         let second = Second::build(&content).expect("a pack's length");
-        assert_eq!(order.expect("it was built").root, *second.root());
+        for addressing in [BINS, RANGES] {
+            let order = built(addressing, length).order();
+            assert_eq!(order.expect("it was built").root, *second.root());
+        }
     }
 }
 
@@ -62,7 +66,7 @@ fn root_of_three_bytes_is_their_hash() {
     let root = crate::support::bytes(
         "ba7816bf 8f01cfea 414140de 5dae2223 b00361a3 96177a9c b410ff61 f20015ad",
     );
-    let store = Store::build(b"abc").expect("a pack's length");
+    let store = Store::build(Order::to_build(3), b"abc").expect("a pack's length");
     assert_eq!(store.order().expect("it was built").root[..], root);
 }
 
@@ -92,7 +96,10 @@ fn store_starts_anew_in_its_rooms() {
         })
     );
     assert_eq!(van.channels().next(), None);
-    pair.van.rebuild(3, b"abc").expect("rooms that are larger");
+    let abc = Order::to_build(3).addressing(BINS);
+    pair.van
+        .rebuild(abc, b"abc")
+        .expect("rooms that are larger");
     assert_eq!(
         pair.van.ask(),
         Ok(Held {
@@ -101,4 +108,5 @@ fn store_starts_anew_in_its_rooms() {
         })
     );
     assert_eq!(pair.van.bytes(), b"abc");
+    assert_eq!(pair.van.addressing(), BINS);
 }

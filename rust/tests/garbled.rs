@@ -1,8 +1,8 @@
 //! Rooms with anything in them: every call answers, and looking never panics.
 
-use crate::support::{any_order, bytes, Pair, SEVEN, VAN};
+use crate::support::{any_order, bytes, Pair, BINS, RANGES, SEVEN, VAN};
 use ppspp::sizes::STATE_WORDS;
-use ppspp::{sys, Lend, OwnedRooms, Refusal, Store};
+use ppspp::{sys, Lend, Order, OwnedRooms, Refusal, Store};
 
 /// A store whose state room is as it was but for what is done to it.
 fn with_state(store: Store, change: impl FnOnce(&mut [u32])) -> Store {
@@ -38,7 +38,7 @@ fn state_of_zeros_has_no_order() {
 
 #[test]
 fn state_of_another_version_has_no_order() {
-    for version in [0, 2, 256, 1 << 24, u32::MAX] {
+    for version in [0, 1, 3, 258, 1 << 24, u32::MAX] {
         let van = with_state(Pair::new(SEVEN).van, |state| state[0] = version);
         all_refused(van, Refusal::Length);
     }
@@ -48,6 +48,14 @@ fn state_of_another_version_has_no_order() {
 fn state_of_no_sound_length_has_no_order() {
     for length in [0, 524_289, u32::MAX] {
         let van = with_state(Pair::new(SEVEN).van, |state| state[9] = length);
+        all_refused(van, Refusal::Length);
+    }
+}
+
+#[test]
+fn state_of_no_such_addressing_has_no_order() {
+    for method in [1, 3, 4, 258, u32::MAX] {
+        let van = with_state(Pair::new(SEVEN).van, |state| state[10] = method);
         all_refused(van, Refusal::Length);
     }
 }
@@ -79,7 +87,8 @@ fn calling_row_has_no_peer() {
 
 #[test]
 fn bits_behind_the_tree_are_no_nodes() {
-    let mut rooms = Store::build(b"abc").expect("its length").into_rooms();
+    let built = Store::build(Order::to_build(3), b"abc");
+    let mut rooms = built.expect("its length").into_rooms();
     rooms.lend().trusted.fill(u32::MAX);
     let store = Store::resume(rooms);
     let trusted: Vec<u64> = (0..64).filter(|&node| store.trusts(node)).collect();
@@ -99,7 +108,7 @@ impl Numbers {
     }
 }
 
-/// Fills every room; the state's version stays sound, its length is at most that of 16 chunks.
+/// Fills every room; the state's version and addressing stay sound, its length is at most that of 16 chunks.
 fn garble(rooms: &mut OwnedRooms, numbers: &mut Numbers) {
     let lent = rooms.lend();
     for words in [
@@ -118,12 +127,13 @@ fn garble(rooms: &mut OwnedRooms, numbers: &mut Numbers) {
     let state = rooms.lend().state;
     state[sys::PPSPP_WORD_VERSION] = sys::PPSPP_LAYOUT_VERSION;
     state[sys::PPSPP_WORD_LENGTH] = 1 + numbers.next() % (16 * 1_024);
+    state[sys::PPSPP_WORD_ADDRESSING] = 2 * (numbers.next() % 2);
 }
 
 #[test]
 fn garbled_rooms_give_an_answer() {
     let mut numbers = Numbers(1);
-    let datagram = Pair::new(SEVEN).written(6, 0);
+    let datagrams = [BINS, RANGES].map(|addressing| Pair::under(addressing, SEVEN).written(6, 0));
     for _ in 0..2_000 {
         let mut rooms = OwnedRooms::for_length(SEVEN);
         garble(&mut rooms, &mut numbers);
@@ -131,7 +141,10 @@ fn garbled_rooms_give_an_answer() {
         let n = store.order().expect("a sound length").chunk_count();
         // The answers depend on what is there; that they come does not.
         let _ = store.open(numbers.next() % 3);
-        let _ = store.take(0, numbers.next() % 3, &datagram);
+        for datagram in &datagrams {
+            let _ = store.take(0, numbers.next() % 3, datagram);
+        }
+        let _ = store.take(0, 1, &bytes("00000001 03 00000000"));
         let _ = store.take(0, 1, &bytes("00000001 03 00000000 00000000"));
         let _ = store.write(numbers.next() % 3, numbers.next() % 20, 0);
         let _ = store.close(numbers.next() % 3);

@@ -7,6 +7,7 @@ use std::collections::BTreeMap;
 const HEADER: &str = include_str!("../../include/ppspp.h");
 const STORE_HEADER: &str = include_str!("../../include/ppspp_store.h");
 const SYS: &str = include_str!("../src/sys.rs");
+const CONSTANTS: &str = include_str!("../src/sys/constants.rs");
 
 /// The header without its comments.
 fn header() -> String {
@@ -42,7 +43,7 @@ fn header_numbers() -> BTreeMap<String, u64> {
 
 /// The constants of `sys` whose value is a number.
 fn sys_numbers() -> BTreeMap<String, u64> {
-    let constants = SYS.lines().filter_map(|line| {
+    let constants = CONSTANTS.lines().filter_map(|line| {
         let (name, rest) = line.strip_prefix("pub const ")?.split_once(": ")?;
         let value = rest.trim_end_matches(';').split_once(" = ")?.1;
         Some((name.to_string(), number(value)?))
@@ -128,6 +129,7 @@ fn rust_type(c: &str) -> String {
         "uint32_t" => "u32",
         "uint64_t" => "u64",
         "size_t" => "usize",
+        "struct ppspp_order" => "ppspp_order",
         _ => panic!("the header has the type {c}"),
     };
     match (pointer, constant) {
@@ -195,6 +197,44 @@ fn sys_functions() -> Functions {
         functions.insert(name.to_string(), (parameters.collect(), result.to_string()));
     }
     functions
+}
+
+/// What stands in the braces behind a text.
+fn braced<'a>(text: &'a str, start: &str) -> &'a str {
+    let (_, rest) = text.split_once(start).expect(start);
+    rest.split_once('}').expect("its end").0
+}
+
+/// A field of the header in Rust.
+fn header_field(text: &str) -> String {
+    let (of, name) = text.split_once(' ').expect("a type");
+    match name.trim_end_matches(']').split_once('[') {
+        Some((name, count)) => format!("{name}: [{}; {count}]", rust_type(of)),
+        None => format!("{name}: {}", rust_type(of)),
+    }
+}
+
+#[test]
+fn order_is_that_of_the_header() {
+    let header = header();
+    let wanted = braced(&header, "struct ppspp_order {").split(';');
+    let wanted = wanted.map(str::trim).filter(|field| !field.is_empty());
+    let own = braced(SYS, "pub struct ppspp_order {").lines();
+    let own = own.filter_map(|line| line.trim().strip_prefix("pub ")?.strip_suffix(','));
+    assert_eq!(
+        own.collect::<Vec<_>>(),
+        wanted.map(header_field).collect::<Vec<_>>()
+    );
+}
+
+#[test]
+fn order_has_40_bytes() {
+    use ppspp::sys::ppspp_order;
+    use std::mem::{offset_of, size_of};
+    assert_eq!(size_of::<ppspp_order>(), 40);
+    assert_eq!(offset_of!(ppspp_order, root), 0);
+    assert_eq!(offset_of!(ppspp_order, length), 32);
+    assert_eq!(offset_of!(ppspp_order, addressing), 36);
 }
 
 #[test]

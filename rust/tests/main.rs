@@ -1,6 +1,9 @@
 //! The crate's tests. What is wanted is worked out by hand from the papers, or comes from the independent second
 //! program.
 
+mod adding_numbers;
+mod bins_added;
+mod bins_taken;
 mod borrowed;
 mod closing;
 mod composing;
@@ -8,6 +11,7 @@ mod downloads;
 mod garbled;
 mod header;
 mod looking;
+mod methods;
 mod reading;
 mod refusals;
 mod sizes;

@@ -1,19 +1,25 @@
-//! Reading datagrams: the hand-made ones of `tests/wire/datagrams.txt`, whose numbers were worked out on paper.
+//! Reading datagrams: the hand-made ones of `tests/wire/`, whose numbers were worked out on paper.
 
-use crate::support::{any_order, bytes, SEVEN};
-use ppspp::{destination, messages, Malformed, Message, Options, Refusal, Store};
+use crate::support::{any_order, bytes, BINS, RANGES, SEVEN};
+use ppspp::{destination, messages, Addressing, Malformed, Message, Options, Refusal, Store};
 use second::by_hand::{parse, HandMade};
 use std::collections::HashSet;
 
-/// The repository's hand-made datagrams.
-fn hand_made() -> Vec<HandMade> {
-    parse(include_str!("../../tests/wire/datagrams.txt")).expect("readable lines")
+/// The repository's hand-made datagrams, each with its addressing.
+fn hand_made() -> Vec<(Addressing, HandMade)> {
+    let of = |addressing, text| {
+        let all = parse(text).expect("readable lines");
+        all.into_iter().map(move |made| (addressing, made))
+    };
+    let ranges = include_str!("../../tests/wire/datagrams.txt");
+    let bins = include_str!("../../tests/wire/bins.txt");
+    of(RANGES, ranges).chain(of(BINS, bins)).collect()
 }
 
 /// The messages up to the end or the first that cannot be read, and whether there is one of these.
-fn read(datagram: &[u8]) -> (Vec<Message<'_>>, Option<Malformed>) {
+fn read(addressing: Addressing, datagram: &[u8]) -> (Vec<Message<'_>>, Option<Malformed>) {
     let mut sound = Vec::new();
-    for found in messages(datagram) {
+    for found in messages(addressing, datagram) {
         match found {
             Ok((_, message)) => sound.push(message),
             Err(malformed) => return (sound, Some(malformed)),
@@ -38,22 +44,18 @@ fn is_handshake(message: &Message<'_>) -> bool {
 
 #[test]
 fn messages_of_hand_made_datagrams_are_as_their_numbers_say() {
-    for HandMade {
-        line,
-        number,
-        datagram,
-    } in hand_made()
-    {
-        let (sound, malformed) = read(&datagram);
+    for (addressing, made) in hand_made() {
+        let line = format!("{addressing:?}, line {}", made.line);
+        let (sound, malformed) = read(addressing, &made.datagram);
         let mut sound_ones = sound.iter();
-        match number {
-            0 => assert!(malformed.is_none() && !node_twice(&sound), "line {line}"),
+        match made.number {
+            0 => assert!(malformed.is_none() && !node_twice(&sound), "{line}"),
             // The size is no matter of single messages.
             1 => (),
-            2 => assert!(malformed.is_some() || node_twice(&sound), "line {line}"),
+            2 => assert!(malformed.is_some() || node_twice(&sound), "{line}"),
             // Given for a HANDSHAKE that can be read, as can all before it.
-            3 => assert!(sound_ones.any(is_handshake), "line {line}"),
-            _ => panic!("line {line} has another number"),
+            3 => assert!(sound_ones.any(is_handshake), "{line}"),
+            _ => panic!("{line} has another number"),
         }
     }
 }
@@ -61,31 +63,26 @@ fn messages_of_hand_made_datagrams_are_as_their_numbers_say() {
 #[test]
 fn store_answers_hand_made_datagrams_with_their_numbers() {
     // Without a channel, 3 is given for the layout alone.
-    let mut store = Store::start(any_order(SEVEN)).expect("a pack's length");
-    let mut seen = [0; 4];
-    for HandMade {
-        line,
-        number,
-        datagram,
-    } in hand_made()
-    {
-        seen[usize::from(number)] += 1;
-        let fresh = store.clone();
-        let answer = store.take(0, 1, &datagram).map_err(Refusal::number);
+    let mut seen = [[0; 4]; 2];
+    for (addressing, made) in hand_made() {
+        let HandMade { line, number, .. } = made;
+        seen[usize::from(addressing == BINS)][usize::from(number)] += 1;
+        let order = any_order(SEVEN).addressing(addressing);
+        let mut store = Store::start(order).expect("a pack's length");
+        let answer = store.take(0, 1, &made.datagram).map_err(Refusal::number);
         match number {
-            0 => assert!(!matches!(answer, Err(1..=3)), "line {line}"),
-            _ => assert_eq!(answer, Err(number.into()), "line {line}"),
+            0 => assert!(!matches!(answer, Err(1..=3)), "{addressing:?}, line {line}"),
+            _ => assert_eq!(answer, Err(number.into()), "{addressing:?}, line {line}"),
         }
-        store = fresh;
     }
-    assert!(seen.into_iter().all(|count| count > 0), "{seen:?}");
+    assert!(seen.iter().flatten().all(|&count| count > 0), "{seen:?}");
 }
 
 #[test]
 fn messages_stop_behind_the_first_refused_one() {
     let datagram = bytes("00000005 0a 03 00000005 00000004 0b");
     let wanted = [Ok((4, Message::Choke)), Err(Malformed { place: 5 })];
-    assert!(messages(&datagram).eq(wanted));
+    assert!(messages(RANGES, &datagram).eq(wanted));
 }
 
 #[test]
@@ -114,7 +111,7 @@ fn messages_have_their_places() {
             },
         ),
     ];
-    assert!(messages(&datagram).eq(wanted.map(Ok)));
+    assert!(messages(RANGES, &datagram).eq(wanted.map(Ok)));
 }
 
 #[test]
@@ -134,14 +131,17 @@ fn options_are_told_apart() {
             source: 17,
             options,
         };
-        assert!(messages(&datagram).eq([Ok((4, wanted))]));
+        assert!(messages(RANGES, &datagram).eq([Ok((4, wanted))]));
     }
 }
 
 #[test]
 fn datagram_of_no_message() {
     for digits in ["", "00", "000000", "00000005"] {
-        assert!(messages(&bytes(digits)).next().is_none(), "{digits}");
+        assert!(
+            messages(RANGES, &bytes(digits)).next().is_none(),
+            "{digits}"
+        );
     }
 }
 

@@ -1,7 +1,7 @@
 //! Every number, given once by a case made by hand; each refusal leaves every room as it was.
 
-use crate::support::{any_order, bytes, content, Pair, SERVER, SEVEN, VAN};
-use ppspp::{Lend, OwnedRooms, Refusal, Store};
+use crate::support::{any_order, bytes, content, Pair, RANGES, SERVER, SEVEN, VAN};
+use ppspp::{Lend, Order, OwnedRooms, Refusal, Store};
 
 /// A call must be refused so, and must leave every room as it was.
 fn refused<R, T>(
@@ -126,7 +126,7 @@ fn hash_missing() {
     let mut pair = Pair::new(SEVEN);
     let mut room = [0; 2_048];
     let chunk = &content(SEVEN)[..1_024];
-    let data = ppspp::Composer::begin(&mut room, VAN).and_then(|c| c.data(0, 0, chunk));
+    let data = ppspp::Composer::begin(&mut room, RANGES, VAN).and_then(|c| c.data(0, 0, chunk));
     let datagram = data.expect("DATA fits").finish();
     take_refused(&mut pair.van, datagram, Refusal::HashMissing);
 }
@@ -153,7 +153,7 @@ fn room() {
     refused(&mut van, |s| s.restart(longer), Refusal::Room);
     refused(
         &mut van,
-        |s| s.rebuild(9_216, &content(9_216)),
+        |s| s.rebuild(Order::to_build(9_216), &content(9_216)),
         Refusal::Room,
     );
 }
@@ -163,18 +163,20 @@ fn length() {
     for length in [0, 524_289, u32::MAX] {
         assert_eq!(Store::start(any_order(length)).err(), Some(Refusal::Length));
     }
-    assert_eq!(Store::build(&[]).err(), Some(Refusal::Length));
-    assert_eq!(Store::build(&content(524_289)).err(), Some(Refusal::Length));
+    for length in [0, 524_289] {
+        let built = Store::build(Order::to_build(length), &content(length));
+        assert_eq!(built.err(), Some(Refusal::Length));
+    }
     let mut van = Pair::new(SEVEN).van;
     refused(&mut van, |s| s.restart(any_order(0)), Refusal::Length);
     refused(
         &mut van,
-        |s| s.rebuild(SEVEN, &content(SEVEN - 1)),
+        |s| s.rebuild(Order::to_build(SEVEN), &content(SEVEN - 1)),
         Refusal::Length,
     );
     refused(
         &mut van,
-        |s| s.rebuild(SEVEN, &content(SEVEN + 1)),
+        |s| s.rebuild(Order::to_build(SEVEN), &content(SEVEN + 1)),
         Refusal::Length,
     );
 }

@@ -71,8 +71,8 @@ fn limits_are_those_of_01() {
     assert_eq!(sizes::ROOT_BYTES, 32);
     assert_eq!((sizes::MIN_DATAGRAM, sizes::MAX_DATAGRAM), (4, 2_048));
     assert_eq!(sizes::REPLY_BYTES, 2_048);
-    // A version, a root of eight words, a length, and 16 rows of four.
-    assert_eq!(sizes::STATE_WORDS, 1 + 8 + 1 + 16 * 4);
+    // A version, a root of eight words, a length, an addressing, and 16 rows of four.
+    assert_eq!(sizes::STATE_WORDS, 1 + 8 + 1 + 1 + 16 * 4);
 }
 
 #[test]

@@ -1,11 +1,15 @@
 //! Packs, and stores that share a channel.
 
-use ppspp::{Order, Store};
+use ppspp::{Addressing, Order, Store};
 use second::by_hand;
 
 /// The van's channel, and the server's for it.
 pub const VAN: u32 = 17;
 pub const SERVER: u32 = 5;
+
+/// The two ways of naming chunks.
+pub const BINS: Addressing = Addressing::Bins;
+pub const RANGES: Addressing = Addressing::Ranges;
 
 /// The length of a pack of seven chunks, the last of 1,018 bytes.
 pub const SEVEN: u32 = 7_162;
@@ -21,12 +25,15 @@ pub fn bytes(text: &str) -> Vec<u8> {
     by_hand::parse(&line).expect(text).remove(0).datagram
 }
 
-/// An order that no content is known for.
+/// An order that no content is known for, under ranges.
 pub fn any_order(length: u32) -> Order {
-    Order {
-        root: [0x2a; 32],
-        length,
-    }
+    Order::new([0x2a; 32], length)
+}
+
+/// A whole store of a pack of a length.
+pub fn built(addressing: Addressing, length: u32) -> Store {
+    let order = Order::to_build(length).addressing(addressing);
+    Store::build(order, &content(length)).expect("a pack's length")
 }
 
 /// A server that has a pack, and an empty van under its order. A channel is open between them.
@@ -37,9 +44,14 @@ pub struct Pair {
 }
 
 impl Pair {
-    /// A pair for the pack of a length.
+    /// A pair for the pack of a length, under ranges.
     pub fn new(length: u32) -> Pair {
-        let mut server = Store::build(&content(length)).expect("a pack's length");
+        Pair::under(RANGES, length)
+    }
+
+    /// A pair for the pack of a length.
+    pub fn under(addressing: Addressing, length: u32) -> Pair {
+        let mut server = built(addressing, length);
         let order = server.order().expect("it was built");
         let mut van = Store::start(order).expect("the same length");
         let calling = van.open(VAN).expect("a free row");

@@ -1,6 +1,6 @@
 //! The worked values of 01 for a pack of seven chunks.
 
-use crate::support::{content, Pair, SEVEN, VAN};
+use crate::support::{content, Pair, RANGES, SEVEN, VAN};
 use ppspp::{messages, Composer, Message, Refusal, Store};
 use second::sha256::{node, sha256};
 
@@ -9,7 +9,7 @@ type Node = ((u32, u32), [u8; 32]);
 
 /// The hashes of a chunk's datagram.
 fn hashes(datagram: &[u8]) -> Vec<Node> {
-    let sound = messages(datagram).map(|found| found.expect("sound").1);
+    let sound = messages(RANGES, datagram).map(|found| found.expect("sound").1);
     sound
         .filter_map(|message| match message {
             Message::Integrity { first, last, hash } => {
@@ -23,7 +23,7 @@ fn hashes(datagram: &[u8]) -> Vec<Node> {
 /// The van takes a chunk with these hashes.
 fn take_with(van: &mut Store, chunk: u32, nodes: &[Node]) -> Result<(), Refusal> {
     let mut room = [0; 2_048];
-    let mut composer = Composer::begin(&mut room, VAN)?;
+    let mut composer = Composer::begin(&mut room, RANGES, VAN)?;
     for ((first, last), hash) in nodes {
         let (first, last) = (*first, *last);
         composer.add(Message::Integrity { first, last, hash })?;
@@ -43,7 +43,10 @@ fn chunk_0_goes_out_with_five_hashes_in_1250_bytes() {
         .map(|(range, _)| range)
         .collect();
     assert_eq!(ranges, [(0, 3), (2, 3), (4, 5), (1, 1), (6, 6)]);
-    let last = messages(&datagram).last().expect("DATA").expect("sound");
+    let last = messages(RANGES, &datagram)
+        .last()
+        .expect("DATA")
+        .expect("sound");
     let content = content(SEVEN);
     let data = Message::Data {
         first: 0,

@@ -1,6 +1,7 @@
 //! Refusals and messages in words.
 
-use ppspp::{Malformed, Message, Options, Refusal};
+use crate::support::{any_order, BINS, RANGES, SEVEN};
+use ppspp::{Bin, EmptyKind, Malformed, Message, Options, Refusal, Store};
 
 #[test]
 fn refusals_have_the_numbers_of_01() {
@@ -95,4 +96,124 @@ fn handshakes_in_words() {
     }
     let closing = Message::CLOSING.to_string();
     assert_eq!(closing, "HANDSHAKE that closes the channel");
+}
+
+#[test]
+fn bins_are_over_chunks() {
+    let tried = [
+        (0, (0, 0), "chunk 0 (bin 0)"),
+        (12, (6, 6), "chunk 6 (bin 12)"),
+        (11, (4, 7), "chunks 4..7 (bin 11)"),
+        (7, (0, 7), "chunks 0..7 (bin 7)"),
+        (23, (8, 15), "chunks 8..15 (bin 23)"),
+        (
+            0x3fff_ffff,
+            (0, 0x3fff_ffff),
+            "chunks 0..1073741823 (bin 1073741823)",
+        ),
+        (0x7fff_ffff, (0, 0x7fff_ffff), "all chunks (bin 7FFFFFFF)"),
+        (
+            0xffff_fffe,
+            (0x7fff_ffff, 0x7fff_ffff),
+            "chunk 2147483647 (bin 4294967294)",
+        ),
+    ];
+    for (number, (first, last), words) in tried {
+        assert_eq!(Bin::over(first, last), Some(Bin(number)));
+        assert_eq!(Bin(number).chunks(), Some((first, last)));
+        assert_eq!(Bin(number).to_string(), words);
+    }
+    assert_eq!(Bin::EMPTY.chunks(), None);
+    assert_eq!(Bin::EMPTY.to_string(), "no chunk (bin FFFFFFFF)");
+    for (first, last) in [
+        (0, 2),
+        (1, 2),
+        (5, 3),
+        (2, 5),
+        (0, u32::MAX),
+        (1 << 31, 1 << 31),
+    ] {
+        assert_eq!(Bin::over(first, last), None, "{first}..{last}");
+    }
+}
+
+#[test]
+fn bins_in_a_pack() {
+    let tried = [
+        (11, "chunks 4..6 (bin 11)"),
+        (13, "chunk 6 (bin 13)"),
+        (7, "chunks 0..6 (bin 7)"),
+        (3, "chunks 0..3 (bin 3)"),
+        (14, "chunk 7 (bin 14)"),
+        (23, "chunks 8..15 (bin 23)"),
+        (0x7fff_ffff, "all chunks (bin 7FFFFFFF)"),
+        (0xffff_ffff, "no chunk (bin FFFFFFFF)"),
+    ];
+    for (number, words) in tried {
+        assert_eq!(Bin(number).in_pack(7).to_string(), words);
+    }
+}
+
+#[test]
+fn messages_of_bins_in_words() {
+    let (first, last, delay) = (4, 7, 250);
+    let have = Message::Have { first, last };
+    let ack = Message::Ack { first, last, delay };
+    let kind = EmptyKind::Request;
+    let empty = Message::Empty { kind };
+    let tried = [
+        (have, "HAVE of chunks 4..7 (bin 11)"),
+        (ack, "ACK of chunks 4..7 (bin 11), delay 250"),
+        (empty, "REQUEST of no chunk (bin FFFFFFFF)"),
+        (Message::Choke, "CHOKE"),
+    ];
+    for (message, words) in tried {
+        assert_eq!(message.in_words(BINS).to_string(), words);
+        assert_eq!(message.in_words(RANGES).to_string(), message.to_string());
+    }
+    assert_eq!(have.to_string(), "HAVE of chunks 4 to 7");
+    assert_eq!(empty.to_string(), "REQUEST of no chunk (bin FFFFFFFF)");
+    // A message to be added over chunks that no bin names.
+    let nameless = Message::Cancel { first: 0, last: 2 };
+    let words = nameless.in_words(BINS).to_string();
+    assert_eq!(words, "CANCEL of chunks 0 to 2");
+}
+
+#[test]
+fn messages_of_bins_in_a_store() {
+    let (first, last, delay, hash) = (4, 7, 250, &[0xab; 32]);
+    let hash_words = format!(
+        "INTEGRITY of chunks 4..7 (bin 11), hash {}",
+        "ab".repeat(32)
+    );
+    let tried = [
+        (
+            Message::Have { first, last },
+            "HAVE of chunks 4..6 (bin 11)",
+        ),
+        (
+            Message::Request { first, last },
+            "REQUEST of chunks 4..6 (bin 11)",
+        ),
+        (
+            Message::Cancel { first, last },
+            "CANCEL of chunks 4..6 (bin 11)",
+        ),
+        (
+            Message::Ack { first, last, delay },
+            "ACK of chunks 4..6 (bin 11), delay 250",
+        ),
+        // It is refused with 7, and means no part of what it names.
+        (Message::Integrity { first, last, hash }, &hash_words),
+    ];
+    let order = any_order(SEVEN).addressing(BINS);
+    let store = Store::start(order).expect("a pack's length");
+    for (message, words) in tried {
+        assert_eq!(message.in_words(BINS).in_pack(7).to_string(), words);
+        assert_eq!(store.in_words(message).to_string(), words);
+    }
+    // Under ranges nothing is cut.
+    let store = Store::start(any_order(SEVEN)).expect("a pack's length");
+    let have = Message::Have { first, last };
+    assert_eq!(store.in_words(have).to_string(), "HAVE of chunks 4 to 7");
 }

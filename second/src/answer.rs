@@ -28,6 +28,9 @@ pub const HASH_WRONG: u8 = 10;
 pub const ROOM_TOO_SMALL: u8 = 11;
 /// The order's length is 0 or over the limit, or the content has another one.
 pub const BAD_LENGTH: u8 = 12;
+/// The order, or a message to be added, is under an addressing method that no
+/// paper gives.
+pub const BAD_METHOD: u8 = 12;
 /// The chunk to be written is not held.
 pub const NOT_HELD: u8 = 13;
 /// A channel is to be opened under ID 0 or one in use.

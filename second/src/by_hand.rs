@@ -1,6 +1,7 @@
-//! The datagrams made by hand, `tests/wire/datagrams.txt`.
+//! The datagrams made by hand: `tests/wire/datagrams.txt` under ranges, and
+//! `tests/wire/bins.txt` under bins.
 //!
-//! A line of the text is `NUMBER HEX # why`: the number that 01 gives for the
+//! A line of a text is `NUMBER HEX # why`: the number that 01 and 02 give for the
 //! datagram's layout, worked out by hand, and the datagram's bytes, in groups
 //! of hexadecimal digits or as `xx*N`, the byte `xx` repeated N times. Empty
 //! lines and lines that begin with `#` say nothing.

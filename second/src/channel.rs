@@ -22,6 +22,7 @@ pub use rooms::{Rooms, Sizes};
 use crate::answer;
 use crate::sha256::Digest;
 use crate::store::check_length;
+use crate::wire::Addressing;
 
 /// The rows of the channel table.
 pub const CHANNELS: usize = 16;
@@ -59,6 +60,8 @@ pub struct State {
     pub root: Digest,
     /// The order's length in bytes; 0 before the first start.
     pub length: u32,
+    /// The order's addressing method.
+    pub addressing: Addressing,
     /// The channel table.
     pub rows: [Row; CHANNELS],
 }

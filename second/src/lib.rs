@@ -1,7 +1,7 @@
-//! An independent implementation, written from FIPS 180-4, RFC 7574 and the
-//! yard profile (01), against which the proved crates are compared. It uses the
-//! standard library only, shares no code with any other package, and is meant
-//! to be read beside those papers.
+//! An independent implementation, written from FIPS 180-4, RFC 7574, the yard
+//! profile (01) and the changes requested after it (02, No. 1), against which the
+//! proved crates are compared. It uses the standard library only, shares no code
+//! with any other package, and is meant to be read beside those papers.
 
 #![forbid(unsafe_code)]
 

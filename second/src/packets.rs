@@ -1,7 +1,12 @@
-//! The bytes of datagrams, put together here and not by `wire`.
+//! The bytes of datagrams, put together here and not by `wire`. Chunks are named
+//! by ranges, but in the modules for bins and for either method.
+
+pub mod bins;
+pub mod either;
 
 use crate::sha256::Digest;
 use crate::tree;
+use crate::wire::Addressing;
 
 /// A datagram.
 pub fn to(destination: u32, messages: &[&[u8]]) -> Vec<u8> {
@@ -10,9 +15,18 @@ pub fn to(destination: u32, messages: &[&[u8]]) -> Vec<u8> {
 
 /// 01's fixed options around a root.
 pub fn fixed(root: &Digest) -> Vec<u8> {
+    options(Addressing::Ranges, root)
+}
+
+/// The fixed options under a method.
+fn options(addressing: Addressing, root: &Digest) -> Vec<u8> {
+    let method = match addressing {
+        Addressing::Bins => 0x00,
+        Addressing::Ranges => 0x02,
+    };
     let before = [0x00, 0x01, 0x01, 0x01, 0x02, 0x00, 0x20];
     let behind = [
-        0x03, 0x01, 0x04, 0x02, 0x06, 0x02, 0x09, 0x00, 0x00, 0x04, 0x00, 0xff,
+        0x03, 0x01, 0x04, 0x02, 0x06, method, 0x09, 0x00, 0x00, 0x04, 0x00, 0xff,
     ];
     [&before[..], root, &behind].concat()
 }

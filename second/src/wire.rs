@@ -1,8 +1,9 @@
 //! Datagrams (RFC 7574, sections 7 and 8, as 01 narrows them): four bytes of
 //! destination channel, then messages, each led by its type byte. All numbers
-//! are big-endian.
+//! are big-endian. Messages name chunks by ranges or, after 02's No. 1, by bins.
 
 mod layout;
+mod names;
 mod nodes;
 mod read;
 mod write;
@@ -14,6 +15,8 @@ mod tests;
 
 pub(crate) use layout::check;
 pub use layout::layout;
+pub use names::Addressing;
+pub(crate) use names::{ByBins, ByRanges, Names};
 pub(crate) use nodes::Nodes;
 pub use read::step;
 pub(crate) use read::{effect, Effect};
@@ -27,10 +30,9 @@ pub const MAX_SIZE: usize = 2048;
 /// The bytes of a hash, and of the swarm ID in the fixed options.
 pub const HASH_SIZE: usize = 32;
 
-/// The bytes of an INTEGRITY message.
-pub(crate) const INTEGRITY_SIZE: usize = 9 + HASH_SIZE;
-/// The most of them that a datagram has room for.
-const MOST_NODES: usize = (MAX_SIZE - MIN_SIZE) / INTEGRITY_SIZE;
+/// The most INTEGRITY messages that a datagram has room for: under bins, each
+/// has a type byte, four bytes of bin and a hash.
+const MOST_NODES: usize = (MAX_SIZE - MIN_SIZE) / (5 + HASH_SIZE);
 
 /// The type bytes of the messages.
 pub(crate) mod kind {
@@ -50,16 +52,20 @@ const END: u8 = 255;
 /// The fixed options before the swarm ID: version 1, least version 1, and a
 /// swarm ID of 32 bytes.
 const BEFORE_ID: [u8; 7] = [0, 1, 1, 1, 2, 0, 32];
-/// The fixed options behind the swarm ID: Merkle hash tree, SHA-256, 32-bit
-/// chunk ranges, chunks of 1,024 bytes, and End.
-const BEHIND_ID: [u8; 12] = [3, 1, 4, 2, 6, 2, 9, 0, 0, 4, 0, END];
 /// The bytes of the fixed options.
-const FIXED_SIZE: usize = BEFORE_ID.len() + HASH_SIZE + BEHIND_ID.len();
+const FIXED_SIZE: usize = BEFORE_ID.len() + HASH_SIZE + 12;
+
+/// The fixed options behind the swarm ID: Merkle hash tree, SHA-256, the
+/// addressing method, chunks of 1,024 bytes, and End.
+const fn behind_id(addressing: Addressing) -> [u8; 12] {
+    let method = addressing.number() as u8;
+    [3, 1, 4, 2, 6, method, 9, 0, 0, 4, 0, END]
+}
 
 /// The options of a HANDSHAKE.
 #[derive(Clone, Copy, Debug, PartialEq, Eq)]
 pub enum Options {
-    /// The fixed ones, around any swarm ID.
+    /// The fixed ones of the addressing method, around any swarm ID.
     Fixed {
         /// The place of the swarm ID's first byte.
         root: usize,
@@ -70,8 +76,9 @@ pub enum Options {
     Other,
 }
 
-/// A message. Ranges include both ends; places are those in the datagram read,
-/// or in the source slice of a message to be written.
+/// A message. Ranges include both ends; a bin is the range of the chunks that it
+/// covers. Places are those in the datagram read, or in the source slice of a
+/// message to be written.
 #[derive(Clone, Copy, Debug, PartialEq, Eq)]
 pub enum Message {
     /// Opens, answers or (from source 0) closes a channel.
@@ -138,6 +145,11 @@ pub enum Message {
     Choke,
     /// Requests will be served again.
     Unchoke,
+    /// Under bins, a HAVE, REQUEST or CANCEL of the empty bin.
+    Empty {
+        /// Its type byte.
+        kind: u8,
+    },
 }
 
 /// What stands at a place of a datagram.

@@ -43,6 +43,20 @@ uint32_t any_chunk(uint32_t n)
     }
 }
 
+uint32_t any_bin(uint32_t n)
+{
+    switch (below(8)) {
+    case 0:
+        return 0xffffffffu;
+    case 1:
+        return 0x7fffffffu;
+    case 2:
+        return (uint32_t)chance();
+    default:
+        return below(2 * n + 2);
+    }
+}
+
 struct packet any_bytes(uint32_t destination)
 {
     struct packet p = packet_to(destination);
@@ -54,7 +68,7 @@ struct packet any_bytes(uint32_t destination)
 }
 
 /* One message, its type any of 01's but HANDSHAKE and DATA. */
-static void put_any(struct packet *p, uint32_t n)
+static void put_any(struct packet *p, uint32_t addressing, uint32_t n)
 {
     static const uint32_t types[] = {2, 3, 4, 8, 9, 10, 11};
     const uint32_t type = types[below(7)];
@@ -64,17 +78,21 @@ static void put_any(struct packet *p, uint32_t n)
         put8(p, type);
         return;
     }
-    put_range(p, type, first, last);
+    if (addressing == PPSPP_BINS) {
+        put_bin(p, type, any_bin(n));
+    } else {
+        put_range(p, type, first, last);
+    }
     for (uint32_t behind = type == 2 ? 8 : type == 4 ? 32 : 0; behind > 0; behind--) {
         put8(p, (uint32_t)chance());
     }
 }
 
-struct packet any_messages(uint32_t destination, uint32_t n)
+struct packet any_messages(uint32_t destination, uint32_t addressing, uint32_t n)
 {
     struct packet p = packet_to(destination);
     for (uint32_t left = below(6); left > 0; left--) {
-        put_any(&p, n);
+        put_any(&p, addressing, n);
     }
     return p;
 }
@@ -97,9 +115,10 @@ static void overwrite(struct packet *p, size_t at, uint32_t value)
     }
 }
 
-void damage(struct packet *p, uint32_t n)
+void damage(struct packet *p, uint32_t addressing, uint32_t n)
 {
     const uint32_t size = (uint32_t)p->n;
+    const uint32_t hash = addressing == PPSPP_BINS ? 37 : 41;
     if (size == 0) {
         return;
     }
@@ -118,13 +137,13 @@ void damage(struct packet *p, uint32_t n)
         }
         break;
     case 3:
-        overwrite(p, below(size), any_chunk(n));
+        overwrite(p, below(size), addressing == PPSPP_BINS ? any_bin(n) : any_chunk(n));
         break;
     case 4:
         leave_out(p, below(size), 1 + below(4));
         break;
     case 5:
-        leave_out(p, 4 + 41 * below(6), 41);
+        leave_out(p, 4 + hash * below(6), hash);
         break;
     default:
         overwrite(p, 0, one_in(2) ? below(20) : (uint32_t)chance());

@@ -17,11 +17,14 @@ int one_in(uint32_t n);
 /* A number near what a pack of n chunks has, or any. */
 uint32_t any_chunk(uint32_t n);
 
-/* A datagram to a channel: any bytes, or some messages with any numbers for a pack of n chunks. */
-struct packet any_bytes(uint32_t destination);
-struct packet any_messages(uint32_t destination, uint32_t n);
+/* A bin near those of a pack of n chunks, the empty one, everything, or any. */
+uint32_t any_bin(uint32_t n);
 
-/* Damages a datagram: bits, bytes or numbers in it, its end, its destination, or a piece missing. */
-void damage(struct packet *p, uint32_t n);
+/* A datagram to a channel: any bytes, or some messages by ranges or bins with any numbers for a pack of n chunks. */
+struct packet any_bytes(uint32_t destination);
+struct packet any_messages(uint32_t destination, uint32_t addressing, uint32_t n);
+
+/* Damages a datagram: bits, bytes or numbers in it, its end, its destination, a piece missing, or a hash. */
+void damage(struct packet *p, uint32_t addressing, uint32_t n);
 
 #endif

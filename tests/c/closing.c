@@ -6,7 +6,7 @@
 /* Whether a row is free and its four words are 0. */
 static bool freed(const struct guarded *g, uint32_t row)
 {
-    const uint32_t *words = g->store.state + 10 + 4 * row;
+    const uint32_t *words = g->store.state + 11 + 4 * row;
     return words[0] == 0 && words[1] == 0 && words[2] == 0 && words[3] == 0;
 }
 
@@ -38,9 +38,9 @@ static void close_open(struct guarded *g)
     CHECK(open_from(g, 31, 0xffffffffu, SEVEN_NODES[SEVEN_ROOT]) == PPSPP_DONE);
     struct packet p = packet_to(31);
     put8(&p, 10);
-    CHECK(take(g, &p) == PPSPP_DONE && g->store.state[17] == 1);
+    CHECK(take(g, &p) == PPSPP_DONE && g->store.state[18] == 1);
     CHECK(guarded_close(g, 30) == PPSPP_DONE && freed(g, 0));
-    CHECK(g->store.state[14] == 2 && g->store.state[15] == 31);
+    CHECK(g->store.state[15] == 2 && g->store.state[16] == 31);
     CHECK(guarded_close(g, 31) == PPSPP_DONE && freed(g, 1));
 }
 
@@ -57,16 +57,19 @@ static void close_refused(struct guarded *g)
     }
     g->store.state[PPSPP_WORD_VERSION] = 0;
     CHECK(guarded_close(g, 0) == PPSPP_LENGTH && guarded_close(g, 30) == PPSPP_LENGTH);
-    g->store.state[PPSPP_WORD_VERSION] = 1;
+    g->store.state[PPSPP_WORD_VERSION] = 2;
     CHECK(guarded_close(g, 30) == PPSPP_DONE);
 }
 
 void group_closing(void)
 {
-    struct guarded g;
-    seven_fresh(&g);
-    close_calling(&g);
-    close_open(&g);
-    close_refused(&g);
-    guarded_end(&g);
+    static const uint32_t methods[] = {PPSPP_BINS, PPSPP_RANGES};
+    for (size_t i = 0; i < 2; i++) {
+        struct guarded g;
+        seven_fresh_under(&g, methods[i]);
+        close_calling(&g);
+        close_open(&g);
+        close_refused(&g);
+        guarded_end(&g);
+    }
 }

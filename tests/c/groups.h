@@ -23,6 +23,23 @@ void group_read_back(void);
 void group_read_anywhere(void);
 void group_read_none(void);
 
+/* bins.c, bins_added.c */
+void group_bins(void);
+void group_special_bins(void);
+void group_bin_hashes(void);
+void group_bin_data(void);
+void group_bins_cut(void);
+void group_bins_added(void);
+void group_empty_added(void);
+void group_add_order(void);
+
+/* methods.c */
+void group_orders(void);
+void group_option_6(void);
+void group_read_bins(void);
+void group_read_no_method(void);
+void group_two_vans(void);
+
 /* numbers_reading.c: 1 to 7; numbers_storing.c: 8 to 14 */
 void group_numbers_reading(void);
 void group_numbers_storing(void);

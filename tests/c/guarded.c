@@ -136,15 +136,28 @@ static uint32_t settle(struct guarded *g, uint32_t answer, size_t len, unsigned 
 
 uint32_t guarded_start(struct guarded *g, const uint8_t *root, uint32_t length)
 {
+    const struct ppspp_order order = ppspp_order_of(root, length, PPSPP_RANGES);
+    return guarded_start_under(g, &order);
+}
+
+uint32_t guarded_start_under(struct guarded *g, const struct ppspp_order *order)
+{
     keep(g);
-    const uint32_t answer = ppspp_store_start(&g->store, root, length);
+    const uint32_t answer = ppspp_store_start(&g->store, order);
     return settle(g, answer, 0, ALL & ~ONLY(CHUNKS) & ~ONLY(REPLY));
 }
 
 uint32_t guarded_build(struct guarded *g, uint32_t length, const uint8_t *content, size_t content_n)
 {
+    const struct ppspp_order order = ppspp_order_to_build(length, PPSPP_RANGES);
+    return guarded_build_under(g, &order, content, content_n);
+}
+
+uint32_t guarded_build_under(struct guarded *g, const struct ppspp_order *order, const uint8_t *content,
+                             size_t content_n)
+{
     keep(g);
-    const uint32_t answer = ppspp_store_build(&g->store, length, content, content_n);
+    const uint32_t answer = ppspp_store_build(&g->store, order, content, content_n);
     return settle(g, answer, 0, ALL & ~ONLY(REPLY));
 }
 
@@ -200,9 +213,16 @@ uint32_t guarded_begin(struct guarded *g, uint32_t destination)
 uint32_t guarded_add(struct guarded *g, size_t len, uint32_t type, uint32_t first, uint32_t last, uint64_t number,
                      const uint8_t *bytes, size_t bytes_n)
 {
+    const uint32_t addressing = ppspp_store_addressing(&g->store);
+    return guarded_add_under(g, addressing, len, type, first, last, number, bytes, bytes_n);
+}
+
+uint32_t guarded_add_under(struct guarded *g, uint32_t addressing, size_t len, uint32_t type, uint32_t first,
+                           uint32_t last, uint64_t number, const uint8_t *bytes, size_t bytes_n)
+{
     size_t longer = UNSET;
     keep(g);
-    const uint32_t answer = ppspp_add(g->store.reply, g->store.reply_n, len, type, first, last, number, bytes, bytes_n,
-                                      &longer);
+    const uint32_t answer = ppspp_add(g->store.reply, g->store.reply_n, addressing, len, type, first, last, number,
+                                      bytes, bytes_n, &longer);
     return settle(g, answer, longer, ONLY(REPLY));
 }

@@ -29,15 +29,23 @@ void guarded_end(struct guarded *g);
 void guarded_shorten(struct guarded *g, enum room room);
 void guarded_lengthen(struct guarded *g, enum room room);
 
+/* Under ranges, or under an order. */
 uint32_t guarded_start(struct guarded *g, const uint8_t *root, uint32_t length);
+uint32_t guarded_start_under(struct guarded *g, const struct ppspp_order *order);
 uint32_t guarded_build(struct guarded *g, uint32_t length, const uint8_t *content, size_t content_n);
+uint32_t guarded_build_under(struct guarded *g, const struct ppspp_order *order, const uint8_t *content,
+                             size_t content_n);
 uint32_t guarded_open(struct guarded *g, uint32_t id);
 uint32_t guarded_take(struct guarded *g, uint64_t clock, uint32_t id, const uint8_t *datagram, size_t datagram_n);
 uint32_t guarded_write(struct guarded *g, uint32_t id, uint32_t chunk, uint64_t clock);
 uint32_t guarded_close(struct guarded *g, uint32_t id);
 uint32_t guarded_ask(struct guarded *g, uint32_t *held, uint32_t *whole);
 uint32_t guarded_begin(struct guarded *g, uint32_t destination);
+
+/* Under the store's addressing, or under another number. */
 uint32_t guarded_add(struct guarded *g, size_t len, uint32_t type, uint32_t first, uint32_t last, uint64_t number,
                      const uint8_t *bytes, size_t bytes_n);
+uint32_t guarded_add_under(struct guarded *g, uint32_t addressing, size_t len, uint32_t type, uint32_t first,
+                           uint32_t last, uint64_t number, const uint8_t *bytes, size_t bytes_n);
 
 #endif

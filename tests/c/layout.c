@@ -10,17 +10,17 @@ void group_layout(void)
     struct guarded g;
     uint8_t root[PPSPP_ROOT_BYTES];
     CHECK(ppspp_header_matches());
-    CHECK(ppspp_layout_version() == 1);
-    CHECK(ppspp_state_words() == 1 + 8 + 1 + 16 * 4);
+    CHECK(ppspp_layout_version() == 2);
+    CHECK(ppspp_state_words() == 1 + 8 + 1 + 1 + 16 * 4);
     seven_fresh(&g);
-    CHECK(g.store.state[0] == 1);
+    CHECK(g.store.state[0] == 2);
     CHECK(g.store.state[1] == 0x62b74b86u && g.store.state[8] == 0x673e32eau);
-    CHECK(g.store.state[9] == 7162);
+    CHECK(g.store.state[9] == 7162 && g.store.state[10] == 2);
     CHECK(ppspp_store_has_order(&g.store));
     CHECK(ppspp_store_root(&g.store, root) && memcmp(root, SEVEN_NODES[SEVEN_ROOT], sizeof root) == 0);
     CHECK(ppspp_store_length(&g.store) == 7162 && ppspp_store_chunk_count(&g.store) == 7);
-    CHECK(g.store.state[10] == 2 && g.store.state[11] == OURS && g.store.state[12] == PEERS && g.store.state[13] == 0);
-    for (size_t i = 14; i < 74; i++) {
+    CHECK(g.store.state[11] == 2 && g.store.state[12] == OURS && g.store.state[13] == PEERS && g.store.state[14] == 0);
+    for (size_t i = 15; i < 75; i++) {
         CHECK(g.store.state[i] == 0);
     }
     guarded_end(&g);
@@ -102,19 +102,21 @@ static void check_refused(struct guarded *g, uint32_t number)
     CHECK(guarded_write(g, OURS, 0, 0) == number);
     CHECK(guarded_ask(g, &held, &whole) == number);
     CHECK(!ppspp_store_has_order(&g->store) && ppspp_store_length(&g->store) == 0);
+    CHECK(ppspp_store_addressing(&g->store) == PPSPP_RANGES);
     CHECK(!ppspp_store_root(&g->store, root) && memcmp(root, zeros, sizeof root) == 0);
     CHECK(row_is(g, 0, PPSPP_FREE, 0, 0, false) && !ppspp_store_holds(&g->store, 0));
     CHECK(!ppspp_store_peer_has(&g->store, 0, 0) && !ppspp_store_peer_wants(&g->store, 0, 0));
 }
 
 /*
- * A zeroed state, one of another version and one of no sound length are 12 until they are started or built; one of 73
- * words is always 11.
+ * A zeroed state, one of another version and one of no sound length or addressing are 12 until they are started or
+ * built; one of 74 words is always 11.
  */
 void group_no_order(void)
 {
-    static const uint32_t versions[] = {0, 2, 0x01000000u, 0x80000001u, 0xffffffffu};
+    static const uint32_t versions[] = {0, 1, 3, 0x02000000u, 0x80000002u, 0xffffffffu};
     static const uint32_t lengths[] = {0, 524289, 0xffffffffu};
+    static const uint32_t methods[] = {1, 3, 4, 0x102u, 0x02000000u, 0xffffffffu};
     struct guarded g;
     seven_built(&g);
     for (size_t i = 0; i < sizeof lengths / sizeof lengths[0]; i++) {
@@ -122,6 +124,11 @@ void group_no_order(void)
         check_refused(&g, PPSPP_LENGTH);
     }
     g.store.state[PPSPP_WORD_LENGTH] = SEVEN_LENGTH;
+    for (size_t i = 0; i < sizeof methods / sizeof methods[0]; i++) {
+        g.store.state[PPSPP_WORD_ADDRESSING] = methods[i];
+        check_refused(&g, PPSPP_LENGTH);
+    }
+    g.store.state[PPSPP_WORD_ADDRESSING] = PPSPP_RANGES;
     CHECK(ppspp_store_has_order(&g.store) && held_of(&g) == 7);
     for (size_t i = 0; i < sizeof versions / sizeof versions[0]; i++) {
         g.store.state[PPSPP_WORD_VERSION] = versions[i];

@@ -1,4 +1,7 @@
-/* The calls for single messages: the bytes they write, what is read back, and what they do to a channel. */
+/*
+ * The calls for single messages by ranges: the bytes they write, what is read back, and what they do to a channel. The
+ * desk has no order, so that its addressing is ranges.
+ */
 #include <string.h>
 
 #include "check.h"
@@ -109,7 +112,7 @@ static size_t check_found(const struct packet *p, size_t at, uint32_t type, uint
                           uint64_t number, size_t bytes, size_t bytes_n)
 {
     uint64_t found[PPSPP_FOUND_WORDS] = {99, 99, 99, 99, 99, 99, 99};
-    CHECK(ppspp_read(p->bytes, p->n, at, found) == PPSPP_STEP_MESSAGE);
+    CHECK(ppspp_read(p->bytes, p->n, PPSPP_RANGES, at, found) == PPSPP_STEP_MESSAGE);
     CHECK(found[PPSPP_FOUND_TYPE] == type);
     CHECK(found[PPSPP_FOUND_FIRST] == first && found[PPSPP_FOUND_LAST] == last);
     CHECK(found[PPSPP_FOUND_NUMBER] == number);
@@ -123,7 +126,7 @@ static bool finds_none(const uint8_t *bytes, size_t n, size_t at, uint32_t step)
     static const uint64_t before[PPSPP_FOUND_WORDS] = {1, 2, 3, 4, 5, 6, 7};
     uint64_t found[PPSPP_FOUND_WORDS];
     memcpy(found, before, sizeof found);
-    return ppspp_read(bytes, n, at, found) == step && memcmp(found, before, sizeof found) == 0;
+    return ppspp_read(bytes, n, PPSPP_RANGES, at, found) == step && memcmp(found, before, sizeof found) == 0;
 }
 
 /* Places 0 to 3 are read like any other, also in a datagram under 4 bytes: 10 and 11 are messages of one byte. */
@@ -154,7 +157,7 @@ void group_read_back(void)
 {
     uint64_t found[PPSPP_FOUND_WORDS];
     struct packet p = packet_to(OURS);
-    CHECK(ppspp_read(p.bytes, p.n, 4, found) == PPSPP_STEP_END);
+    CHECK(ppspp_read(p.bytes, p.n, PPSPP_RANGES, 4, found) == PPSPP_STEP_END);
     put_range(&p, 3, 1, 0xffffffffu);
     put_ack(&p, 2, 3, 0xfedcba9876543210u);
     put_integrity(&p, 4, 5, SEVEN_NODES[9]);
@@ -169,17 +172,17 @@ void group_read_back(void)
     at = check_found(&p, at, PPSPP_CHOKE, 0, 0, 0, 0, 0);
     CHECK(at == 72);
     at = check_found(&p, at, PPSPP_DATA, 6, 6, 7, 89, 100);
-    CHECK(at == 189 && ppspp_read(p.bytes, p.n, at, found) == PPSPP_STEP_END);
+    CHECK(at == 189 && ppspp_read(p.bytes, p.n, PPSPP_RANGES, at, found) == PPSPP_STEP_END);
 
     p = packet_to(OURS);
     put_handshake(&p, PEERS, SEVEN_NODES[SEVEN_ROOT]);
     CHECK(check_found(&p, 4, PPSPP_HANDSHAKE, PEERS, PPSPP_OPTIONS_FIXED, 0, 16, 32) == 60);
     p.bytes[10] = 2;
     CHECK(check_found(&p, 4, PPSPP_HANDSHAKE, PEERS, PPSPP_OPTIONS_OTHER, 0, 0, 0) == 60);
-    CHECK(ppspp_read(p.bytes, 59, 4, found) == PPSPP_STEP_REFUSED);
+    CHECK(ppspp_read(p.bytes, 59, PPSPP_RANGES, 4, found) == PPSPP_STEP_REFUSED);
     p = packet_to(OURS);
     put_closing(&p);
     CHECK(check_found(&p, 4, PPSPP_HANDSHAKE, 0, PPSPP_OPTIONS_END, 0, 0, 0) == 10);
     p.bytes[4] = 7;
-    CHECK(ppspp_read(p.bytes, p.n, 4, found) == PPSPP_STEP_REFUSED);
+    CHECK(ppspp_read(p.bytes, p.n, PPSPP_RANGES, 4, found) == PPSPP_STEP_REFUSED);
 }

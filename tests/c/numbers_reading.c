@@ -100,6 +100,7 @@ static void number_2_added(struct guarded *g)
     CHECK(guarded_add(g, 4, PPSPP_HANDSHAKE, 17, PPSPP_OPTIONS_FIXED, 0, ROOT, 31) == PPSPP_MALFORMED);
     CHECK(guarded_add(g, 4, 5, 0, 0, 0, ROOT, 32) == PPSPP_MALFORMED);
     CHECK(guarded_add(g, 4, 256, 0, 0, 0, ROOT, 32) == PPSPP_MALFORMED);
+    CHECK(guarded_add(g, 4, PPSPP_EMPTY_HAVE, 0, 0, 0, ROOT, 32) == PPSPP_MALFORMED);
     CHECK(guarded_add(g, 4, PPSPP_DATA, 0, 0, 0, content(), 3) == PPSPP_DONE);
     CHECK(guarded_add(g, g->len, PPSPP_CHOKE, 0, 0, 0, ROOT, 0) == PPSPP_MALFORMED);
 }

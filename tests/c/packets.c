@@ -1,7 +1,8 @@
 #include "packets.h"
 
 static const uint8_t OPTIONS_HEAD[] = {0x00, 0x01, 0x01, 0x01, 0x02, 0x00, 0x20};
-static const uint8_t OPTIONS_TAIL[] = {0x03, 0x01, 0x04, 0x02, 0x06, 0x02, 0x09, 0x00, 0x00, 0x04, 0x00, 0xff};
+static const uint8_t OPTIONS_METHODS[] = {0x03, 0x01, 0x04, 0x02, 0x06};
+static const uint8_t OPTIONS_TAIL[] = {0x09, 0x00, 0x00, 0x04, 0x00, 0xff};
 
 struct packet packet_to(uint32_t destination)
 {
@@ -65,12 +66,44 @@ void put_data(struct packet *p, uint32_t chunk, uint64_t timestamp, const uint8_
     put_bytes(p, bytes, n);
 }
 
+void put_bin(struct packet *p, uint32_t type, uint32_t bin)
+{
+    put8(p, type);
+    put32(p, bin);
+}
+
+void put_bin_ack(struct packet *p, uint32_t bin, uint64_t delay)
+{
+    put_bin(p, 2, bin);
+    put64(p, delay);
+}
+
+void put_bin_integrity(struct packet *p, uint32_t bin, const uint8_t *hash)
+{
+    put_bin(p, 4, bin);
+    put_bytes(p, hash, 32);
+}
+
+void put_bin_data(struct packet *p, uint32_t bin, uint64_t timestamp, const uint8_t *bytes, size_t n)
+{
+    put_bin(p, 1, bin);
+    put64(p, timestamp);
+    put_bytes(p, bytes, n);
+}
+
 void put_handshake(struct packet *p, uint32_t source, const uint8_t *root)
+{
+    put_handshake_under(p, 2, source, root);
+}
+
+void put_handshake_under(struct packet *p, uint32_t addressing, uint32_t source, const uint8_t *root)
 {
     put8(p, 0);
     put32(p, source);
     put_bytes(p, OPTIONS_HEAD, sizeof OPTIONS_HEAD);
     put_bytes(p, root, 32);
+    put_bytes(p, OPTIONS_METHODS, sizeof OPTIONS_METHODS);
+    put8(p, addressing);
     put_bytes(p, OPTIONS_TAIL, sizeof OPTIONS_TAIL);
 }
 

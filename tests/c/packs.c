@@ -33,7 +33,7 @@ size_t seven_size(uint32_t chunk)
 uint32_t open_from(struct guarded *g, uint32_t id, uint32_t source, const uint8_t *root)
 {
     struct packet p = packet_to(0);
-    put_handshake(&p, source, root);
+    put_handshake_under(&p, ppspp_store_addressing(&g->store), source, root);
     return guarded_take(g, 0, id, p.bytes, p.n);
 }
 
@@ -49,15 +49,27 @@ bool replied(const struct guarded *g, const struct packet *p)
 
 void seven_fresh(struct guarded *g)
 {
+    seven_fresh_under(g, PPSPP_RANGES);
+}
+
+void seven_fresh_under(struct guarded *g, uint32_t addressing)
+{
+    const struct ppspp_order order = ppspp_order_of(SEVEN_NODES[SEVEN_ROOT], SEVEN_LENGTH, addressing);
     guarded_new(g, SEVEN_LENGTH);
-    CHECK(guarded_start(g, SEVEN_NODES[SEVEN_ROOT], SEVEN_LENGTH) == PPSPP_DONE);
+    CHECK(guarded_start_under(g, &order) == PPSPP_DONE);
     CHECK(open_from(g, OURS, PEERS, SEVEN_NODES[SEVEN_ROOT]) == PPSPP_DONE);
 }
 
 void seven_built(struct guarded *g)
 {
+    seven_built_under(g, PPSPP_RANGES);
+}
+
+void seven_built_under(struct guarded *g, uint32_t addressing)
+{
+    const struct ppspp_order order = ppspp_order_to_build(SEVEN_LENGTH, addressing);
     guarded_new(g, SEVEN_LENGTH);
-    CHECK(guarded_build(g, SEVEN_LENGTH, content(), SEVEN_LENGTH) == PPSPP_DONE);
+    CHECK(guarded_build_under(g, &order, content(), SEVEN_LENGTH) == PPSPP_DONE);
     CHECK(open_from(g, OURS, PEERS, SEVEN_NODES[SEVEN_ROOT]) == PPSPP_DONE);
 }
 
@@ -76,15 +88,39 @@ void put_chunk(struct packet *p, uint32_t chunk, uint64_t timestamp)
     put_data(p, chunk, timestamp, content() + 1024 * chunk, seven_size(chunk));
 }
 
-struct packet seven_sent(uint32_t destination, uint32_t chunk, uint64_t timestamp)
+void put_bin_node(struct packet *p, uint32_t node)
+{
+    put_bin_integrity(p, node, SEVEN_NODES[node]);
+}
+
+void put_bin_chunk(struct packet *p, uint32_t chunk, uint64_t timestamp)
+{
+    put_bin_data(p, 2 * chunk, timestamp, content() + 1024 * chunk, seven_size(chunk));
+}
+
+/* The hashes of a chunk, each put by a function. */
+static struct packet hashes_of(uint32_t destination, uint32_t chunk, void (*put)(struct packet *p, uint32_t node))
 {
     struct packet p = packet_to(destination);
     for (int i = 0; i < 5; i++) {
         if (SENT[chunk][i] != NO_NODE) {
-            put_node(&p, SENT[chunk][i]);
+            put(&p, SENT[chunk][i]);
         }
     }
+    return p;
+}
+
+struct packet seven_sent(uint32_t destination, uint32_t chunk, uint64_t timestamp)
+{
+    struct packet p = hashes_of(destination, chunk, put_node);
     put_chunk(&p, chunk, timestamp);
+    return p;
+}
+
+struct packet seven_sent_by_bins(uint32_t destination, uint32_t chunk, uint64_t timestamp)
+{
+    struct packet p = hashes_of(destination, chunk, put_bin_node);
+    put_bin_chunk(&p, chunk, timestamp);
     return p;
 }
 

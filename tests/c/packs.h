@@ -18,9 +18,11 @@ size_t seven_size(uint32_t chunk);
 
 /* A store under the order of the pack of seven, fresh or built; with a channel that is open, its peer PEERS. */
 void seven_fresh(struct guarded *g);
+void seven_fresh_under(struct guarded *g, uint32_t addressing);
 void seven_built(struct guarded *g);
+void seven_built_under(struct guarded *g, uint32_t addressing);
 
-/* A peer's HANDSHAKE that opens a channel under an ID; the number given back. */
+/* A peer's HANDSHAKE, with the store's addressing, that opens a channel under an ID; the number given back. */
 uint32_t open_from(struct guarded *g, uint32_t id, uint32_t source, const uint8_t *root);
 
 /* Takes a packet in at clock 0, with no ID for a channel to be opened. */
@@ -29,12 +31,15 @@ uint32_t take(struct guarded *g, const struct packet *p);
 /* Whether the last call's reply is this datagram, byte for byte. */
 bool replied(const struct guarded *g, const struct packet *p);
 
-/* The INTEGRITY of a node of the pack of seven, and DATA of one of its chunks. */
+/* The INTEGRITY of a node of the pack of seven, and DATA of one of its chunks, by ranges and by bins. */
 void put_node(struct packet *p, uint32_t node);
 void put_chunk(struct packet *p, uint32_t chunk, uint64_t timestamp);
+void put_bin_node(struct packet *p, uint32_t node);
+void put_bin_chunk(struct packet *p, uint32_t chunk, uint64_t timestamp);
 
 /* The hashes of 01's sending order for a chunk of the pack of seven, and its DATA. */
 struct packet seven_sent(uint32_t destination, uint32_t chunk, uint64_t timestamp);
+struct packet seven_sent_by_bins(uint32_t destination, uint32_t chunk, uint64_t timestamp);
 
 /* How many chunks a store holds; that it is called whole exactly with all of them is checked. */
 uint32_t held_of(struct guarded *g);

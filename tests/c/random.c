@@ -1,6 +1,6 @@
 /*
- * 100,000 turns from a fixed seed: genuine, damaged and made-up datagrams and calls with any numbers, on a store that
- * is built and one that downloads from it, both in rooms of exactly the sizes needed.
+ * 100,000 turns from a fixed seed under each addressing: genuine, damaged and made-up datagrams and calls with any
+ * numbers, on a store that is built and one that downloads from it, both in rooms of exactly the sizes needed.
  */
 #include <string.h>
 
@@ -15,8 +15,7 @@
 struct yard {
     struct guarded built;
     struct guarded fresh;
-    uint8_t root[PPSPP_ROOT_BYTES];
-    uint32_t length;
+    struct ppspp_order order;
     uint32_t count;
 };
 
@@ -32,15 +31,15 @@ static void saw(uint32_t answer)
 
 static void begin_built(struct yard *yard)
 {
-    CHECK(guarded_build(&yard->built, yard->length, content(), yard->length) == PPSPP_DONE);
-    CHECK(ppspp_store_root(&yard->built.store, yard->root));
-    CHECK(open_from(&yard->built, OURS, OURS, yard->root) == PPSPP_DONE);
+    CHECK(guarded_build_under(&yard->built, &yard->order, content(), yard->order.length) == PPSPP_DONE);
+    CHECK(ppspp_store_order(&yard->built.store, &yard->order));
+    CHECK(open_from(&yard->built, OURS, OURS, yard->order.root) == PPSPP_DONE);
 }
 
 static void begin_fresh(struct yard *yard)
 {
-    CHECK(guarded_start(&yard->fresh, yard->root, yard->length) == PPSPP_DONE);
-    CHECK(open_from(&yard->fresh, OURS, OURS, yard->root) == PPSPP_DONE);
+    CHECK(guarded_start_under(&yard->fresh, &yard->order) == PPSPP_DONE);
+    CHECK(open_from(&yard->fresh, OURS, OURS, yard->order.root) == PPSPP_DONE);
 }
 
 /* Whether a store still has its channel OURS. */
@@ -56,7 +55,7 @@ static void check_held(struct yard *yard, struct guarded *g)
     uint32_t bits = 0;
     for (uint32_t chunk = 0; chunk < yard->count; chunk++) {
         const size_t from = 1024 * (size_t)chunk;
-        const size_t left = yard->length - from;
+        const size_t left = yard->order.length - from;
         if (ppspp_store_holds(&g->store, chunk)) {
             bits++;
             CHECK(memcmp(g->store.chunks + from, content() + from, left < 1024 ? left : 1024) == 0);
@@ -72,7 +71,7 @@ static struct packet genuine(struct yard *yard)
     struct packet p = packet_to(OURS);
     switch (below(8)) {
     case 0:
-        put_handshake(&p, OURS, yard->root);
+        put_handshake_under(&p, yard->order.addressing, OURS, yard->order.root);
         break;
     case 1:
         p = packet_to(below(24));
@@ -80,10 +79,10 @@ static struct packet genuine(struct yard *yard)
         break;
     case 2:
         p = packet_to(0);
-        put_handshake(&p, 1 + below(40), yard->root);
+        put_handshake_under(&p, yard->order.addressing, 1 + below(40), yard->order.root);
         break;
     case 3:
-        return any_messages(OURS, yard->count);
+        return any_messages(OURS, yard->order.addressing, yard->count);
     default:
         CHECK(guarded_write(&yard->built, OURS, below(yard->count), chance()) == PPSPP_DONE);
         p.n = 0;
@@ -100,7 +99,7 @@ static struct packet any_datagram(struct yard *yard)
     }
     struct packet p = genuine(yard);
     if (!one_in(3)) {
-        damage(&p, yard->count);
+        damage(&p, yard->order.addressing, yard->count);
     }
     return p;
 }
@@ -110,7 +109,8 @@ static uint32_t any_call(struct yard *yard, struct guarded *g)
 {
     uint32_t held;
     uint32_t whole;
-    switch (below(7)) {
+    struct ppspp_order other = yard->order;
+    switch (below(8)) {
     case 0:
         return guarded_open(g, below(24));
     case 1:
@@ -118,15 +118,19 @@ static uint32_t any_call(struct yard *yard, struct guarded *g)
     case 2:
         return guarded_ask(g, &held, &whole);
     case 3:
-        return guarded_start(g, yard->root, one_in(2) ? 0 : PPSPP_MAX_LENGTH + 1 + below(1000));
+        other.length = one_in(2) ? 0 : PPSPP_MAX_LENGTH + 1 + below(1000);
+        return guarded_start_under(g, &other);
     case 4:
-        return guarded_build(g, yard->length, content(), below(yard->length));
+        other.addressing = 3 + below(1000);
+        return guarded_start_under(g, &other);
     case 5:
+        return guarded_build_under(g, &yard->order, content(), below(yard->order.length));
+    case 6:
         return guarded_close(g, below(24));
     default:
         saw(guarded_begin(g, below(24)));
-        return guarded_add(g, one_in(8) ? below(2100) : g->len, below(14), any_chunk(yard->count),
-                           any_chunk(yard->count), chance(), content(), below(2100));
+        return guarded_add(g, one_in(8) ? below(2100) : g->len, below(14) + (one_in(4) ? 256 : 0),
+                           any_chunk(yard->count), any_chunk(yard->count), chance(), content(), below(2100));
     }
 }
 
@@ -160,11 +164,11 @@ static void turn(struct yard *yard)
 }
 
 /* A store without its channel begins again; how often the download became whole. */
-static uint32_t play(uint32_t length)
+static uint32_t play(uint32_t length, uint32_t addressing)
 {
     struct yard yard;
     uint32_t wholes = 0;
-    yard.length = length;
+    yard.order = ppspp_order_to_build(length, addressing);
     yard.count = PPSPP_CHUNK_COUNT(length);
     guarded_new(&yard.built, length);
     guarded_new(&yard.fresh, length);
@@ -187,15 +191,21 @@ static uint32_t play(uint32_t length)
 }
 
 /* Each pack becomes whole at times, and each number is given at times: so the turns reach all of the library. */
-void group_random(void)
+static void play_all(uint32_t addressing)
 {
     static const uint32_t lengths[] = {1, 1024, 1025, 3000, 7162, 8192, 17000, 40000};
     chance_seed(7574);
     memset(seen, 0, sizeof seen);
     for (size_t i = 0; i < sizeof lengths / sizeof lengths[0]; i++) {
-        CHECK(play(lengths[i]) > 0);
+        CHECK(play(lengths[i], addressing) > 0);
     }
     for (uint32_t number = 0; number <= PPSPP_ID; number++) {
         CHECK(seen[number] > 0);
     }
+}
+
+void group_random(void)
+{
+    play_all(PPSPP_BINS);
+    play_all(PPSPP_RANGES);
 }

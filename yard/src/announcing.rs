@@ -38,7 +38,8 @@ impl Node {
                 link.announce_all = context.now + ANNOUNCE_ALL;
             }
             let address = link.address;
-            let messages: Vec<Message> = bits::runs(&told)
+            let messages: Vec<Message> = self
+                .names(&told)
                 .into_iter()
                 .map(|(first, last)| Message::Have { first, last })
                 .collect();

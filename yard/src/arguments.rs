@@ -4,6 +4,7 @@ use crate::radio::Faults;
 use crate::random::Rate;
 use crate::run::Settings;
 use ppspp::sizes::MAX_CHUNKS;
+use ppspp::Addressing;
 use std::path::PathBuf;
 
 /// The most vans of a yard.
@@ -18,18 +19,19 @@ A yard of vans copies a pack from a server and from each other, over a bad radio
 
 usage: yard [arguments]
 
-  --vans N          the number of vans, 1 to 500 (40)
-  --chunks N        the chunks of the pack, 1 to 512 (512)
-  --seed S          decides the run (1)
-  --loss P          per cent of datagrams that are lost (20)
-  --duplicate P     per cent of datagrams that come twice (3)
-  --reorder P       per cent of datagrams that come late (10)
-  --truncate P      per cent of datagrams that are cut short (2)
-  --flip P          per cent of datagrams with flipped bits (2)
-  --attacker on|off whether an attacker transmits too (on)
-  --seconds LIMIT   the simulated seconds after which the run ends in any case (600)
-  --plot FILE       writes an SVG of the chunks that each van held over time
-  --help            writes this
+  --vans N                  the number of vans, 1 to 500 (40)
+  --chunks N                the chunks of the pack, 1 to 512 (512)
+  --addressing bins|ranges  how the order has messages name chunks (ranges)
+  --seed S                  decides the run (1)
+  --loss P                  per cent of datagrams that are lost (20)
+  --duplicate P             per cent of datagrams that come twice (3)
+  --reorder P               per cent of datagrams that come late (10)
+  --truncate P              per cent of datagrams that are cut short (2)
+  --flip P                  per cent of datagrams with flipped bits (2)
+  --attacker on|off         whether an attacker transmits too (on)
+  --seconds LIMIT           the simulated seconds after which the run ends in any case (600)
+  --plot FILE               writes an SVG of the chunks that each van held over time
+  --help                    writes this
 
 The status is 0 if every van ends whole and every check holds, 1 if not, 2 if an argument is wrong.
 ";
@@ -48,6 +50,7 @@ pub fn defaults() -> Settings {
     Settings {
         vans: 40,
         chunks: MAX_CHUNKS,
+        addressing: Addressing::Ranges,
         seed: 1,
         faults: Faults {
             loss: Rate::per_cent(20),
@@ -79,6 +82,7 @@ pub fn parse(arguments: &[String]) -> Result<Asked, String> {
             "--chunks" => {
                 settings.chunks = number(name, value()?, 1, u64::from(MAX_CHUNKS))? as u32;
             }
+            "--addressing" => settings.addressing = addressing(name, value()?)?,
             "--seed" => settings.seed = number(name, value()?, 0, u64::MAX)?,
             "--loss" => settings.faults.loss = rate(name, value()?)?,
             "--duplicate" => settings.faults.duplicate = rate(name, value()?)?,
@@ -127,6 +131,16 @@ fn switch(name: &str, value: &str) -> Result<bool, String> {
         "off" => Ok(false),
         _ => Err(format!(
             "The argument {name} is on or off, and not {value:?}."
+        )),
+    }
+}
+
+fn addressing(name: &str, value: &str) -> Result<Addressing, String> {
+    match value {
+        "bins" => Ok(Addressing::Bins),
+        "ranges" => Ok(Addressing::Ranges),
+        _ => Err(format!(
+            "The argument {name} is bins or ranges, and not {value:?}."
         )),
     }
 }

@@ -3,10 +3,11 @@
 mod forging;
 
 use crate::datagram::{Attack, Datagram, Origin};
+use crate::naming::name_bytes;
 use crate::random::Random;
 use crate::record::chunk_of;
 use crate::timing::OVERHEARD;
-use ppspp::{destination, messages, Message, Order, Store};
+use ppspp::{destination, Addressing, Message, Order, Store};
 
 /// The attacker.
 #[derive(Debug)]
@@ -31,12 +32,12 @@ impl Attacker {
     /// An attacker who knows the order and the addresses, and has a pack of its own.
     pub fn new(order: Order, nodes: usize, mut random: Random) -> Attacker {
         let content = random.bytes(order.length as usize);
-        let mut pack = Store::build(&content).expect("the order's length");
+        let mut pack = Store::build(order, &content).expect("the order's length");
         let root = pack.order().expect("it was built").root;
-        let mut room = [0; ppspp::sizes::REPLY_BYTES];
-        let composer = ppspp::Composer::begin(&mut room, 0).and_then(|c| c.handshake(7, &root));
-        let handshake = composer.expect("a HANDSHAKE fits").finish();
-        pack.take(0, OWN_CHANNEL, handshake).expect("its own order");
+        let composer = pack.compose(0).and_then(|c| c.handshake(7, &root));
+        let handshake = composer.expect("a HANDSHAKE fits").finish().to_vec();
+        pack.take(0, OWN_CHANNEL, &handshake)
+            .expect("its own order");
         Attacker {
             random,
             order,
@@ -54,7 +55,7 @@ impl Attacker {
         if self.random.below(one_in) != 0 {
             return;
         }
-        let kept = match chunk_of(&datagram.bytes) {
+        let kept = match chunk_of(self.addressing(), &datagram.bytes) {
             Some(_) => &mut self.chunks,
             None if destination(&datagram.bytes) == Some(0) => &mut self.calls,
             None => &mut self.others,
@@ -68,7 +69,7 @@ impl Attacker {
 
     /// A datagram of a random sort; none as long as too little was heard for it.
     pub fn attack(&mut self, now: u64) -> Option<Datagram> {
-        let attack = *self.random.pick(&Attack::ALL)?;
+        let attack = *self.random.pick(Attack::under(self.addressing()))?;
         let mut datagram = self.forge(attack, now)?;
         datagram.origin = Origin::Attacker(attack);
         // Half of them come under an address that is not the peer's.
@@ -76,6 +77,11 @@ impl Attacker {
             datagram.from = self.random.place(self.nodes);
         }
         Some(datagram)
+    }
+
+    /// How messages name chunks, by the order.
+    fn addressing(&self) -> Addressing {
+        self.pack.addressing()
     }
 
     /// Any captured datagram.
@@ -94,11 +100,12 @@ impl Attacker {
     fn chunk(&mut self) -> Option<(Datagram, usize, Vec<usize>)> {
         let datagram = self.random.pick(&self.chunks)?.clone();
         let (mut chunk, mut hashes) = (None, Vec::new());
-        for (place, message) in messages(&datagram.bytes).flatten() {
+        for (place, message) in self.pack.messages(&datagram.bytes).flatten() {
+            // The type and what names chunks stand before the hash, and before the timestamp and the chunk.
+            let behind = place + 1 + name_bytes(self.addressing());
             match message {
-                // The type and a range stand before the hash, the type, a range and a timestamp before the chunk.
-                Message::Integrity { .. } => hashes.push(place + 1 + 8),
-                Message::Data { .. } => chunk = Some(place + 1 + 8 + 8),
+                Message::Integrity { .. } => hashes.push(behind),
+                Message::Data { .. } => chunk = Some(behind + 8),
                 _ => {}
             }
         }

@@ -18,7 +18,7 @@ use crate::node::{Node, SERVER};
 use crate::rows::handshake;
 use crate::timing::{NEWCOMER, OWN_ROWS};
 use ppspp::sizes::CHANNELS;
-use ppspp::{destination, messages, Message};
+use ppspp::{destination, Message};
 
 impl Node {
     /// The source channel of a datagram that wants to open a channel.
@@ -26,7 +26,7 @@ impl Node {
         if destination(&datagram.bytes) != Some(0) {
             return None;
         }
-        match messages(&datagram.bytes).next()? {
+        match self.store.messages(&datagram.bytes).next()? {
             Ok((_, Message::Handshake { source, .. })) => Some(source),
             _ => None,
         }

@@ -1,5 +1,7 @@
 //! A datagram on the radio, and who made it.
 
+use ppspp::Addressing;
+
 /// The attacker's datagrams, by what is wrong with them.
 #[derive(Clone, Copy, Debug, PartialEq, Eq)]
 pub enum Attack {
@@ -35,11 +37,13 @@ pub enum Attack {
     FalseHave,
     /// A REQUEST or a CANCEL that the peer did not send.
     FalseRequest,
+    /// Under bins, a captured datagram in which one bin is another.
+    WrongBin,
 }
 
 impl Attack {
     /// All of them.
-    pub const ALL: [Attack; 16] = [
+    pub const ALL: [Attack; 17] = [
         Attack::Garbage,
         Attack::Cut,
         Attack::Flipped,
@@ -56,7 +60,16 @@ impl Attack {
         Attack::Choke,
         Attack::FalseHave,
         Attack::FalseRequest,
+        Attack::WrongBin,
     ];
+
+    /// Those that there are under an addressing.
+    pub fn under(addressing: Addressing) -> &'static [Attack] {
+        match addressing {
+            Addressing::Bins => &Attack::ALL,
+            _ => &Attack::ALL[..Attack::WrongBin as usize],
+        }
+    }
 
     /// In words.
     pub fn words(self) -> &'static str {
@@ -77,6 +90,7 @@ impl Attack {
             Attack::Choke => "CHOKE",
             Attack::FalseHave => "false HAVE",
             Attack::FalseRequest => "false REQUEST",
+            Attack::WrongBin => "wrong bin",
         }
     }
 }
@@ -104,6 +118,15 @@ impl Origin {
         [Origin::Honest, Origin::Damaged, Origin::Loader]
             .into_iter()
             .chain(attacks)
+    }
+
+    /// Those that there are under an addressing.
+    pub fn under(addressing: Addressing) -> impl Iterator<Item = Origin> {
+        let attacks = Attack::under(addressing);
+        Origin::all().filter(|origin| match origin {
+            Origin::Attacker(attack) => attacks.contains(attack),
+            _ => true,
+        })
     }
 
     /// Its place among all of them.

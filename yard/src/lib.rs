@@ -17,6 +17,7 @@ mod context;
 pub mod datagram;
 pub mod events;
 mod link;
+pub mod naming;
 pub mod node;
 mod partners;
 pub mod plot;

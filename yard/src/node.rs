@@ -4,10 +4,11 @@ use crate::bits;
 use crate::context::Context;
 use crate::datagram::{Datagram, Origin};
 use crate::link::{Former, Link};
+use crate::naming;
 use crate::random::Random;
 use crate::record::Answer;
 use crate::requests::Ask;
-use ppspp::{destination, messages, Channel, Message, Order, Phase, Refusal, Store};
+use ppspp::{destination, Channel, Message, Order, Phase, Refusal, Store};
 use std::collections::{BTreeMap, VecDeque};
 
 /// The server's number and address; the vans have those from 1 on.
@@ -166,7 +167,7 @@ impl Node {
         if channel.choked && link.choked.is_none() {
             link.choked = Some(now);
         }
-        match messages(bytes).next() {
+        match self.store.messages(bytes).next() {
             // Our call is answered; a second answer changes nothing.
             Some(Ok((_, Message::Handshake { .. }))) if link.calls > 0 => {
                 link.since = now;
@@ -176,7 +177,7 @@ impl Node {
             _ => link.heard = Some(now),
         }
         let asks = |found| matches!(found, Ok((_, Message::Request { .. })));
-        if messages(bytes).any(asks) {
+        if self.store.messages(bytes).any(asks) {
             link.asked = Some(now);
             self.serve_soon = true;
         }
@@ -185,6 +186,11 @@ impl Node {
     /// The words of a row of bits.
     pub(crate) fn words(&self) -> usize {
         self.store.view().map.len()
+    }
+
+    /// The chunks of a row, as messages under the order name them.
+    pub(crate) fn names(&self, row: &[u32]) -> Vec<(u32, u32)> {
+        naming::names(self.store.addressing(), self.order.chunk_count(), row)
     }
 
     /// The chunks that the peer of a channel has told of.

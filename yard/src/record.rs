@@ -3,7 +3,7 @@
 use crate::checks::{Pack, Snapshot};
 use crate::datagram::Origin;
 use crate::tally::Tally;
-use ppspp::{messages, Message, Refusal, Store};
+use ppspp::{messages, Addressing, Message, Refusal, Store};
 
 /// What taking in a datagram gave.
 #[derive(Debug)]
@@ -67,7 +67,7 @@ impl Record {
         for &chunk in &new {
             self.note_stored(store, chunk, origin);
         }
-        match chunk_of(datagram) {
+        match chunk_of(store.addressing(), datagram) {
             Some(chunk) if reply.is_ok() && !new.contains(&chunk) => self.compare(store, chunk),
             _ => 0,
         };
@@ -111,8 +111,8 @@ impl Record {
 }
 
 /// The chunk that a datagram's DATA names.
-pub fn chunk_of(datagram: &[u8]) -> Option<u32> {
-    messages(datagram).find_map(|found| match found {
+pub fn chunk_of(addressing: Addressing, datagram: &[u8]) -> Option<u32> {
+    messages(addressing, datagram).find_map(|found| match found {
         Ok((_, Message::Data { first, .. })) => Some(first),
         _ => None,
     })

@@ -114,8 +114,8 @@ impl Node {
         let (address, Some(channel)) = (link.address, self.open_channel(link)) else {
             return;
         };
-        let cancels = bits::runs(&batch.cancel).into_iter();
-        let requests = bits::runs(&batch.request).into_iter();
+        let cancels = self.names(&batch.cancel).into_iter();
+        let requests = self.names(&batch.request).into_iter();
         let messages: Vec<Message> = cancels
             .map(|(first, last)| Message::Cancel { first, last })
             .chain(requests.map(|(first, last)| Message::Request { first, last }))

@@ -19,7 +19,7 @@ use crate::datagram::Origin;
 use crate::link::{Former, Link};
 use crate::node::Node;
 use crate::timing::{AVOID, CALLS, CALL_AGAIN, CHOKED, FORMER, IDLE, PROBATION, SILENT, TELLINGS};
-use ppspp::{destination, messages, Message, Options};
+use ppspp::{destination, Message, Options};
 
 impl Node {
     /// Calls again, gives up calls, and closes what is of no use.
@@ -77,7 +77,7 @@ impl Node {
     /// Tells a peer that the channel on which it sends is closed. A HANDSHAKE gets no such answer, else two nodes
     /// could tell each other for ever; and it is told a few times only, since it may be the attacker who sends.
     pub(crate) fn tell_closed(&mut self, context: &mut Context<'_>, bytes: &[u8]) {
-        if let Some(Ok((_, Message::Handshake { .. }))) = messages(bytes).next() {
+        if let Some(Ok((_, Message::Handshake { .. }))) = self.store.messages(bytes).next() {
             return;
         }
         let id = destination(bytes);

@@ -11,7 +11,7 @@ use crate::random::Random;
 use crate::record::Record;
 use crate::timing::{ATTACK, AWAY, SECOND, TICK};
 use ppspp::sizes::CHUNK_SIZE;
-use ppspp::Store;
+use ppspp::{Addressing, Order, Store};
 
 /// What decides a run.
 #[derive(Clone, Debug, PartialEq, Eq)]
@@ -20,6 +20,8 @@ pub struct Settings {
     pub vans: usize,
     /// The chunks of the pack.
     pub chunks: u32,
+    /// How the order has messages name chunks.
+    pub addressing: Addressing,
     /// The seed.
     pub seed: u64,
     /// The radio's faults.
@@ -55,7 +57,8 @@ impl Yard {
         let mut random = Random::new(settings.seed);
         let count = settings.vans + 1;
         let content = content(&mut random, settings.chunks);
-        let server = Store::build(&content).expect("a pack's length");
+        let to_build = Order::to_build(content.len() as u32).addressing(settings.addressing);
+        let server = Store::build(to_build, &content).expect("a pack's length");
         let order = server.order().expect("it was built");
         let mut nodes = vec![Node::new(SERVER, server, count, random.split())];
         for number in 1..count {

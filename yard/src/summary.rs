@@ -8,7 +8,7 @@ use crate::record::Record;
 use crate::run::{Settings, Yard};
 use crate::tally::ANSWERS;
 use crate::timing::SECOND;
-use ppspp::Refusal;
+use ppspp::{Addressing, Refusal};
 use std::time::Duration;
 
 /// Whether every van is whole, and every check holds.
@@ -29,18 +29,23 @@ pub fn summary(settings: &Settings, yard: &Yard, wall: Duration) -> String {
     times(&mut text, yard, wall);
     radio(&mut text, yard);
     answers(&mut text, &yard.record);
-    origins(&mut text, &yard.record);
+    origins(&mut text, settings, &yard.record);
     nodes(&mut text, yard);
     checks(&mut text, yard);
     text
 }
 
-/// The settings in a line.
+/// The settings in a line; ranges are not told.
 pub fn title(settings: &Settings) -> String {
     let faults = &settings.faults;
     let attacker = if settings.attacker { "on" } else { "off" };
+    let bins = match settings.addressing {
+        Addressing::Bins => ", bins",
+        _ => "",
+    };
     format!(
-        "{} vans, {} chunks, seed {}, loss {} %, duplicate {} %, reorder {} %, truncate {} %, flip {} %, attacker {attacker}",
+        "{} vans, {} chunks, seed {}, loss {} %, duplicate {} %, reorder {} %, truncate {} %, flip {} %, attacker \
+         {attacker}{bins}",
         settings.vans,
         settings.chunks,
         settings.seed,
@@ -104,11 +109,11 @@ fn answers(text: &mut String, record: &Record) {
 }
 
 /// The same by origin, and what was stored.
-fn origins(text: &mut String, record: &Record) {
+fn origins(text: &mut String, settings: &Settings, record: &Record) {
     let numbers = (0..ANSWERS).map(|number| number.to_string());
     let heads = numbers.chain(["true".into(), "false".into()]);
     row(text, "Answers by origin", heads);
-    for origin in Origin::all() {
+    for origin in Origin::under(settings.addressing) {
         let taken = record.tally.taken(origin);
         let stored = [&taken.stored, &taken.stored_bad];
         let cells = taken.answers.iter().chain(stored).map(u64::to_string);

@@ -1,5 +1,6 @@
 //! The arguments.
 
+use ppspp::Addressing;
 use yard::arguments::{defaults, parse, Asked};
 use yard::random::Rate;
 use yard::run::Settings;
@@ -20,7 +21,7 @@ fn settings(line: &str) -> Settings {
 fn without_arguments_the_long_run_is_meant() {
     assert_eq!(settings(""), defaults());
     assert_eq!(
-        settings("--vans 40 --chunks 512 --loss 20 --attacker on"),
+        settings("--vans 40 --chunks 512 --addressing ranges --loss 20 --attacker on"),
         defaults()
     );
     let attacker_off = Settings {
@@ -28,6 +29,12 @@ fn without_arguments_the_long_run_is_meant() {
         ..defaults()
     };
     assert_eq!(settings("--attacker off"), attacker_off);
+    let bins = Settings {
+        addressing: Addressing::Bins,
+        ..defaults()
+    };
+    assert_eq!(settings("--addressing bins"), bins);
+    assert_ne!(bins, defaults());
 }
 
 #[test]
@@ -61,6 +68,9 @@ fn wrong_arguments_get_a_sentence() {
         "--vans",
         "--chunks 513",
         "--chunks x",
+        "--addressing",
+        "--addressing bin",
+        "--addressing 0",
         "--seed -1",
         "--seed 18446744073709551616",
         "--loss 100.0001",

@@ -1,12 +1,11 @@
 //! The checks: each of them can fail.
 
-use crate::support::{chunks, content, spoilt, van};
-use ppspp::{Rooms, Store};
+use crate::support::{built, chunks, content, spoilt, van};
+use ppspp::{Addressing, Rooms, Store};
 use yard::checks::{differences, Pack, Snapshot, Verdict};
 
 fn whole() -> (Pack, Store) {
-    let store = Store::build(&content()).expect("a pack's length");
-    (Pack::new(content()), store)
+    (Pack::new(content()), built(Addressing::Ranges))
 }
 
 #[test]

@@ -20,6 +20,25 @@ fn a_good_run_has_status_0() {
     assert!(output.stderr.is_empty());
 }
 
+/// The title tells of bins, and the attacker has one sort of datagram more.
+#[test]
+fn a_run_under_bins_says_so() {
+    let output = yard("--vans 4 --chunks 7 --seed 3 --addressing bins");
+    assert_eq!(output.status.code(), Some(0));
+    let text = String::from_utf8(output.stdout).expect("text");
+    assert!(
+        text.starts_with("4 vans, 7 chunks, seed 3,") && text.contains(" attacker on, bins\n"),
+        "{text}"
+    );
+    assert!(text.contains("\n  attacker: wrong bin "), "{text}");
+    let ranges = yard("--vans 4 --chunks 7 --seed 3 --addressing ranges");
+    let text = String::from_utf8(ranges.stdout).expect("text");
+    assert!(
+        text.contains(" attacker on\n") && !text.contains("wrong bin"),
+        "{text}"
+    );
+}
+
 #[test]
 fn a_run_that_does_not_get_whole_has_status_1() {
     let output = yard("--vans 4 --chunks 7 --loss 100 --seconds 5");
@@ -30,11 +49,22 @@ fn a_run_that_does_not_get_whole_has_status_1() {
 
 #[test]
 fn a_wrong_argument_has_status_2_and_a_sentence() {
-    let output = yard("--vans none");
-    assert_eq!(output.status.code(), Some(2));
-    assert!(output.stdout.is_empty());
-    let sentence = "The argument --vans needs a number from 1 to 500, not \"none\".\n";
-    assert_eq!(String::from_utf8(output.stderr).as_deref(), Ok(sentence));
+    let wrong = [
+        (
+            "--vans none",
+            "The argument --vans needs a number from 1 to 500, not \"none\".\n",
+        ),
+        (
+            "--addressing chunks",
+            "The argument --addressing is bins or ranges, and not \"chunks\".\n",
+        ),
+    ];
+    for (line, sentence) in wrong {
+        let output = yard(line);
+        assert_eq!(output.status.code(), Some(2));
+        assert!(output.stdout.is_empty());
+        assert_eq!(String::from_utf8(output.stderr).as_deref(), Ok(sentence));
+    }
 }
 
 #[test]
@@ -43,7 +73,8 @@ fn help_names_every_argument() {
     assert_eq!(output.status.code(), Some(0));
     let text = String::from_utf8(output.stdout).expect("text");
     for name in
-        "vans chunks seed loss duplicate reorder truncate flip attacker plot seconds".split(' ')
+        "vans chunks addressing seed loss duplicate reorder truncate flip attacker plot seconds"
+            .split(' ')
     {
         assert!(text.contains(&format!("--{name} ")), "{name}");
     }

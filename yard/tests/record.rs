@@ -1,6 +1,7 @@
 //! The record counts what is taken in, and sees what is stored.
 
-use crate::support::{chunks, content, spoilt, van};
+use crate::support::{chunks, chunks_under, content, spoilt, van};
+use ppspp::Addressing;
 use yard::checks::Pack;
 use yard::datagram::{Attack, Origin};
 use yard::record::{chunk_of, Record};
@@ -87,7 +88,9 @@ fn the_trace_depends_on_every_datagram() {
 
 #[test]
 fn the_chunk_of_a_datagram_is_the_one_that_its_data_names() {
-    let (_, written) = chunks();
-    assert_eq!(chunk_of(&written[2]), Some(2));
-    assert_eq!(chunk_of(&[0, 0, 0, 17, 10]), None);
+    for addressing in [Addressing::Ranges, Addressing::Bins] {
+        let (_, written) = chunks_under(addressing);
+        assert_eq!(chunk_of(addressing, &written[2]), Some(2));
+        assert_eq!(chunk_of(addressing, &[0, 0, 0, 17, 10]), None);
+    }
 }

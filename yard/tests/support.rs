@@ -1,6 +1,6 @@
 //! Settings, and stores that share a channel.
 
-use ppspp::{Lend, Order, OwnedRooms, Rooms, Store};
+use ppspp::{Addressing, Lend, Order, OwnedRooms, Rooms, Store};
 use yard::arguments::defaults;
 use yard::radio::Faults;
 use yard::run::Settings;
@@ -15,7 +15,15 @@ pub fn short(seed: u64) -> Settings {
     }
 }
 
-/// The same without faults, drop-outs and attacker.
+/// The same under bins.
+pub fn short_bins(seed: u64) -> Settings {
+    Settings {
+        addressing: Addressing::Bins,
+        ..short(seed)
+    }
+}
+
+/// The first without faults, drop-outs and attacker.
 pub fn quiet(seed: u64) -> Settings {
     Settings {
         faults: Faults::NONE,
@@ -30,9 +38,20 @@ pub fn content() -> Vec<u8> {
     (0..=250).cycle().take(2_500).collect()
 }
 
-/// The order of that pack, and the datagram of each chunk to channel 17.
+/// A whole store of that pack.
+pub fn built(addressing: Addressing) -> Store {
+    let order = Order::to_build(2_500).addressing(addressing);
+    Store::build(order, &content()).expect("a pack's length")
+}
+
+/// The order of that pack under ranges, and the datagram of each chunk to channel 17.
 pub fn chunks() -> (Order, Vec<Vec<u8>>) {
-    let mut server = Store::build(&content()).expect("a pack's length");
+    chunks_under(Addressing::Ranges)
+}
+
+/// The same under an addressing.
+pub fn chunks_under(addressing: Addressing) -> (Order, Vec<Vec<u8>>) {
+    let mut server = built(addressing);
     let order = server.order().expect("it was built");
     let mut van = Store::start(order).expect("a pack's length");
     let calling = van.open(17).expect("a free row");
@@ -45,13 +64,9 @@ pub fn chunks() -> (Order, Vec<Vec<u8>>) {
 pub fn van(order: Order) -> Store {
     let mut van = Store::start(order).expect("a pack's length");
     van.open(17).expect("a free row");
-    let mut room = [0; 2_048];
-    let composer = ppspp::Composer::begin(&mut room, 17).expect("a large room");
-    let answer = composer
-        .handshake(5, &order.root)
-        .expect("it fits")
-        .finish();
-    assert_eq!(van.take(0, 0, answer), Ok(&[][..]));
+    let composer = van.compose(17).and_then(|c| c.handshake(5, &order.root));
+    let answer = composer.expect("it fits").finish().to_vec();
+    assert_eq!(van.take(0, 0, &answer), Ok(&[][..]));
     van
 }
 

@@ -1,6 +1,6 @@
 -- What it says of the order and of the rooms that neither 12 nor 11 refuses a call. Assumes nothing.
 use Prim.Native.Nat.{ℕ, _≤_}
-use mathlib.Core.Path.{_≡_, ap, _∙_}
+use mathlib.Core.Path.{_≡_, ap, _∙_, refl}
 use borrow.Author.Tests.{ltb-false}
 use lib.Dec.{ltb}
 use Rattle.base.specs.Pick.{pick}
@@ -9,9 +9,13 @@ use Rattle.wire.proofs.Promise.{maxSize}
 use Rattle.store.proofs.Promise.{passed, both-zero, countOf, lengthAnswer, roomsAnswer, buildAnswer, order-accepted}
 use lib.ListN.{length}
 use Rattle.channel.specs.World.{World, orderLength}
-use Rattle.channel.specs.Answers.{peerWords, channelRoomsAnswer, channelsAnswer, allRoomsAnswer, ownRoomsAnswer}
-use Rattle.channel.specs.Starting.{buildNumber}
+use Rattle.channel.specs.Answers.{peerWords, channelRoomsAnswer, channelsAnswer, allRoomsAnswer, ownRoomsAnswer, methodAnswer}
+use Rattle.channel.specs.Starting.{buildNumber, startNumber}
 use mathlib.Core.List.{List}
+use mathlib.Core.Bool.{Bool, false, true}
+use Rattle.order.specs.declared.Order.{Order}
+use native.Mathlib.Omega.{arith}
+use Rattle.format.specs.Format.{isMethod}
 
 -- The rooms for what the peers have and want hold their rows, and the reply room a datagram.
 pub channel-rooms-accepted : (L s h w r : ℕ) → channelRoomsAnswer L s h w r ≡ 0
@@ -40,12 +44,25 @@ own-accepted w e =
     (order-accepted L _ _ _ _ (p .0) .0, r .0, r .3)
 
 -- Neither 12 nor 11 under a new order, and for a building: the state has its room.
-pub rooms-state : (L : ℕ) (w : World) → allRoomsAnswer L w ≡ 0 → stateWords ≤ length (w .channels .state)
+rooms-state : (L : ℕ) (w : World) → allRoomsAnswer L w ≡ 0 → stateWords ≤ length (w .channels .state)
 rooms-state L w e =
     channel-rooms-accepted L (length (w .channels .state)) (length (w .channels .has)) (length (w .channels .wants)) (length (w .channels .reply))
     (both-zero (roomsAnswer L (w .rooms)) (channelsAnswer L (w .channels)) e .1) .0
 
-pub build-state : (w : World) (L : ℕ) (s : List ℕ) → buildNumber w L s ≡ 0 → stateWords ≤ length (w .channels .state)
-build-state w L s e =
+pub start-state : (w : World) (o : Order) → startNumber w o ≡ 0 → stateWords ≤ length (w .channels .state)
+start-state w o e = rooms-state (o .length) w (both-zero (methodAnswer (o .method)) (allRoomsAnswer (o .length) w) e .1)
+
+pub build-state : (w : World) (o : Order) (s : List ℕ) → buildNumber w o s ≡ 0 → stateWords ≤ length (w .channels .state)
+build-state w o s e =
+    let L = o .length in
     channel-rooms-accepted L (length (w .channels .state)) (length (w .channels .has)) (length (w .channels .wants)) (length (w .channels .reply))
-    (both-zero (buildAnswer L (length s) (length (w .rooms .bytes)) (length (w .rooms .map)) (length (w .rooms .hashes)) (length (w .rooms .trusted))) (channelsAnswer L (w .channels)) e .1) .0
+    (both-zero (buildAnswer L (length s) (length (w .rooms .bytes)) (length (w .rooms .map)) (length (w .rooms .hashes)) (length (w .rooms .trusted))) (channelsAnswer L (w .channels)) (both-zero (methodAnswer (o .method)) _ e .1) .1) .0
+
+-- A method that is not refused.
+pub method-accepted : (k : ℕ) → methodAnswer k ≡ 0 → isMethod k ≡ true
+unfolding methodAnswer
+method-accepted k = by (isMethod k)
+  where
+    by : (b : Bool) → _≡_ {A = ℕ} (pick b 0 12) 0 → b ≡ true
+    by true e = refl
+    by false e = absurd (omega (arith, e))

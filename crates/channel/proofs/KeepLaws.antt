@@ -8,14 +8,14 @@ use lib.Dec.{eqb}
 use Rattle.base.specs.Pick.{pick}
 use Rattle.table.specs.declared.rows.Row.{Row}
 use Rattle.table.proofs.Promise.{putRow, handshakeAnswer}
-use Rattle.wire.proofs.Promise.{be32, layoutOf}
+use Rattle.wire.proofs.Promise.{be32}
 use Rattle.wire.specs.declared.message.Options.{Options}
 use Rattle.wire.specs.declared.layout.Layout.{Layout}
 use Rattle.wire.specs.declared.layout.Layout.the-variants.{Fault, HandshakeAlone, Messages, MessagesAndData}
 use Rattle.channel.specs.World.{Channels, channelsOf, World, Out, outOf, orderRoot, tableRows}
 use Rattle.channel.specs.Answers.{ownRoomsAnswer}
 use Rattle.channel.specs.Opening.{openedRow, occupied}
-use Rattle.channel.specs.Take.{ours, handshakeTaken, messagesNumber, affected, messagesTaken, replied, storeOut, dataBy, dataTaken, byLayout, takeSpec}
+use Rattle.channel.specs.Take.{ours, handshakeTaken, messagesNumber, affected, messagesTaken, replied, storeOut, dataBy, dataTaken, byLayout, takeSpec, layoutIn}
 use Rattle.base.proofs.OutLaws.{unless-keeps}
 
 module _ {A : Type 0} (f : Channels → A)
@@ -51,8 +51,8 @@ module _ {A : Type 0} (f : Channels → A)
   layout-keeps w clock id s (Fault n) = refl
   layout-keeps w clock id s (HandshakeAlone source o) = handshake-keeps (w .channels) id s source o
   layout-keeps w clock id s (Messages k) = messages-keeps (w .channels) s
-  layout-keeps w clock id s (MessagesAndData c timestamp start n k) = data-keeps w clock s (layoutOf s .entries) c timestamp start n
+  layout-keeps w clock id s (MessagesAndData c timestamp start n k) = data-keeps w clock s (layoutIn (w .channels .state) s .entries) c timestamp start n
 
   pub take-keeps : (w : World) (clock id : ℕ) (s : List ℕ) → f (takeSpec w clock id s .after .channels) ≡ f (w .channels)
   unfolding takeSpec
-  take-keeps w clock id s = unless-keeps of-world (ownRoomsAnswer w) w _ (layout-keeps w clock id s (layoutOf s .layout))
+  take-keeps w clock id s = unless-keeps of-world (ownRoomsAnswer w) w _ (layout-keeps w clock id s (layoutIn (w .channels .state) s .layout))

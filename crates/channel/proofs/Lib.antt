@@ -6,6 +6,7 @@ pub mod HandshakeLaws
 pub mod TakeLaws
 pub mod StartLaws
 pub mod WriteLaws
+pub mod AddLaws
 pub mod AskLaws
 pub mod KeepLaws
 pub mod RefusedLaws

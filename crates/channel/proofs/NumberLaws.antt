@@ -11,22 +11,26 @@ use Rattle.base.proofs.OutLaws.{unless-one}
 use Rattle.base.proofs.AmongLaws.{allAmong, pick-one, earlier-one, one-of-more}
 use Rattle.bits.proofs.Promise.{bitAt}
 use Rattle.table.proofs.Promise.{stateWords, messagesAnswer, handshakeAnswer, writeAnswer, open-numbered, messages-numbered, handshake-numbered, write-numbered}
-use Rattle.wire.proofs.Promise.{be32, minSize, maxSize, numberOf, layoutOf, layout-one}
+use Rattle.wire.proofs.Promise.{be32, minSize, maxSize, numberOf, layout-one}
 use Rattle.wire.specs.declared.message.Options.{Options}
 use Rattle.wire.specs.declared.layout.Layout.{Layout}
 use Rattle.wire.specs.declared.layout.Layout.the-variants.{Fault, HandshakeAlone, Messages, MessagesAndData}
-use Rattle.writer.proofs.Promise.{readAll}
 use Rattle.effects.proofs.Promise.{anyPast}
 use Rattle.held.proofs.Promise.{ask-numbered}
 use Rattle.store.proofs.Promise.{passed, both-zero, countOf, roomsAnswer, buildAnswer, order-numbered, build-numbered, take-numbered}
 use Rattle.order.specs.declared.Order.{Order}
-use Rattle.channel.specs.World.{Channels, World, Out, orderRoot, orderLength, chunkCount, tableRows}
-use Rattle.channel.specs.Answers.{peerWords, channelRoomsAnswer, channelsAnswer, allRoomsAnswer, ownRoomsAnswer}
+use Rattle.channel.specs.World.{Channels, World, Out, orderRoot, orderLength, chunkCount, tableRows, orderFormat}
+use Rattle.channel.specs.Answers.{peerWords, channelRoomsAnswer, channelsAnswer, allRoomsAnswer, ownRoomsAnswer, methodAnswer}
 use Rattle.channel.specs.Opening.{openedRow, occupied, openNumber, openSpec}
-use Rattle.channel.specs.Starting.{startSpec, buildNumber, buildSpec}
-use Rattle.channel.specs.Take.{ours, handshakeTaken, messagesNumber, messagesTaken, storeOut, dataBy, dataTaken, byLayout, takeSpec}
+use Rattle.channel.specs.Starting.{startSpec, buildNumber, buildSpec, startNumber}
+use Rattle.channel.specs.Take.{ours, handshakeTaken, messagesNumber, messagesTaken, storeOut, dataBy, dataTaken, byLayout, takeSpec, layoutIn, messagesIn}
 use Rattle.channel.specs.Write.{heldAnswer, writeNumber, writeSpec}
 use Rattle.channel.specs.Ask.{Asked, askedOf, askSpec}
+use Rattle.wire.specs.declared.message.Message.{Message}
+use Rattle.channel.specs.Adding.{addingSpec}
+use Rattle.format.specs.Format.{formatOf, isMethod}
+use Rattle.hash.proofs.Promise.{words}
+use Rattle.writer.proofs.Promise.{addSpec, add-numbered}
 
 -- ---- 12 and 11
 
@@ -52,19 +56,35 @@ own-one : (w : World) → OneOf roomNumbers (ownRoomsAnswer w)
 unfolding among
 own-one w = pick-one roomNumbers (ltb (length (w .channels .state)) stateWords) 11 _ refl (rooms-one (orderLength (w .channels .state)) w)
 
+method-one : (k : ℕ) → OneOf roomNumbers (methodAnswer k)
+unfolding methodAnswer among
+method-one k = pick-one roomNumbers (isMethod k) 0 12 refl refl
+
 pub start-one : (w : World) (o : Order) → OneOf (0 ∷ 11 ∷ 12 ∷ []) (startSpec w o .answer)
 unfolding startSpec among
-start-one w o = unless-one roomNumbers (allRoomsAnswer (o .length) w) w _ (rooms-one (o .length) w) refl
+start-one w o =
+    unless-one roomNumbers (startNumber w o) w _
+    (earlier-one roomNumbers (methodAnswer (o .method)) (allRoomsAnswer (o .length) w) (method-one (o .method)) (rooms-one (o .length) w)) refl
 
-pub build-one : (w : World) (L : ℕ) (s : List ℕ) → OneOf (0 ∷ 11 ∷ 12 ∷ []) (buildSpec w L s .answer)
+pub build-one : (w : World) (o : Order) (s : List ℕ) → OneOf (0 ∷ 11 ∷ 12 ∷ []) (buildSpec w o s .answer)
 unfolding buildSpec among
-build-one w L s =
+build-one w o s =
+    let L = o .length in
     let b = length (w .rooms .bytes) in let m = length (w .rooms .map) in
     let h = length (w .rooms .hashes) in let t = length (w .rooms .trusted) in
-    unless-one roomNumbers (buildNumber w L s) w _
+    unless-one roomNumbers (buildNumber w o s) w _
+    (earlier-one roomNumbers (methodAnswer (o .method)) _ (method-one (o .method))
     (earlier-one roomNumbers (buildAnswer L (length s) b m h t) (channelsAnswer L (w .channels)) (build-numbered L (length s) b m h t)
-    (channel-rooms-one L (length (w .channels .state)) (length (w .channels .has)) (length (w .channels .wants)) (length (w .channels .reply))))
+    (channel-rooms-one L (length (w .channels .state)) (length (w .channels .has)) (length (w .channels .wants)) (length (w .channels .reply)))))
     refl
+
+pub adding-one : (method : ℕ) (room : List ℕ) (len : ℕ) (m : Message) (source : List ℕ)
+    → OneOf (0 ∷ 1 ∷ 2 ∷ 3 ∷ 11 ∷ 12 ∷ []) (addingSpec method room len m source .answer)
+unfolding addingSpec methodAnswer among allAmong
+adding-one method room len m source =
+    let ms : List ℕ = 0 ∷ 1 ∷ 2 ∷ 3 ∷ 11 ∷ 12 ∷ [] in
+    unless-one ms (methodAnswer method) room _ (pick-one ms (isMethod method) 0 12 refl refl)
+    (one-of-more (0 ∷ 1 ∷ 2 ∷ 3 ∷ 11 ∷ []) ms (addSpec (formatOf method) room len m source .answer) refl (add-numbered (formatOf method) room len m source))
 
 either-asked : (b : Bool) (x y : Asked) → OneOf roomNumbers (x .answer) → OneOf roomNumbers (y .answer) → OneOf roomNumbers (pick b x y .answer)
 either-asked true x y p q = p
@@ -113,7 +133,7 @@ module _ (w : World) (enough : ownRoomsAnswer w ≡ 0) where
   unfolding messagesNumber among allAmong
   messages-number-one st s =
       let n = messagesAnswer (tableRows st) (be32 s 0) (eqb (length s) minSize) in
-      let past = anyPast (chunkCount st) (readAll s) in
+      let past = anyPast (orderFormat st) (chunkCount st) (messagesIn st s) in
       earlier-one takeNumbers n (pick past 7 0)
       (one-of-more (0 ∷ 3 ∷ 5 ∷ []) takeNumbers n refl (messages-numbered (tableRows st) (be32 s 0) (eqb (length s) minSize)))
       (pick-one takeNumbers past 7 0 refl refl)
@@ -133,11 +153,11 @@ module _ (w : World) (enough : ownRoomsAnswer w ≡ 0) where
   by-layout-one clock id s (Fault n) h = one-of-more (0 ∷ 1 ∷ 2 ∷ 3 ∷ []) takeNumbers n refl h
   by-layout-one clock id s (HandshakeAlone source o) h = handshake-one (w .channels) id s source o
   by-layout-one clock id s (Messages k) h = unless-one takeNumbers (messagesNumber (w .channels .state) s) (w .channels) _ (messages-number-one (w .channels .state) s) refl
-  by-layout-one clock id s (MessagesAndData c timestamp start n k) h = data-one clock s (layoutOf s .entries) c timestamp start n
+  by-layout-one clock id s (MessagesAndData c timestamp start n k) h = data-one clock s (layoutIn (w .channels .state) s .entries) c timestamp start n
 
   pub take-enough : (clock id : ℕ) (s : List ℕ) → OneOf (0 ∷ 1 ∷ 2 ∷ 3 ∷ 4 ∷ 5 ∷ 6 ∷ 7 ∷ 8 ∷ 9 ∷ 10 ∷ 14 ∷ []) (takeSpec w clock id s .answer)
   unfolding takeSpec
-  take-enough clock id s = rw enough (by-layout-one clock id s (layoutOf s .layout) (layout-one s))
+  take-enough clock id s = rw enough (by-layout-one clock id s (layoutIn (w .channels .state) s .layout) (layout-one (orderFormat (w .channels .state)) s))
 
 -- ---- in any rooms
 

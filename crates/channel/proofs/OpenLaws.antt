@@ -11,12 +11,13 @@ use Rattle.wire.proofs.Promise.{placed}
 use Rattle.table.proofs.Promise.{rowCount, orderIn, lowestFree, putRow}
 use Rattle.table.specs.declared.rows.Row.{Row}
 use Rattle.hash.specs.declared.value.HashValue.{HashValue}
-use Rattle.hash.proofs.Promise.{bytesOf}
+use Rattle.hash.proofs.Promise.{bytesOf, words}
 use Rattle.replies.proofs.Promise.{handshakeReply}
 use Rattle.store.proofs.Promise.{earlier, countOf}
-use Rattle.channel.specs.World.{Channels, channelsOf, World, Out, outOf, beside, tableRows, clearedRow}
+use Rattle.channel.specs.World.{Channels, channelsOf, World, Out, outOf, beside, tableRows, clearedRow, orderFormat}
 use Rattle.channel.specs.Opening.{callingRow, occupied, openNumber, openSpec}
 use Rattle.base.proofs.OutLaws.{unless-not, unless-done}
+use Rattle.format.specs.declared.Format.{Format}
 
 -- The words of a row of 32-bit many bits, and the place where a row begins, are small.
 pub row-small : (N i w : ℕ) → w ≡ rowWords N → N < 2 ^ 32 → i ≤ rowCount → (w < 2 ^ 28) × (w * i < 2 ^ 32)
@@ -30,13 +31,13 @@ pub row-cleared : (ws : List ℕ) (N i w : ℕ) {m : List ℕ} → w ≡ rowWord
 row-cleared ws N i w e p = p ∙ ap (λ (x : ℕ). clearWords ws (x * i) (x * i + x)) e
 
 -- A row taken for a channel, room by room.
-pub occupied-is : (st has wants reply : List ℕ) (r : Row) {m n i len : ℕ} {root : HashValue} {t h w p : List ℕ}
-    → m ≡ orderIn st .length → n ≡ countOf m → root ≡ orderIn st .root → i ≡ lowestFree (tableRows st)
+pub occupied-is : (st has wants reply : List ℕ) (r : Row) {m n i len : ℕ} {F : Format} {root : HashValue} {t h w p : List ℕ}
+    → m ≡ orderIn st .length → n ≡ countOf m → root ≡ orderIn st .root → F ≡ orderFormat st → i ≡ lowestFree (tableRows st)
     → h ≡ clearedRow n i has → w ≡ clearedRow n i wants
-    → len ≡ length (handshakeReply (r .peer) (r .id) (bytesOf (root .words))) → p ≡ placed reply 0 (handshakeReply (r .peer) (r .id) (bytesOf (root .words)))
+    → len ≡ length (handshakeReply F (r .peer) (r .id) (bytesOf (root .words))) → p ≡ placed reply 0 (handshakeReply F (r .peer) (r .id) (bytesOf (root .words)))
     → t ≡ putRow st i r → outOf 0 len (channelsOf t h w p) ≡ occupied (channelsOf st has wants reply) r
 unfolding occupied
-occupied-is st has wants reply r me ne re ie he we le pe te = rw (te, he, we, le, pe, ne, me, re, ie)
+occupied-is st has wants reply r me ne re fe ie he we le pe te = rw (te, he, we, le, pe, ne, me, re, fe, ie)
 
 -- The number of a call, from those that it is made of.
 pub both-numbers : {a b k x y : ℕ} → a ≡ x → b ≡ y → k ≡ earlier a b → k ≡ earlier x y

@@ -16,21 +16,25 @@ use Rattle.channel.proofs.RefusedLaws as refused
 use Rattle.channel.proofs.ReplyLaws as reply
 use Rattle.channel.proofs.ShorterLaws as shorter
 use Rattle.channel.proofs.ReadBackLaws as reading
-pub use Rattle.channel.specs.World.{Channels, channelsOf, World, worldOf, Out, outOf, Unaltered, orderRoot, orderLength, chunkCount, tableRows}
+pub use Rattle.channel.specs.World.{Channels, channelsOf, World, worldOf, Out, outOf, Unaltered, orderRoot, orderLength, orderFormat, chunkCount, tableRows}
 pub use Rattle.channel.specs.Opening.{openSpec}
 pub use Rattle.channel.specs.Starting.{orderOf, startSpec, buildSpec}
 pub use Rattle.channel.specs.Take.{takeSpec}
 pub use Rattle.channel.specs.Write.{writeSpec}
 pub use Rattle.channel.specs.Ask.{Asked, askedOf, askSpec}
 pub use Rattle.channel.specs.Reply.{Reply, replyOf, openReply, takeReply, writeReply, leftIn, Replies}
-pub use Rattle.channel.specs.Answers.{peerWords, Suffice}
+pub use Rattle.channel.specs.Adding.{addingSpec}
+pub use Rattle.channel.specs.Answers.{methodAnswer, peerWords, Suffice}
+use Rattle.wire.specs.declared.message.Message.{Message}
+use Rattle.format.specs.Format.{isMethod}
+use mathlib.Core.Bool.{true}
 
 -- ---- demand 1: the numbers of document 01 that each call can give
 
 pub start-numbered : (w : World) (o : Order) → OneOf (0 ∷ 11 ∷ 12 ∷ []) (startSpec w o .answer)
 start-numbered = numbers.start-one
 
-pub build-numbered : (w : World) (L : ℕ) (s : List ℕ) → OneOf (0 ∷ 11 ∷ 12 ∷ []) (buildSpec w L s .answer)
+pub build-numbered : (w : World) (o : Order) (s : List ℕ) → OneOf (0 ∷ 11 ∷ 12 ∷ []) (buildSpec w o s .answer)
 build-numbered = numbers.build-one
 
 pub open-numbered : (w : World) (id : ℕ) → OneOf (0 ∷ 6 ∷ 11 ∷ 12 ∷ 14 ∷ []) (openSpec w id .answer)
@@ -47,12 +51,17 @@ write-numbered = numbers.write-one
 pub ask-numbered : (st map : List ℕ) → OneOf (0 ∷ 11 ∷ 12 ∷ []) (askSpec st map .answer)
 ask-numbered = numbers.ask-one
 
+-- Adding under any number for a method.
+pub adding-numbered : (method : ℕ) (room : List ℕ) (len : ℕ) (m : Message) (source : List ℕ)
+    → OneOf (0 ∷ 1 ∷ 2 ∷ 3 ∷ 11 ∷ 12 ∷ []) (addingSpec method room len m source .answer)
+adding-numbered = numbers.adding-one
+
 -- ---- demand 1: a refusal gives a reply length of 0 and changes neither store, channel table nor any lent room
 
 pub start-refused-same : (w : World) (o : Order) → Unaltered w (startSpec w o)
 start-refused-same = refused.start-unaltered
 
-pub build-refused-same : (w : World) (L : ℕ) (s : List ℕ) → Unaltered w (buildSpec w L s)
+pub build-refused-same : (w : World) (o : Order) (s : List ℕ) → Unaltered w (buildSpec w o s)
 build-refused-same = refused.build-unaltered
 
 pub open-refused-same : (w : World) (id : ℕ) → Unaltered w (openSpec w id)
@@ -64,20 +73,30 @@ take-refused-same = refused.take-unaltered
 pub write-refused-same : (w : World) (id c clock : ℕ) → Unaltered w (writeSpec w id c clock)
 write-refused-same = refused.write-unaltered
 
+pub adding-refused-same : (method : ℕ) (room : List ℕ) (len : ℕ) (m : Message) (source : List ℕ) → Unaltered room (addingSpec method room len m source)
+adding-refused-same = refused.adding-unaltered
+
 -- ---- a start and a building in rooms of the sizes needed are not refused with 11
 
-pub start-suffices : (w : World) (o : Order) → lengthAnswer (o .length) ≡ 0 → Suffice (o .length) w → startSpec w o .answer ≡ 0
+pub start-suffices : (w : World) (o : Order) → isMethod (o .method) ≡ true → lengthAnswer (o .length) ≡ 0 → Suffice (o .length) w → startSpec w o .answer ≡ 0
 start-suffices = shorter.start-suffices
 
-pub build-suffices : (w : World) (L : ℕ) (s : List ℕ) → lengthAnswer L ≡ 0 → length s ≡ L → Suffice L w → buildSpec w L s .answer ≡ 0
+pub build-suffices : (w : World) (o : Order) (s : List ℕ) → isMethod (o .method) ≡ true → lengthAnswer (o .length) ≡ 0 → length s ≡ o .length → Suffice (o .length) w
+    → buildSpec w o s .answer ≡ 0
 build-suffices = shorter.build-suffices
 
--- ---- a start: of an order of some length, and in rooms for a longer one
+-- ---- a start: of an order of some length, under a method that a paper gives, and in rooms for a longer one
 
 pub start-some : (w : World) (o : Order) → startSpec w o .answer ≡ 0 → 0 < o .length
 start-some = shorter.start-some
 
-pub start-shorter : (w : World) (o p : Order) → 0 < o .length → o .length ≤ p .length → startSpec w p .answer ≡ 0 → startSpec w o .answer ≡ 0
+pub start-method : (w : World) (o : Order) → startSpec w o .answer ≡ 0 → isMethod (o .method) ≡ true
+start-method = shorter.start-method
+
+pub build-method : (w : World) (o : Order) (s : List ℕ) → buildSpec w o s .answer ≡ 0 → isMethod (o .method) ≡ true
+build-method = shorter.build-method
+
+pub start-shorter : (w : World) (o p : Order) → isMethod (o .method) ≡ true → 0 < o .length → o .length ≤ p .length → startSpec w p .answer ≡ 0 → startSpec w o .answer ≡ 0
 start-shorter = shorter.start-shorter
 
 -- ---- the reply room stays as long as it is
@@ -92,19 +111,20 @@ take-reply = reply.take-reply
 
 -- Begin with its destination and add of the messages read from it, in a room of at least the least size, give exactly its bytes.
 pub taken-writes-back : (w : World) (clock id : ℕ) (s room : List ℕ) → AreBytes s → takeSpec w clock id s .answer ≡ 0 → maxSize ≤ length room
-    → (writeAll room (be32 s 0) (readAll s) ≡ outOf 0 (length s) (placed room 0 s)) × (datagramOf (writeAll room (be32 s 0) (readAll s)) ≡ s)
+    → (writeAll (orderFormat (w .channels .state)) room (be32 s 0) (readAll (orderFormat (w .channels .state)) s) ≡ outOf 0 (length s) (placed room 0 s))
+    × (datagramOf (writeAll (orderFormat (w .channels .state)) room (be32 s 0) (readAll (orderFormat (w .channels .state)) s)) ≡ s)
 taken-writes-back = reading.taken-writes-back
 
 -- ---- demand 2: "What is written reads back as the same messages", of every reply that a call leaves with 0
 
 pub open-reads : (w : World) → Words (w .channels .state) → (id : ℕ) → id < 2 ^ 32 → openSpec w id .answer ≡ 0
-    → Replies (openSpec w id) (some (openReply (w .channels .state) id))
+    → Replies (orderFormat (w .channels .state)) (openSpec w id) (some (openReply (w .channels .state) id))
 open-reads = reading.open-reads
 
 pub take-reads : (w : World) → Words (w .channels .state) → (clock id : ℕ) (s : List ℕ) → AreBytes s → id < 2 ^ 32 → takeSpec w clock id s .answer ≡ 0
-    → Replies (takeSpec w clock id s) (takeReply (w .channels .state) clock id s (layoutOf s .layout))
+    → Replies (orderFormat (w .channels .state)) (takeSpec w clock id s) (takeReply (w .channels .state) clock id s (layoutOf (orderFormat (w .channels .state)) s .layout))
 take-reads = reading.take-reads
 
 pub write-reads : (w : World) → Words (w .channels .state) → (id c clock : ℕ) → clock < 2 ^ 64 → writeSpec w id c clock .answer ≡ 0
-    → Replies (writeSpec w id c clock) (some (writeReply w id c clock))
+    → Replies (orderFormat (w .channels .state)) (writeSpec w id c clock) (some (writeReply w id c clock))
 write-reads = reading.write-reads

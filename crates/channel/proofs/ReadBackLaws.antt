@@ -12,28 +12,29 @@ use borrow.Author.Tests.{eq-eqb, eqb-true}
 use lib.Dec.{eqb}
 use lib.ListN.{length, take, drop, length-take}
 use lib.Seq.{getD-drop}
-use Rattle.hash.proofs.Promise.{Words, bytes-length}
+use Rattle.hash.proofs.Promise.{Words, bytes-length, words}
 use Rattle.base.specs.Pick.{pick}
 use Rattle.table.proofs.Promise.{orderIn, root-eight, peer-fits, rowAt, openRowOf, openAnswer, handshakeAnswer, writeAnswer, open-some, handshake-opened, handshake-taken}
 use Rattle.table.specs.declared.rows.Row.{Row}
 use Rattle.tree.proofs.Promise.{chunkSize, maxLength, chunks, chunk-some}
-use Rattle.wire.proofs.Promise.{be32, placed, minSize, maxSize, numberOf, layoutOf, Numbered, handshakeFault, Alone, layout-numbered, layout-passed, layout-alone, placed-front}
+use Rattle.wire.proofs.Promise.{be32, placed, minSize, maxSize, numberOf, layoutOf, Numbered, handshakeFault, Alone, layout-numbered, layout-passed, layout-alone, placed-front, place-most}
 use Rattle.wire.specs.declared.message.Options.{Options}
 use Rattle.wire.specs.declared.message.Options.the-variants.{Fixed, EndOnly, Other}
 use Rattle.wire.specs.declared.layout.Layout.{Layout}
 use Rattle.wire.specs.declared.layout.Layout.the-variants.{Fault, HandshakeAlone, Messages, MessagesAndData}
-use Rattle.writer.proofs.Promise.{Item, AreBytes, be32-fits, Reads, Plain, rewritable, readAll, writeAll, datagramOf, round-trip-read}
+use Rattle.writer.proofs.Promise.{Item, AreBytes, be32-fits, Reads, Plain, rewritable, writeAll, datagramOf, round-trip-read, chunk-nameable, chunk-part}
 use Rattle.replies.proofs.Promise.{handshakeItems, handshakeReply, ackItems, ackReply, chunkItems, chunkReply, handshake-long, ack-long, chunk-fits, handshake-reads, ack-reads, chunk-reads}
 use Rattle.store.proofs.Promise.{earlier, both-zero, chunkIn, lengthAnswer, length-accepted, taken-chunk}
-use Rattle.channel.specs.World.{Channels, World, Out, outOf, beside, orderRoot, orderLength, chunkCount, tableRows}
+use Rattle.channel.specs.World.{Channels, World, Out, outOf, beside, orderRoot, orderLength, chunkCount, tableRows, orderFormat}
 use Rattle.channel.specs.Answers.{ownRoomsAnswer}
 use Rattle.channel.specs.Opening.{callingRow, openedRow, occupied, openNumber, openSpec}
-use Rattle.channel.specs.Take.{rowFor, ours, handshakeTaken, messagesNumber, affected, messagesTaken, delay, storeOut, dataBy, dataTaken, byLayout, takeSpec}
+use Rattle.channel.specs.Take.{rowFor, ours, handshakeTaken, messagesNumber, affected, messagesTaken, delay, storeOut, dataBy, dataTaken, byLayout, takeSpec, layoutIn, messagesIn}
 use Rattle.channel.specs.Write.{heldAnswer, writeNumber, writeSpec}
 use Rattle.channel.specs.Reply.{replyOf, openReply, takeReply, writeReply, Replies}
 use Rattle.base.proofs.OutLaws.{unless-zero}
 use Rattle.channel.proofs.AcceptLaws.{own-accepted}
 use Rattle.channel.proofs.WriteLaws.{held-inside}
+use Rattle.format.specs.declared.Format.{Format}
 
 -- ---- a datagram that was taken writes back
 
@@ -68,20 +69,22 @@ front : (room r : List ℕ) → length r ≤ length room → take (length r) (pl
 front room r h = rw (zero-add (length r)) at (placed-front room 0 r (omega arith))
 
 pub taken-writes-back : (w : World) (clock id : ℕ) (s room : List ℕ) → AreBytes s → takeSpec w clock id s .answer ≡ 0 → maxSize ≤ length room
-    → (writeAll room (be32 s 0) (readAll s) ≡ outOf 0 (length s) (placed room 0 s)) × (datagramOf (writeAll room (be32 s 0) (readAll s)) ≡ s)
+    → (writeAll (orderFormat (w .channels .state)) room (be32 s 0) (messagesIn (w .channels .state) s) ≡ outOf 0 (length s) (placed room 0 s))
+    × (datagramOf (writeAll (orderFormat (w .channels .state)) room (be32 s 0) (messagesIn (w .channels .state) s)) ≡ s)
 unfolding takeSpec
 taken-writes-back w clock id s room small z big =
-    let l = layoutOf s .layout in
+    let F = orderFormat (w .channels .state) in
+    let l = layoutOf F s .layout in
     let t = unless-zero (ownRoomsAnswer w) w (byLayout w clock id s l) z .1 in
-    let p = layout-taken w clock id s l (layout-numbered s) (layout-alone s) t in
-    let e = round-trip-read room s small big (p .0) (rewritable l (p .1)) in
-    (e, ap datagramOf e ∙ front room s (omega (arith, layout-passed s (p .0) .1)))
+    let p = layout-taken w clock id s l (layout-numbered F s) (layout-alone F s) t in
+    let e = round-trip-read F room s small big (p .0) (rewritable l (p .1)) in
+    (e, ap datagramOf e ∙ front room s (omega (arith, layout-passed F s (p .0) .1)))
 
 -- ---- a reply reads back
 
 -- From the front of the reply room.
-reads-front : (room r : List ℕ) (to : ℕ) (is : List Item) → length r ≤ length room → Reads r to is → Reads (take (length r) (placed room 0 r)) to is
-reads-front room r to is h x = rw (front room r h) x
+reads-front : (F : Format) (room r : List ℕ) (to : ℕ) (is : List Item) → length r ≤ length room → Reads F r to is → Reads F (take (length r) (placed room 0 r)) to is
+reads-front F room r to is h x = rw (front room r h) x
 
 module _ (w : World) (small : Words (w .channels .state)) where
   root-long : length (orderRoot (w .channels .state)) ≡ 32
@@ -92,14 +95,14 @@ module _ (w : World) (small : Words (w .channels .state)) where
 
   -- Our HANDSHAKE from a channel of ours.
   occupied-reads : (id peer : ℕ) (r : Row) → r .id ≡ id → r .peer ≡ peer → id < 2 ^ 32 → id ≢ 0 → peer < 2 ^ 32 → maxSize ≤ length (w .channels .reply)
-      → Replies (beside (w .rooms) (occupied (w .channels) r)) (some (replyOf peer (handshakeItems id (orderRoot (w .channels .state)))))
+      → Replies (orderFormat (w .channels .state)) (beside (w .rooms) (occupied (w .channels) r)) (some (replyOf peer (handshakeItems id (orderRoot (w .channels .state)))))
   unfolding occupied
   occupied-reads id peer r ie pe h d p big =
       let root = orderRoot (w .channels .state) in
-      let n = handshake-long (r .peer) (r .id) root root-long in
-      rw (ie, pe) (reads-front (w .channels .reply) (handshakeReply peer id root) peer (handshakeItems id root) (omega (arith, handshake-long peer id root root-long)) (handshake-reads peer id root p h d root-long))
+      let F = orderFormat (w .channels .state) in
+      rw (ie, pe) (reads-front (orderFormat (w .channels .state)) (w .channels .reply) (handshakeReply F peer id root) peer (handshakeItems id root) (omega (arith, handshake-long F peer id root root-long)) (handshake-reads F peer id root p h d root-long))
 
-  pub open-reads : (id : ℕ) → id < 2 ^ 32 → openSpec w id .answer ≡ 0 → Replies (openSpec w id) (some (openReply (w .channels .state) id))
+  pub open-reads : (id : ℕ) → id < 2 ^ 32 → openSpec w id .answer ≡ 0 → Replies (orderFormat (w .channels .state)) (openSpec w id) (some (openReply (w .channels .state) id))
   unfolding openSpec
   open-reads id h z =
       let n = unless-zero (openNumber w id) w _ z .0 in
@@ -109,12 +112,12 @@ module _ (w : World) (small : Words (w .channels .state)) where
   -- A HANDSHAKE to channel 0 opens one; any other has no reply.
   opened-or-not : (id : ℕ) (s : List ℕ) (a : ℕ) → id < 2 ^ 32 → a < 2 ^ 32 → maxSize ≤ length (w .channels .reply) → (other : Out Channels) → other .len ≡ 0
       → (b : Bool) → eqb (be32 s 0) 0 ≡ b → (be32 s 0 ≡ 0 → id ≢ 0)
-      → Replies (beside (w .rooms) (pick b (occupied (w .channels) (openedRow id a)) other)) (pick b (some (replyOf a (handshakeItems id (orderRoot (w .channels .state))))) none)
+      → Replies (orderFormat (w .channels .state)) (beside (w .rooms) (pick b (occupied (w .channels) (openedRow id a)) other)) (pick b (some (replyOf a (handshakeItems id (orderRoot (w .channels .state))))) none)
   opened-or-not id s a h p big other e true f d = occupied-reads id a (openedRow id a) refl refl h (d (eqb-true (be32 s 0) 0 f)) p big
   opened-or-not id s a h p big other e false f d = e
 
   handshake-replies : (id : ℕ) (s : List ℕ) (a : ℕ) (o : Options) → id < 2 ^ 32 → a < 2 ^ 32 → maxSize ≤ length (w .channels .reply) → handshakeTaken (w .channels) id s a o .answer ≡ 0
-      → Replies (beside (w .rooms) (handshakeTaken (w .channels) id s a o)) (pick (eqb (be32 s 0) 0) (some (replyOf a (handshakeItems id (orderRoot (w .channels .state))))) none)
+      → Replies (orderFormat (w .channels .state)) (beside (w .rooms) (handshakeTaken (w .channels) id s a o)) (pick (eqb (be32 s 0) 0) (some (replyOf a (handshakeItems id (orderRoot (w .channels .state))))) none)
   unfolding handshakeTaken
   handshake-replies id s a o h p big z =
       let rs = tableRows (w .channels .state) in
@@ -124,7 +127,7 @@ module _ (w : World) (small : Words (w .channels .state)) where
 
   data-replies : (clock : ℕ) (s entries : List ℕ) (c timestamp start n : ℕ) → lengthAnswer (orderLength (w .channels .state)) ≡ 0 → maxSize ≤ length (w .channels .reply)
       → dataTaken w clock s entries c timestamp start n .answer ≡ 0
-      → Replies (dataTaken w clock s entries c timestamp start n) (some (replyOf (rowAt (tableRows (w .channels .state)) (rowFor (w .channels .state) s) .peer) (ackItems c c (delay clock timestamp))))
+      → Replies (orderFormat (w .channels .state)) (dataTaken w clock s entries c timestamp start n) (some (replyOf (rowAt (tableRows (w .channels .state)) (rowFor (w .channels .state) s) .peer) (ackItems c c (delay clock timestamp))))
   unfolding dataTaken dataBy affected
   data-replies clock s entries c timestamp start n limit big z =
       let st = w .channels .state in
@@ -132,29 +135,32 @@ module _ (w : World) (small : Words (w .channels .state)) where
       let q = unless-zero (storeOut w s entries c start n .answer) w _ (p .1) in
       let t = taken-chunk (w .rooms) (orderRoot st) (orderLength st) c _ _ (q .0) .0 in
       let few = few-chunks limit in
+      let F = orderFormat st in
       let peer = rowAt (tableRows st) (rowFor st s) .peer in
       let d = delay clock timestamp in
       rw (p .0, q .0)
-      (reads-front (w .channels .reply) (ackReply peer c c d) peer (ackItems c c d) (omega (arith, ack-long peer c c d))
-      (ack-reads peer c c d (peer-fits st small (rowFor st s)) (omega arith) (omega arith) (mod-lt (clock + 2 ^ 64 - timestamp) (omega arith))))
+      (reads-front (orderFormat (w .channels .state)) (w .channels .reply) (ackReply F peer c c d) peer (ackItems c c d) (omega (arith, ack-long F peer c c d, place-most F))
+      (ack-reads F peer c c d (peer-fits st small (rowFor st s)) (omega arith) (omega arith) (mod-lt (clock + 2 ^ 64 - timestamp) (omega arith))
+      (chunk-nameable F c (omega (arith, t, few))) (chunk-part F c (omega (arith, t, few)))))
 
   layout-replies : (clock id : ℕ) (s : List ℕ) (l : Layout) → Numbered l → Alone s l → AreBytes s → id < 2 ^ 32 → ownRoomsAnswer w ≡ 0 → byLayout w clock id s l .answer ≡ 0
-      → Replies (byLayout w clock id s l) (takeReply (w .channels .state) clock id s l)
+      → Replies (orderFormat (w .channels .state)) (byLayout w clock id s l) (takeReply (w .channels .state) clock id s l)
   unfolding byLayout messagesTaken
   layout-replies clock id s (Fault n) h q bytes i e z = refl
   layout-replies clock id s (HandshakeAlone a o) h q bytes i e z = handshake-replies id s a o i (rw (q .1) (be32-fits (drop minSize s) (λ k. rw (getD-drop minSize s k 0) (bytes (minSize + k))) 1)) (own-accepted w e .2) z
   layout-replies clock id s (Messages k) h q bytes i e z = let n = unless-zero (messagesNumber (w .channels .state) s) (w .channels) _ z .0 in rw n refl
-  layout-replies clock id s (MessagesAndData c x b n k) h q bytes i e z = data-replies clock s (layoutOf s .entries) c x b n (own-accepted w e .0) (own-accepted w e .2) z
+  layout-replies clock id s (MessagesAndData c x b n k) h q bytes i e z = data-replies clock s (layoutIn (w .channels .state) s .entries) c x b n (own-accepted w e .0) (own-accepted w e .2) z
 
   pub take-reads : (clock id : ℕ) (s : List ℕ) → AreBytes s → id < 2 ^ 32 → takeSpec w clock id s .answer ≡ 0
-      → Replies (takeSpec w clock id s) (takeReply (w .channels .state) clock id s (layoutOf s .layout))
+      → Replies (orderFormat (w .channels .state)) (takeSpec w clock id s) (takeReply (w .channels .state) clock id s (layoutIn (w .channels .state) s .layout))
   unfolding takeSpec
   take-reads clock id s bytes i z =
-      let l = layoutOf s .layout in
+      let F = orderFormat (w .channels .state) in
+      let l = layoutOf F s .layout in
       let p = unless-zero (ownRoomsAnswer w) w (byLayout w clock id s l) z in
-      rw (p .0) (layout-replies clock id s l (layout-numbered s) (layout-alone s) bytes i (p .0) (p .1))
+      rw (p .0) (layout-replies clock id s l (layout-numbered F s) (layout-alone F s) bytes i (p .0) (p .1))
 
-  pub write-reads : (id c clock : ℕ) → clock < 2 ^ 64 → writeSpec w id c clock .answer ≡ 0 → Replies (writeSpec w id c clock) (some (writeReply w id c clock))
+  pub write-reads : (id c clock : ℕ) → clock < 2 ^ 64 → writeSpec w id c clock .answer ≡ 0 → Replies (orderFormat (w .channels .state)) (writeSpec w id c clock) (some (writeReply w id c clock))
   unfolding writeSpec
   write-reads id c clock h z =
       let st = w .channels .state in
@@ -169,8 +175,9 @@ module _ (w : World) (small : Words (w .channels .state)) where
       let inside = held-inside N c (w .rooms .map) (q .1) in
       let say = own-accepted w (p .0) in
       let few = few-chunks (say .0) in
+      let F = orderFormat st in
       let short : length bytes ≤ chunkSize = simp length-take (omega (arith, chunk-some chunkSize L (omega arith) c inside)) in
       rw n
-      (reads-front (w .channels .reply) (chunkReply (w .rooms .hashes) peer N c clock bytes) peer (chunkItems (w .rooms .hashes) N c clock bytes)
-      (omega (arith, chunk-fits (w .rooms .hashes) peer N c clock bytes few short, say .2))
-      (chunk-reads (w .rooms .hashes) peer N c clock bytes (peer-fits st small (openRowOf rs id)) (omega (arith, inside, few)) h few short))
+      (reads-front (orderFormat (w .channels .state)) (w .channels .reply) (chunkReply F (w .rooms .hashes) peer N c clock bytes) peer (chunkItems (w .rooms .hashes) N c clock bytes)
+      (omega (arith, chunk-fits F (w .rooms .hashes) peer N c clock bytes few short, say .2))
+      (chunk-reads F (w .rooms .hashes) peer N c clock bytes (peer-fits st small (openRowOf rs id)) inside h few short))

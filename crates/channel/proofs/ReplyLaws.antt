@@ -7,9 +7,8 @@ use Rattle.table.specs.declared.rows.Row.{Row}
 use Rattle.wire.proofs.Promise.{placed-length}
 use Rattle.order.specs.declared.Order.{Order}
 use Rattle.channel.specs.World.{Channels, World}
-use Rattle.channel.specs.Answers.{allRoomsAnswer}
 use Rattle.channel.specs.Opening.{ourHandshake, occupied}
-use Rattle.channel.specs.Starting.{freshChannels, startSpec}
+use Rattle.channel.specs.Starting.{freshChannels, startSpec, startNumber}
 use Rattle.channel.specs.Take.{affected, takeSpec}
 use Rattle.base.proofs.OutLaws.{unless-keeps}
 use Rattle.channel.proofs.KeepLaws.{take-keeps}
@@ -19,7 +18,7 @@ replyLength ch = length (ch .reply)
 
 pub start-reply : (w : World) (o : Order) → length (startSpec w o .after .channels .reply) ≡ length (w .channels .reply)
 unfolding startSpec freshChannels
-start-reply w o = unless-keeps (λ (v : World). replyLength (v .channels)) (allRoomsAnswer (o .length) w) w _ refl
+start-reply w o = unless-keeps (λ (v : World). replyLength (v .channels)) (startNumber w o) w _ refl
 
 occupied-reply : (ch : Channels) (r : Row) → replyLength (occupied ch r .after) ≡ replyLength ch
 unfolding occupied

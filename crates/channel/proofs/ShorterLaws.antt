@@ -11,9 +11,11 @@ use Rattle.wire.proofs.Promise.{maxSize}
 use Rattle.store.proofs.Promise.{both-zero, countOf, roomsAnswer, order-accepted, length-accepted, order-shorter, row-mono, count-mono, lengthAnswer, order-enough, build-enough as store-build-enough}
 use Rattle.order.specs.declared.Order.{Order}
 use Rattle.channel.specs.World.{World, outOf, unless}
-use Rattle.channel.specs.Answers.{peerWords, channelRoomsAnswer, channelsAnswer, allRoomsAnswer, Suffice}
-use Rattle.channel.specs.Starting.{startSpec, buildNumber, buildSpec}
-use Rattle.channel.proofs.AcceptLaws.{channel-rooms-accepted}
+use Rattle.channel.specs.Answers.{peerWords, channelRoomsAnswer, channelsAnswer, allRoomsAnswer, Suffice, methodAnswer}
+use Rattle.channel.specs.Starting.{startSpec, buildNumber, buildSpec, startNumber}
+use Rattle.channel.proofs.AcceptLaws.{channel-rooms-accepted, method-accepted}
+use Rattle.format.specs.Format.{isMethod}
+use mathlib.Core.Bool.{true}
 
 channel-rooms-enough : (L s h w r : ℕ) → stateWords ≤ s → peerWords (countOf L) ≤ h → peerWords (countOf L) ≤ w → maxSize ≤ r
     → channelRoomsAnswer L s h w r ≡ 0
@@ -41,35 +43,56 @@ number : (n : ℕ) (w new : World) → unless n w (outOf 0 0 new) .answer ≡ n
 number zero w new = refl
 number (suc n) w new = refl
 
-start-number : (w : World) (o : Order) → startSpec w o .answer ≡ allRoomsAnswer (o .length) w
+start-number : (w : World) (o : Order) → startSpec w o .answer ≡ startNumber w o
 unfolding startSpec
-start-number w o = number (allRoomsAnswer (o .length) w) w _
+start-number w o = number (startNumber w o) w _
 
-build-number : (w : World) (L : ℕ) (s : List ℕ) → buildSpec w L s .answer ≡ buildNumber w L s
+build-number : (w : World) (o : Order) (s : List ℕ) → buildSpec w o s .answer ≡ buildNumber w o s
 unfolding buildSpec
-build-number w L s = number (buildNumber w L s) w _
+build-number w o s = number (buildNumber w o s) w _
 
-pub start-suffices : (w : World) (o : Order) → lengthAnswer (o .length) ≡ 0 → Suffice (o .length) w → startSpec w o .answer ≡ 0
-start-suffices w o z p = start-number w o ∙ rooms-suffice (o .length) w z p
+-- A method that a paper gives is not refused.
+method-right : (k : ℕ) → isMethod k ≡ true → methodAnswer k ≡ 0
+unfolding methodAnswer
+method-right k e = rw e
 
-pub build-suffices : (w : World) (L : ℕ) (s : List ℕ) → lengthAnswer L ≡ 0 → length s ≡ L → Suffice L w → buildSpec w L s .answer ≡ 0
-build-suffices w L s z e p =
-    build-number w L s ∙ rw (
+pub start-suffices : (w : World) (o : Order) → isMethod (o .method) ≡ true → lengthAnswer (o .length) ≡ 0 → Suffice (o .length) w → startSpec w o .answer ≡ 0
+start-suffices w o m z p = start-number w o ∙ rw (method-right (o .method) m) (rooms-suffice (o .length) w z p)
+
+pub build-suffices : (w : World) (o : Order) (s : List ℕ) → isMethod (o .method) ≡ true → lengthAnswer (o .length) ≡ 0 → length s ≡ o .length → Suffice (o .length) w
+    → buildSpec w o s .answer ≡ 0
+build-suffices w o s m z e p =
+    let L = o .length in
+    build-number w o s ∙ rw (
+      method-right (o .method) m,
       store-build-enough L (w .rooms) (length s) z e (p .chunk-rooms),
       channel-rooms-enough L (length (w .channels .state)) (length (w .channels .has)) (length (w .channels .wants)) (length (w .channels .reply))
           (p .state) (p .has) (p .wants) (p .reply),
     )
 
--- A start that is not refused has an order of some length.
+-- A start that is not refused has an order of some length, under a method that a paper gives.
+started : (w : World) (o : Order) → startSpec w o .answer ≡ 0
+    → (methodAnswer (o .method) ≡ 0) × (roomsAnswer (o .length) (w .rooms) ≡ 0) × (channelsAnswer (o .length) (w .channels) ≡ 0)
+started w o e =
+    let m = both-zero (methodAnswer (o .method)) (allRoomsAnswer (o .length) w) (sym (start-number w o) ∙ e) in
+    let p = both-zero (roomsAnswer (o .length) (w .rooms)) (channelsAnswer (o .length) (w .channels)) (m .1) in
+    (m .0, p .0, p .1)
+
 pub start-some : (w : World) (o : Order) → startSpec w o .answer ≡ 0 → 0 < o .length
 start-some w o e =
-    let p = both-zero (roomsAnswer (o .length) (w .rooms)) (channelsAnswer (o .length) (w .channels)) (sym (start-number w o) ∙ e) in
-    length-accepted (o .length) (order-accepted (o .length) (length (w .rooms .bytes)) (length (w .rooms .map)) (length (w .rooms .hashes)) (length (w .rooms .trusted)) (p .0) .0) .0
+    length-accepted (o .length) (order-accepted (o .length) (length (w .rooms .bytes)) (length (w .rooms .map)) (length (w .rooms .hashes)) (length (w .rooms .trusted)) (started w o e .1) .0) .0
 
-pub start-shorter : (w : World) (o p : Order) → 0 < o .length → o .length ≤ p .length → startSpec w p .answer ≡ 0 → startSpec w o .answer ≡ 0
-start-shorter w o p some l e =
-    let q = both-zero (roomsAnswer (p .length) (w .rooms)) (channelsAnswer (p .length) (w .channels)) (sym (start-number w p) ∙ e) in
+pub start-method : (w : World) (o : Order) → startSpec w o .answer ≡ 0 → isMethod (o .method) ≡ true
+start-method w o e = method-accepted (o .method) (started w o e .0)
+
+pub build-method : (w : World) (o : Order) (s : List ℕ) → buildSpec w o s .answer ≡ 0 → isMethod (o .method) ≡ true
+build-method w o s e = method-accepted (o .method) (both-zero (methodAnswer (o .method)) _ (sym (build-number w o s) ∙ e) .0)
+
+pub start-shorter : (w : World) (o p : Order) → isMethod (o .method) ≡ true → 0 < o .length → o .length ≤ p .length → startSpec w p .answer ≡ 0 → startSpec w o .answer ≡ 0
+start-shorter w o p m some l e =
+    let q = started w p e in
     start-number w o ∙ rw (
-      order-shorter (o .length) (p .length) l (length (w .rooms .bytes)) (length (w .rooms .map)) (length (w .rooms .hashes)) (length (w .rooms .trusted)) some (q .0),
-      channel-rooms-shorter (o .length) (p .length) l (length (w .channels .state)) (length (w .channels .has)) (length (w .channels .wants)) (length (w .channels .reply)) (q .1),
+      method-right (o .method) m,
+      order-shorter (o .length) (p .length) l (length (w .rooms .bytes)) (length (w .rooms .map)) (length (w .rooms .hashes)) (length (w .rooms .trusted)) some (q .1),
+      channel-rooms-shorter (o .length) (p .length) l (length (w .channels .state)) (length (w .channels .has)) (length (w .channels .wants)) (length (w .channels .reply)) (q .2),
     )

@@ -10,6 +10,7 @@ use borrow.Author.Tests.{le-leb, lt-leb, not-true, not-false}
 use lib.Dec.{leb, eqb}
 use lib.ListN.{length, take, drop}
 use Rattle.bits.proofs.Promise.{rowWords, row-words}
+use Rattle.tree.proofs.Promise.{chunks, chunkSize, maxLength}
 use Rattle.wire.proofs.Promise.{be32, placed, minSize, Checked, layoutOf, Says, layout-data, layout-entries, layout-passed, layout-told, length-told, entries-told, numberOf, checkedOf, checkSpec, entryWords, hasSize, size-refused, Fronted, front-layout, front-survey, noSurvey, surveyAll, surveySpec, survey-passed}
 use Rattle.wire.specs.declared.message.Options.{Options}
 use Rattle.wire.specs.declared.survey.Survey.{Survey}
@@ -22,14 +23,15 @@ use Rattle.replies.proofs.Promise.{ackReply}
 use Rattle.table.proofs.Promise.{rowCount, rowOf, rowAt, flag, putRow, orderIn, messagesAnswer, flag-same, put-row-same}
 use Rattle.table.specs.declared.rows.Row.{Row}
 use Rattle.order.specs.declared.Order.{Order}
-use Rattle.hash.proofs.Promise.{bytesOf}
-use Rattle.store.proofs.Promise.{earlier-not, Rooms, countOf, lengthAnswer, length-accepted, integrityOf, takeSpec as storeTake, refused-same}
-use Rattle.channel.specs.World.{Channels, channelsOf, World, Out, outOf, beside, orderRoot, orderLength, chunkCount, tableRows, rowBit}
+use Rattle.hash.proofs.Promise.{bytesOf, words}
+use Rattle.store.proofs.Promise.{earlier-not, Rooms, countOf, lengthAnswer, length-accepted, integrityOf, takeSpec as storeTake, refused-same, taken-chunk}
+use Rattle.channel.specs.World.{Channels, channelsOf, World, Out, outOf, beside, orderRoot, orderLength, chunkCount, tableRows, rowBit, orderFormat}
 use Rattle.channel.specs.Answers.{ownRoomsAnswer}
-use Rattle.channel.specs.Take.{rowFor, handshakeTaken, messagesNumber, withMark, affected, messagesTaken, delay, acknowledgement, replied, dataBy, storeOut, dataTaken, byLayout, takeSpec}
+use Rattle.channel.specs.Take.{rowFor, handshakeTaken, messagesNumber, withMark, affected, messagesTaken, delay, acknowledgement, replied, dataBy, storeOut, dataTaken, byLayout, takeSpec, layoutIn, messagesIn}
 use Rattle.channel.specs.Steps.{Ruled, ruledOf, ruledBy}
 use Rattle.channel.specs.declared.outcome.Outcome.{Outcome}
 use Rattle.base.proofs.OutLaws.{unless-not, unless-done}
+use Rattle.format.specs.declared.Format.{Format}
 
 -- ---- the row that a datagram goes to
 
@@ -55,9 +57,9 @@ module _ (st : List ℕ) (s : List ℕ) {to k : ℕ} {alive : Bool} (te : to ≡
   unfolding messagesNumber
   messages-table d = table-number ∙ earlier-not (messagesAnswer (tableRows st) (be32 s 0) (eqb (length s) minSize)) _ (λ z. d (table-number ∙ z))
 
-  module _ (z : k ≡ 0) (good : lengthAnswer (orderLength st) ≡ 0) {n : ℕ} {v : Survey} (ne : n ≡ chunkCount st) (ve : v ≡ surveyAll s) where
-    past-is : anyPast (chunkCount st) (readAll s) ≡ leb n (v .highest)
-    past-is = rw (ne, ve) (past-survey (chunkCount st) s (omega (arith, length-accepted (orderLength st) good .0)))
+  module _ (z : k ≡ 0) (good : lengthAnswer (orderLength st) ≡ 0) {n : ℕ} {v : Survey} (ne : n ≡ chunkCount st) (ve : v ≡ surveyAll (orderFormat st) s) where
+    past-is : anyPast (orderFormat st) (chunkCount st) (messagesIn st s) ≡ leb n (v .highest)
+    past-is = rw (ne, ve) (past-survey (orderFormat st) (chunkCount st) s (omega (arith, length-accepted (orderLength st) good .0)))
 
     -- 7.
     pub messages-past : n ≤ v .highest → 7 ≡ messagesNumber st s
@@ -82,13 +84,13 @@ base-small L {n} {w} {i} z ne we l =
     small b m = let k = mul-le-mul-left w l in (omega (arith, b .1, we), omega (arith, b .1, we, k), omega (arith, b .1, we, k))
 
 -- The channels after the effects, room by room.
-pub affected-is : (st has wants s : List ℕ) {m n w i : ℕ} {r : Row} {h v t : List ℕ} {choked : Bool}
-    → i ≡ rowFor st s → r ≡ rowAt (tableRows st) i → m ≡ orderLength st → n ≡ countOf m → w ≡ rowWords n
-    → peerOf h v choked ≡ effects (32 * (w * i)) (readAll s) (peerOf has wants (r .choked))
+pub affected-is : (st has wants s : List ℕ) {m n w i : ℕ} {F : Format} {r : Row} {h v t : List ℕ} {choked : Bool}
+    → F ≡ orderFormat st → i ≡ rowFor st s → r ≡ rowAt (tableRows st) i → m ≡ orderLength st → n ≡ countOf m → w ≡ rowWords n
+    → peerOf h v choked ≡ effects n (32 * (w * i)) (readAll F s) (peerOf has wants (r .choked))
     → t ≡ putRow st i (withMark r choked)
     → channelsOf t h v [] ≡ affected (channelsOf st has wants []) s
 unfolding affected
-affected-is st has wants s {m} {n} {w} {i} {r} {h} {v} {t} {choked} ie re le ne we me tte = rw (words-are, ap (λ (x : Peer). x .has) peer-is, ap (λ (x : Peer). x .wants) peer-is)
+affected-is st has wants s {m} {n} {w} {i} {F} {r} {h} {v} {t} {choked} fe ie re le ne we me tte = rw (words-are, ap (λ (x : Peer). x .has) peer-is, ap (λ (x : Peer). x .wants) peer-is)
   where
     r-is : r ≡ rowAt (tableRows st) (rowFor st s)
     r-is = re ∙ ap (rowAt (tableRows st)) ie
@@ -96,11 +98,14 @@ affected-is st has wants s {m} {n} {w} {i} {r} {h} {v} {t} {choked} ie re le ne 
     w-is : w ≡ rowWords (chunkCount st)
     w-is = we ∙ ap rowWords (ne ∙ ap countOf le)
 
-    peer-is : peerOf h v choked ≡ effects (rowBit (chunkCount st) (rowFor st s)) (readAll s) (peerOf has wants (rowAt (tableRows st) (rowFor st s) .choked))
-    peer-is = rw (← r-is, ← ie, ← w-is) me
+    n-is : n ≡ chunkCount st
+    n-is = ne ∙ ap countOf le
+
+    peer-is : peerOf h v choked ≡ effects (chunkCount st) (rowBit (chunkCount st) (rowFor st s)) (messagesIn st s) (peerOf has wants (rowAt (tableRows st) (rowFor st s) .choked))
+    peer-is = rw (← r-is, ← ie, ← w-is, ← n-is, ← fe) me
 
     words-are : t ≡ putRow st (rowFor st s) (withMark (rowAt (tableRows st) (rowFor st s))
-        (effects (rowBit (chunkCount st) (rowFor st s)) (readAll s) (peerOf has wants (rowAt (tableRows st) (rowFor st s) .choked)) .choked))
+        (effects (chunkCount st) (rowBit (chunkCount st) (rowFor st s)) (messagesIn st s) (peerOf has wants (rowAt (tableRows st) (rowFor st s) .choked)) .choked))
     words-are = rw (← peer-is, ← r-is, ← ie) tte
 
 -- Where the mark is as it was, the words stay.
@@ -116,11 +121,11 @@ unfolding affected
 affected-beside st st′ has wants h v reply s e = ap (λ (ch : Channels). channelsOf (ch .state) (ch .has) (ch .wants) reply) e
 
 -- Messages without an effect leave the channels as they are.
-pub quiet-affected : (st : List ℕ) (has wants s : List ℕ) {v : Survey} → v ≡ surveyAll s → not (v .effective) ≡ true → channelsOf st has wants [] ≡ affected (channelsOf st has wants []) s
+pub quiet-affected : (st : List ℕ) (has wants s : List ℕ) {v : Survey} → v ≡ surveyAll (orderFormat st) s → not (v .effective) ≡ true → channelsOf st has wants [] ≡ affected (channelsOf st has wants []) s
 unfolding affected
 quiet-affected st has wants s {v} e h =
-    let q : surveyAll s .effective ≡ false = ap (λ (x : Survey). x .effective) (sym e) ∙ not-true (v .effective) h in
-    rw (quiet-survey (rowBit (chunkCount st) (rowFor st s)) s (peerOf has wants (rowAt (tableRows st) (rowFor st s) .choked)) q, put-row-same st (rowFor st s))
+    let q : surveyAll (orderFormat st) s .effective ≡ false = ap (λ (x : Survey). x .effective) (sym e) ∙ not-true (v .effective) h in
+    rw (quiet-survey (orderFormat st) (chunkCount st) (rowBit (chunkCount st) (rowFor st s)) s (peerOf has wants (rowAt (tableRows st) (rowFor st s) .choked)) q, put-row-same st (rowFor st s))
 
 -- ---- messages without DATA
 
@@ -140,11 +145,11 @@ pub delay-is : (clock x : ℕ) {d : ℕ} → clock < 2 ^ 64 → x < 2 ^ 64 → d
 delay-is clock x a b l e = omega arith
 
 -- To the peer of the row that the datagram goes to.
-pub ack-is : (st : List ℕ) (s : List ℕ) (clock c x : ℕ) (reply : List ℕ) {i d len : ℕ} {r : Row} {p : List ℕ}
-    → i ≡ rowFor st s → r ≡ rowAt (tableRows st) i → d ≡ delay clock x
-    → (len ≡ length (ackReply (r .peer) c c d)) × (p ≡ placed reply 0 (ackReply (r .peer) c c d))
+pub ack-is : (st : List ℕ) (s : List ℕ) (clock c x : ℕ) (reply : List ℕ) {i d len : ℕ} {F : Format} {r : Row} {p : List ℕ}
+    → F ≡ orderFormat st → i ≡ rowFor st s → r ≡ rowAt (tableRows st) i → d ≡ delay clock x
+    → (len ≡ length (ackReply F (r .peer) c c d)) × (p ≡ placed reply 0 (ackReply F (r .peer) c c d))
     → (len ≡ length (acknowledgement st s clock c x)) × (p ≡ placed reply 0 (acknowledgement st s clock c x))
-ack-is st s clock c x reply ie re de e = rw (← ie, ← re, ← de) e
+ack-is st s clock c x reply fe ie re de e = rw (← fe, ← ie, ← re, ← de) e
 
 -- The effects, and a reply.
 replied-is : (ch : Channels) (s r : List ℕ) {st : List ℕ} {h v p : List ℕ} → channelsOf st h v [] ≡ affected (channelsOf (ch .state) (ch .has) (ch .wants) []) s
@@ -169,6 +174,13 @@ module _ (w : World) (clock : ℕ) (s es : List ℕ) (c x b n : ℕ) {k : ℕ} (
     out-is =
         me ∙ ap (λ (x : Order). storeTake (w .rooms) (bytesOf (x .root .words)) (x .length) c d (integrityOf es s)) oe
         ∙ ap (λ (y : List ℕ). storeTake (w .rooms) (orderRoot (w .channels .state)) (orderLength (w .channels .state)) c y (integrityOf es s)) de
+
+    -- 0: the chunk is one of the pack.
+    pub data-chunk : lengthAnswer (orderLength (w .channels .state)) ≡ 0 → m ≡ 0 → c < chunks chunkSize maxLength
+    data-chunk g q =
+        let L = orderLength (w .channels .state) in
+        let i = taken-chunk (w .rooms) _ L c _ _ (sym (ap (λ (o : Out Rooms). o .answer) out-is) ∙ q) .0 in
+        omega (arith, i, length-accepted L g .1)
 
     settled : {out : Out World} → out ≡ dataBy w clock s c x (storeOut w s es c b n) → out ≡ dataTaken w clock s es c x b n
     unfolding dataTaken
@@ -210,36 +222,36 @@ take-refused w clock id s e d = ap (λ (x : ℕ). outOf x 0 w) e ∙ unless-not 
 
 -- Otherwise it goes by its layout:
 pub take-laid : (w : World) (clock id : ℕ) (s : List ℕ) {k : ℕ} {out : Out World} → k ≡ ownRoomsAnswer w → k ≡ 0
-    → out ≡ byLayout w clock id s (layoutOf s .layout) → out ≡ takeSpec w clock id s
+    → out ≡ byLayout w clock id s (layoutIn (w .channels .state) s .layout) → out ≡ takeSpec w clock id s
 unfolding takeSpec
 take-laid w clock id s e z p = p ∙ unless-done (ownRoomsAnswer w) w _ (sym e ∙ z)
 
 -- 1 for its size.
-pub laid-unsized : (w : World) (clock id : ℕ) (s : List ℕ) {b : Bool} → b ≡ hasSize (length s) → not b ≡ true → outOf 1 0 w ≡ byLayout w clock id s (layoutOf s .layout)
+pub laid-unsized : (w : World) (clock id : ℕ) (s : List ℕ) {b : Bool} → b ≡ hasSize (length s) → not b ≡ true → outOf 1 0 w ≡ byLayout w clock id s (layoutIn (w .channels .state) s .layout)
 unfolding byLayout
-laid-unsized w clock id s {b} e h = rw (size-refused s (sym e ∙ not-true b h))
+laid-unsized w clock id s {b} e h = rw (size-refused (orderFormat (w .channels .state)) s (sym e ∙ not-true b h))
 
 -- What the layout pass told of a datagram.
-module _ (room s : List ℕ) {l : Layout} {after : List ℕ} (e : checkedOf l after ≡ checkSpec room s) where
+module _ (st : List ℕ) {F : Format} (fe : F ≡ orderFormat st) (room s : List ℕ) {l : Layout} {after : List ℕ} (e : checkedOf l after ≡ checkSpec F room s) where
   -- The layout is the datagram's.
-  pub laid : {m : Layout} → l ≡ m → m ≡ layoutOf s .layout
-  laid q = sym q ∙ layout-told room s e
+  pub laid : {m : Layout} → l ≡ m → m ≡ layoutIn st s .layout
+  laid q = sym q ∙ layout-told F room s e ∙ ap (λ (G : Format). layoutOf G s .layout) fe
 
   -- One that is not refused has its destination,
   pub laid-long : {m : Layout} → l ≡ m → numberOf m ≡ 0 → minSize ≤ length s
-  laid-long q z = layout-passed s (ap numberOf (sym (laid q)) ∙ z) .0
+  laid-long q z = layout-passed (orderFormat st) s (ap numberOf (sym (laid q)) ∙ z) .0
 
   -- and its survey is that of all its messages.
-  pub laid-survey : {m : Layout} → l ≡ m → numberOf m ≡ 0 → {v : Survey} → v ≡ surveySpec s → v ≡ surveyAll s
-  laid-survey q z g = g ∙ survey-passed s (ap numberOf (sym (laid q)) ∙ z)
+  pub laid-survey : {m : Layout} → l ≡ m → numberOf m ≡ 0 → {v : Survey} → v ≡ surveySpec F s → v ≡ surveyAll (orderFormat st) s
+  laid-survey q z g = g ∙ ap (λ (G : Format). surveySpec G s) fe ∙ survey-passed (orderFormat st) s (ap numberOf (sym (laid q)) ∙ z)
 
   module _ {c x b n k : ℕ} (q : l ≡ MessagesAndData c x b n k) where
     -- DATA's chunk lies in the datagram.
     pub laid-end : b + n ≤ length s
-    laid-end = let g : b + n ≡ length s = rw (← laid q) at (layout-data s) in omega arith
+    laid-end = let g : b + n ≡ length s = rw (← laid q) at (layout-data (orderFormat st) s) in omega arith
 
-    told : k ≡ length (layoutOf s .entries)
-    told = says (layout-entries s .0) (laid q)
+    told : k ≡ length (layoutIn st s .entries)
+    told = says (layout-entries (orderFormat st) s .0) (laid q)
       where
         says : {m : Layout} {j : ℕ} → Says m j → MessagesAndData c x b n k ≡ m → k ≡ j
         says g f = rw (← f) at g
@@ -247,15 +259,15 @@ module _ (room s : List ℕ) {l : Layout} {after : List ℕ} (e : checkedOf l af
     -- Its entries lie in a room for any datagram's, and stand at the front.
     module _ (h : entryWords ≤ length room) where
       pub laid-few : k ≤ length after
-      laid-few = omega (arith, told, layout-entries s .1, length-told room s e)
+      laid-few = omega (arith, told, layout-entries (orderFormat st) s .1, length-told F room s e)
 
-      pub laid-entries : take (k - 0) (drop 0 after) ≡ layoutOf s .entries
-      laid-entries = let z : k - 0 ≡ k = omega arith in rw (z, told) (entries-told room s e h)
+      pub laid-entries : take (k - 0) (drop 0 after) ≡ layoutIn st s .entries
+      laid-entries = let z : k - 0 ≡ k = omega arith in rw (z, told) (rw fe at (entries-told F room s e h))
 
 -- ---- by its layout
 
 module _ (w : World) (clock id : ℕ) (s : List ℕ) where
-  pub by-layout : {l : Layout} → l ≡ layoutOf s .layout → {r : Ruled} → r ≡ ruledBy w clock id s l → r ≡ ruledBy w clock id s (layoutOf s .layout)
+  pub by-layout : {l : Layout} → l ≡ layoutIn (w .channels .state) s .layout → {r : Ruled} → r ≡ ruledBy w clock id s l → r ≡ ruledBy w clock id s (layoutIn (w .channels .state) s .layout)
   by-layout le p = p ∙ ap (ruledBy w clock id s) le
 
   -- Done, or refused.
@@ -273,20 +285,22 @@ module _ (w : World) (clock id : ℕ) (s : List ℕ) where
     unfolding byLayout
     laid-handshake a h e = settled-by (ap (beside (w .rooms)) e)
 
-    pub laid-data : (c x b n k : ℕ) (es : List ℕ) → es ≡ layoutOf s .entries → {after : World} → outOf (o .answer) (o .len) after ≡ dataTaken w clock s es c x b n
+    pub laid-data : (c x b n k : ℕ) (es : List ℕ) → es ≡ layoutIn (w .channels .state) s .entries → {after : World} → outOf (o .answer) (o .len) after ≡ dataTaken w clock s es c x b n
         → ruledOf (outOf answer len after) alone (v .highest) (v .effective) ≡ ruledBy w clock id s (MessagesAndData c x b n k)
     unfolding byLayout
     laid-data c x b n k es f e = settled-by (e ∙ ap (λ (y : List ℕ). dataTaken w clock s y c x b n) f)
 
   -- Messages are left.
-  pub laid-left : {answer len : ℕ} {alone : Bool} {v u : Survey} → (answer ≡ 0) × (len ≡ 0) × (alone ≡ true) × (v ≡ u) → u ≡ surveyAll s
+  pub laid-left : {answer len : ℕ} {alone : Bool} {v u : Survey} → (answer ≡ 0) × (len ≡ 0) × (alone ≡ true) × (v ≡ u) → u ≡ surveyAll (orderFormat (w .channels .state)) s
       → (k : ℕ) → ruledOf (outOf answer len w) alone (v .highest) (v .effective) ≡ ruledBy w clock id s (Messages k)
   laid-left p e k = rw (p .0, p .1, p .2, p .3, e)
 
   -- Plain messages alone.
-  pub laid-plain : (f : Front) → Fronted s f → f .at ≡ length s → {answer len : ℕ} {alone : Bool} {v : Survey} → (answer ≡ 0) × (len ≡ 0) × (alone ≡ true) × (v ≡ f .survey)
-      → ruledOf (outOf answer len w) alone (v .highest) (v .effective) ≡ ruledBy w clock id s (layoutOf s .layout)
-  laid-plain f q h p = laid-left p (sym (front-survey s f q h)) 0 ∙ ap (λ (c : Checked). ruledBy w clock id s (c .layout)) (sym (front-layout s f q h))
+  pub laid-plain : {F : Format} → F ≡ orderFormat (w .channels .state) → (f : Front) → Fronted F s f → f .at ≡ length s → {answer len : ℕ} {alone : Bool} {v : Survey} → (answer ≡ 0) × (len ≡ 0) × (alone ≡ true) × (v ≡ f .survey)
+      → ruledOf (outOf answer len w) alone (v .highest) (v .effective) ≡ ruledBy w clock id s (layoutIn (w .channels .state) s .layout)
+  laid-plain {F} fe f q h p =
+      laid-left p (sym (front-survey F s f q h) ∙ ap (λ (G : Format). surveyAll G s) fe) 0
+      ∙ ap (λ (c : Checked). ruledBy w clock id s (c .layout)) (sym (front-layout F s f q h) ∙ ap (λ (G : Format). layoutOf G s) fe)
 
   -- A ruling that is the call's outcome.
   pub ruled-done : (l : Layout) {answer len : ℕ} {alone : Bool} {v : Survey} {after : World} → ruledOf (outOf answer len after) alone (v .highest) (v .effective) ≡ ruledBy w clock id s l
@@ -298,7 +312,7 @@ module _ (w : World) (clock id : ℕ) (s : List ℕ) where
 
   -- One that leaves messages: nothing is done yet, and their survey is told.
   pub ruled-left : (l : Layout) {answer len : ℕ} {alone : Bool} {v : Survey} {after : World} → ruledOf (outOf answer len after) alone (v .highest) (v .effective) ≡ ruledBy w clock id s l
-      → not alone ≡ false → (after ≡ w) × (v ≡ surveyAll s) × (byLayout w clock id s l ≡ beside (w .rooms) (messagesTaken (w .channels) s))
+      → not alone ≡ false → (after ≡ w) × (v ≡ surveyAll (orderFormat (w .channels .state)) s) × (byLayout w clock id s l ≡ beside (w .rooms) (messagesTaken (w .channels) s))
   unfolding byLayout
   ruled-left (Fault n) {alone = alone} e h = absurd (true≢false (sym (not-false alone h) ∙ ap (λ (r : Ruled). r .alone) e))
   ruled-left (HandshakeAlone a o) {alone = alone} e h = absurd (true≢false (sym (not-false alone h) ∙ ap (λ (r : Ruled). r .alone) e))
@@ -306,6 +320,6 @@ module _ (w : World) (clock id : ℕ) (s : List ℕ) where
   ruled-left (MessagesAndData c x b n k) {alone = alone} e h = absurd (true≢false (sym (not-false alone h) ∙ ap (λ (r : Ruled). r .alone) e))
 
   -- The messages that were left, taken.
-  pub left-taken : {after : World} → after ≡ w → byLayout w clock id s (layoutOf s .layout) ≡ beside (w .rooms) (messagesTaken (w .channels) s)
-      → {out : Out Channels} → out ≡ messagesTaken (after .channels) s → beside (after .rooms) out ≡ byLayout w clock id s (layoutOf s .layout)
+  pub left-taken : {after : World} → after ≡ w → byLayout w clock id s (layoutIn (w .channels .state) s .layout) ≡ beside (w .rooms) (messagesTaken (w .channels) s)
+      → {out : Out Channels} → out ≡ messagesTaken (after .channels) s → beside (after .rooms) out ≡ byLayout w clock id s (layoutIn (w .channels .state) s .layout)
   left-taken {after} e f g = ap (beside (after .rooms)) g ∙ ap (λ (x : World). beside (x .rooms) (messagesTaken (x .channels) s)) e ∙ sym f

@@ -15,13 +15,14 @@ use Rattle.table.specs.declared.rows.Row.{Row}
 use Rattle.table.proofs.Promise.{openRowOf, rowAt, writeAnswer}
 use Rattle.replies.proofs.Promise.{chunkReply}
 use Rattle.store.proofs.Promise.{earlier, roomsAnswer, passed, both-zero, order-accepted, length-accepted, rooms-accepted}
-use Rattle.channel.specs.World.{World, channelsOf, Out, outOf, orderLength, chunkCount, tableRows}
+use Rattle.channel.specs.World.{World, channelsOf, Out, outOf, orderLength, chunkCount, tableRows, orderFormat}
 use Rattle.channel.specs.Answers.{channelsAnswer, ownRoomsAnswer}
 use Rattle.channel.specs.Write.{heldAnswer, writeNumber, chunkDatagram, writeSpec}
 use Rattle.base.proofs.OutLaws.{unless-not, unless-done}
 use Rattle.channel.proofs.AcceptLaws.{channel-rooms-accepted}
 use Rattle.table.proofs.Promise.{stateWords}
 use lib.Dec.{ltb}
+use Rattle.format.specs.declared.Format.{Format}
 
 -- ---- the chunk
 
@@ -63,6 +64,7 @@ pub record Writable (w : World) (N c m : ℕ) : Type 0 where
   pub fits : maxSize ≤ length (w .channels .reply)
   pub count : N ≤ chunks chunkSize maxLength
   pub short : length (handed (w .rooms .bytes) c m) ≤ chunkSize
+  pub one : c < N
 
 module _ (w : World) (id c clock N : ℕ) (ne : N ≡ chunkCount (w .channels .state)) {a b h l k : ℕ}
     (ae : a ≡ ownRoomsAnswer w) (be : b ≡ writeAnswer (tableRows (w .channels .state)) id) (he : h ≡ heldAnswer N c (w .rooms .map))
@@ -92,17 +94,18 @@ module _ (w : World) (id c clock N : ℕ) (ne : N ≡ chunkCount (w .channels .s
           fits = channel-rooms-accepted L (length (w .channels .state)) (length (w .channels .has)) (length (w .channels .wants)) (length (w .channels .reply)) (r .1) .3;
           count = rw ne (count-within L (length-accepted L (s .0) .1));
           short = simp length-take (omega (arith, me, chunk-some chunkSize L (omega arith) c j));
+          one = i;
         }
 
     -- The bytes handed over are the chunk's, so that the reply is its datagram.
-    pub write-done : (r : Row) {i n : ℕ} {reply : List ℕ} → r ≡ rowAt (tableRows (w .channels .state)) i → i ≡ openRowOf (tableRows (w .channels .state)) id
-        → (n ≡ length (chunkReply (w .rooms .hashes) (r .peer) N c clock (handed (w .rooms .bytes) c m)))
-        × (reply ≡ placed (w .channels .reply) 0 (chunkReply (w .rooms .hashes) (r .peer) N c clock (handed (w .rooms .bytes) c m)))
+    pub write-done : (r : Row) {i n : ℕ} {F : Format} {reply : List ℕ} → F ≡ orderFormat (w .channels .state) → r ≡ rowAt (tableRows (w .channels .state)) i → i ≡ openRowOf (tableRows (w .channels .state)) id
+        → (n ≡ length (chunkReply F (w .rooms .hashes) (r .peer) N c clock (handed (w .rooms .bytes) c m)))
+        × (reply ≡ placed (w .channels .reply) 0 (chunkReply F (w .rooms .hashes) (r .peer) N c clock (handed (w .rooms .bytes) c m)))
         → outOf 0 n (record { rooms = w .rooms; channels = channelsOf (w .channels .state) (w .channels .has) (w .channels .wants) reply }) ≡ writeSpec w id c clock
     unfolding writeSpec
-    write-done r re ie e =
+    write-done r {F = F} fe re ie e =
         let q : chunkSize * c + m - chunkSize * c ≡ size chunkSize (orderLength (w .channels .state)) c = omega (arith, me) in
-        let s : chunkReply (w .rooms .hashes) (r .peer) N c clock (handed (w .rooms .bytes) c m) ≡ chunkDatagram w id c clock = rw (q, re, ie, ne) in
+        let s : chunkReply F (w .rooms .hashes) (r .peer) N c clock (handed (w .rooms .bytes) c m) ≡ chunkDatagram w id c clock = rw (q, re, ie, ne, fe) in
         ap₂ replying (e .0 ∙ ap length s) (e .1 ∙ ap (placed (w .channels .reply) 0) s) ∙ unless-done (writeNumber w id c) w _ (sym number-is ∙ z)
       where
         replying : ℕ → List ℕ → Out World

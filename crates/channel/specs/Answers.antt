@@ -1,13 +1,18 @@
--- The numbers 12 and 11 for calls that are lent all eight rooms (01, "Numbers given back"). Assumes nothing.
+-- The number 12 for an order, and 11 for calls that are lent all eight rooms (01, "Numbers given back"). Assumes nothing.
 use Prim.Native.Nat.{ℕ, _*_, _≤_}
 use lib.Dec.{ltb}
 use lib.ListN.{length}
 use Rattle.base.specs.Pick.{pick}
+use Rattle.format.specs.Format.{isMethod}
 use Rattle.bits.proofs.Promise.{rowWords}
 use Rattle.table.proofs.Promise.{rowCount, stateWords}
 use Rattle.wire.proofs.Promise.{maxSize}
 use Rattle.store.proofs.Promise.{earlier, countOf, Enough, roomsAnswer}
 use Rattle.channel.specs.World.{World, Channels, orderLength}
+
+-- 12 for a method that no paper gives (02, No. 1: "a value in an order that no paper gives .. is 12").
+unfoldable pub methodAnswer : ℕ → ℕ
+methodAnswer k = pick (isMethod k) 0 12
 
 -- The words for what the peers have of N chunks, and as many for what they want: "per channel" a row as in the map.
 abbrev pub peerWords : ℕ → ℕ

@@ -5,5 +5,6 @@ pub mod Take
 pub mod Starting
 pub mod Write
 pub mod Ask
+pub mod Adding
 pub mod Reply
 pub mod Steps

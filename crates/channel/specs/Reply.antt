@@ -8,6 +8,7 @@ use mathlib.Core.Option.{Option, none, some}
 use lib.Dec.{eqb}
 use lib.ListN.{take}
 use Rattle.base.specs.Pick.{pick}
+use Rattle.format.specs.declared.Format.{Format}
 use Rattle.wire.proofs.Promise.{be32}
 use Rattle.wire.specs.declared.layout.Layout.{Layout}
 use Rattle.wire.specs.declared.layout.Layout.the-variants.{Fault, HandshakeAlone, Messages, MessagesAndData}
@@ -50,7 +51,7 @@ writeReply w id c clock =
 abbrev pub leftIn : Out World → List ℕ
 leftIn o = take (o .len) (o .after .channels .reply)
 
--- It passes the checks and reads back as these messages, to this channel; where there is none, its length is 0.
-abbrev pub Replies : Out World → Option Reply → Type 0
-Replies o none = o .len ≡ 0
-Replies o (some r) = Reads (leftIn o) (r .to) (r .items)
+-- It passes the checks under a format and reads back as these messages, to this channel; where there is none, its length is 0.
+abbrev pub Replies : Format → Out World → Option Reply → Type 0
+Replies F o none = o .len ≡ 0
+Replies F o (some r) = Reads F (leftIn o) (r .to) (r .items)

@@ -9,11 +9,11 @@ use Rattle.store.proofs.Promise.{earlier, countOf, buildAnswer}
 use Rattle.store.proofs.Promise as store
 use Rattle.order.specs.declared.Order.{Order}
 use Rattle.channel.specs.World.{World, Channels, channelsOf, Out, outOf, unless}
-use Rattle.channel.specs.Answers.{peerWords, channelsAnswer, allRoomsAnswer}
+use Rattle.channel.specs.Answers.{peerWords, methodAnswer, channelsAnswer, allRoomsAnswer}
 
--- "An order is a root hash (32 bytes) and a length".
-abbrev pub orderOf : (root : List ℕ) (L : ℕ) → Order
-orderOf root L = record { root = record { words = words 8 root }; length = L }
+-- "An order is a root hash (32 bytes) and a length"; it "names the method, 0 or 2" (02, No. 1).
+abbrev pub orderOf : (root : List ℕ) (L method : ℕ) → Order
+orderOf root L method = record { root = record { words = words 8 root }; length = L; method = method }
 
 -- The channels under a new order: every row free, all bit rows cleared, the reply room as it is.
 unfoldable pub freshChannels : Order → Channels → Channels
@@ -23,28 +23,34 @@ freshChannels o ch =
     (clearWords (ch .wants) 0 (peerWords (countOf (o .length))))
     (ch .reply)
 
--- "Starting clears all bit rows and the channel table, writes the root's hash and sets its trusted bit, nothing else":
--- 12, then 11.
+-- 12 for the order's method, then 12 for its length and 11 for any of the eight rooms.
+abbrev pub startNumber : World → Order → ℕ
+startNumber w o = earlier (methodAnswer (o .method)) (allRoomsAnswer (o .length) w)
+
+-- "Starting clears all bit rows and the channel table, writes the root's hash and sets its trusted bit, nothing else".
 unfoldable pub startSpec : World → Order → Out World
 startSpec w o =
-    unless (allRoomsAnswer (o .length) w) w
+    unless (startNumber w o) w
     (outOf 0 0 (record {
       rooms = store.startSpec (w .rooms) (bytesOf (o .root .words)) (o .length) .after;
       channels = freshChannels o (w .channels);
     }))
 
--- 12 for the order's length and for "content of another length", then 11 for any of the eight rooms.
-abbrev pub buildNumber : World → ℕ → List ℕ → ℕ
-buildNumber w L s =
-    earlier
-    (buildAnswer L (length s) (length (w .rooms .bytes)) (length (w .rooms .map)) (length (w .rooms .hashes)) (length (w .rooms .trusted)))
-    (channelsAnswer L (w .channels))
+-- The same for building, 12 also for "content of another length".
+abbrev pub buildNumber : World → Order → List ℕ → ℕ
+buildNumber w o s =
+    earlier (methodAnswer (o .method))
+    (earlier
+    (buildAnswer (o .length) (length s) (length (w .rooms .bytes)) (length (w .rooms .map))
+    (length (w .rooms .hashes)) (length (w .rooms .trusted)))
+    (channelsAnswer (o .length) (w .channels)))
 
--- "Building takes L and content ..; the root found becomes the order's; the rest is as after starting".
-unfoldable pub buildSpec : World → ℕ → List ℕ → Out World
-buildSpec w L s =
-    unless (buildNumber w L s) w
+-- "Building takes L and content ..; the root found becomes the order's; the rest is as after starting". The root of the order that
+-- is handed in is not looked at.
+unfoldable pub buildSpec : World → Order → List ℕ → Out World
+buildSpec w o s =
+    unless (buildNumber w o s) w
     (outOf 0 0 (record {
-      rooms = store.buildSpec (w .rooms) L s .after;
-      channels = freshChannels (orderOf (store.rootOf s) L) (w .channels);
+      rooms = store.buildSpec (w .rooms) (o .length) s .after;
+      channels = freshChannels (orderOf (store.rootOf s) (o .length) (o .method)) (w .channels);
     }))

@@ -6,18 +6,18 @@ use lib.Dec.{eqb}
 use lib.ListN.{length}
 use Rattle.hash.proofs.Promise.{same}
 use Rattle.base.specs.Pick.{pick}
-use Rattle.wire.proofs.Promise.{be32, placed, minSize, layoutOf}
+use Rattle.wire.proofs.Promise.{be32, placed, minSize, Checked, layoutOf}
 use Rattle.wire.specs.declared.message.Options.{Options}
 use Rattle.wire.specs.declared.message.Options.the-variants.{Fixed, EndOnly, Other}
 use Rattle.wire.specs.declared.layout.Layout.{Layout}
 use Rattle.wire.specs.declared.layout.Layout.the-variants.{Fault, HandshakeAlone, Messages, MessagesAndData}
-use Rattle.writer.proofs.Promise.{within, readAll}
+use Rattle.writer.proofs.Promise.{within, Item, readAll}
 use Rattle.effects.proofs.Promise.{anyPast, Peer, peerOf, effects}
 use Rattle.replies.proofs.Promise.{ackReply}
 use Rattle.table.specs.declared.rows.Row.{Row}
 use Rattle.table.proofs.Promise.{rowOf, rowAt, rowAfter, putRow, messagesAnswer, handshakeAnswer}
 use Rattle.store.proofs.Promise.{Rooms, earlier, integrityOf, takeSpec as storeTake}
-use Rattle.channel.specs.World.{Channels, channelsOf, World, Out, outOf, unless, beside, orderRoot, orderLength, chunkCount, tableRows, rowBit}
+use Rattle.channel.specs.World.{Channels, channelsOf, World, Out, outOf, unless, beside, orderRoot, orderLength, orderFormat, chunkCount, tableRows, rowBit}
 use Rattle.channel.specs.Answers.{ownRoomsAnswer}
 use Rattle.channel.specs.Opening.{openedRow, occupied}
 
@@ -49,17 +49,24 @@ handshakeTaken ch id s source o =
 
 -- ---- other messages
 
--- 5 and 3 by the table, then 7 for a range past N-1. A datagram of four bytes has no message: a keepalive.
+-- The layout of a datagram, and its messages, under the order's method.
+abbrev pub layoutIn : List ℕ → (s : List ℕ) → Checked
+layoutIn st s = layoutOf (orderFormat st) s
+
+abbrev pub messagesIn : List ℕ → (s : List ℕ) → List Item
+messagesIn st s = readAll (orderFormat st) s
+
+-- 5 and 3 by the table, then 7 for chunks past N-1. A datagram of four bytes has no message: a keepalive.
 unfoldable pub messagesNumber : List ℕ → (s : List ℕ) → ℕ
 messagesNumber st s =
     earlier
     (messagesAnswer (tableRows st) (be32 s 0) (eqb (length s) minSize))
-    (pick (anyPast (chunkCount st) (readAll s)) 7 0)
+    (pick (anyPast (orderFormat st) (chunkCount st) (messagesIn st s)) 7 0)
 
 -- The rooms for has and wants, and the choke mark of the row that the messages go to, after their effects.
 abbrev pub peerAfter : Channels → (s : List ℕ) → Peer
 peerAfter ch s =
-    effects (rowBit (chunkCount (ch .state)) (rowFor (ch .state) s)) (readAll s)
+    effects (chunkCount (ch .state)) (rowBit (chunkCount (ch .state)) (rowFor (ch .state) s)) (messagesIn (ch .state) s)
     (peerOf (ch .has) (ch .wants) (rowAt (tableRows (ch .state)) (rowFor (ch .state) s) .choked))
 
 -- A row with another choke mark.
@@ -88,7 +95,8 @@ delay clock timestamp = (clock + 2 ^ 64 - timestamp) % 2 ^ 64
 
 -- "Stored DATA is answered by one ACK naming that chunk alone", to the peer of the channel that it came on.
 abbrev pub acknowledgement : List ℕ → (s : List ℕ) (clock c timestamp : ℕ) → List ℕ
-acknowledgement st s clock c timestamp = ackReply (rowAt (tableRows st) (rowFor st s) .peer) c c (delay clock timestamp)
+acknowledgement st s clock c timestamp =
+    ackReply (orderFormat st) (rowAt (tableRows st) (rowFor st s) .peer) c c (delay clock timestamp)
 
 -- The channels with a reply.
 abbrev pub replied : Channels → (r : List ℕ) → Channels
@@ -122,8 +130,9 @@ unfoldable pub byLayout : World → (clock id : ℕ) (s : List ℕ) → Layout �
 byLayout w clock id s (Fault n) = outOf n 0 w
 byLayout w clock id s (HandshakeAlone source o) = beside (w .rooms) (handshakeTaken (w .channels) id s source o)
 byLayout w clock id s (Messages k) = beside (w .rooms) (messagesTaken (w .channels) s)
-byLayout w clock id s (MessagesAndData c timestamp start n k) = dataTaken w clock s (layoutOf s .entries) c timestamp start n
+byLayout w clock id s (MessagesAndData c timestamp start n k) =
+    dataTaken w clock s (layoutIn (w .channels .state) s .entries) c timestamp start n
 
 -- Taking in a datagram s at a clock, with the ID for a channel that it may open: 12 and 11, then by its layout.
 unfoldable pub takeSpec : World → (clock id : ℕ) (s : List ℕ) → Out World
-takeSpec w clock id s = unless (ownRoomsAnswer w) w (byLayout w clock id s (layoutOf s .layout))
+takeSpec w clock id s = unless (ownRoomsAnswer w) w (byLayout w clock id s (layoutIn (w .channels .state) s .layout))

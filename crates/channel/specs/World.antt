@@ -3,6 +3,8 @@ use Prim.Native.Nat.{ℕ, _*_, _+_}
 use mathlib.Core.List.{List}
 use Rattle.hash.proofs.Promise.{bytesOf}
 use Rattle.bits.proofs.Promise.{rowWords, clearWords}
+use Rattle.format.specs.Format.{formatOf}
+use Rattle.format.specs.declared.Format.{Format}
 use Rattle.table.proofs.Promise.{rowsIn, orderIn}
 use Rattle.table.specs.declared.rows.Row.{Row}
 use Rattle.store.proofs.Promise.{Rooms, roomsOf, countOf}
@@ -34,7 +36,8 @@ beside rooms out = outOf (out .answer) (out .len) (record { rooms = rooms; chann
 
 -- ---- parts of the state
 
--- The order's root and length in the state's words, the number of chunks, and the rows of the channel table.
+-- The order's root and length in the state's words, the number of chunks, the format of datagrams under the order's method, and the
+-- rows of the channel table.
 abbrev pub orderRoot : List ℕ → List ℕ
 orderRoot st = bytesOf (orderIn st .root .words)
 
@@ -43,6 +46,9 @@ orderLength st = orderIn st .length
 
 abbrev pub chunkCount : List ℕ → ℕ
 chunkCount st = countOf (orderLength st)
+
+abbrev pub orderFormat : List ℕ → Format
+orderFormat st = formatOf (orderIn st .method)
 
 abbrev pub tableRows : List ℕ → List Row
 tableRows st = rowsIn st

@@ -1,15 +1,17 @@
 // Messages other than a HANDSHAKE: their number, their effects, and the chunk that DATA brings with its reply.
 ghost use mathlib.Core.Path.{_≡_};
 ghost use mathlib.Core.List.{[]};
-ghost use Prim.Native.Nat.{_+_, _≤_};
+ghost use Prim.Native.Nat.{_+_, _≤_, _<_};
 ghost use lib.ListN.{length};
 ghost use Rattle.wire.proofs.Promise.{placed, minSize, maxSize, surveyAll};
+ghost use Rattle.tree.proofs.Promise.{chunks, chunkSize, maxLength};
 ghost use Rattle.store.proofs.Promise.{lengthAnswer};
 ghost use Rattle.table.proofs.Promise.{rowCount};
-ghost use Rattle.channel.specs.World.{channelsOf, worldOf, outOf, orderLength};
+ghost use Rattle.channel.specs.World.{channelsOf, worldOf, outOf, orderLength, orderFormat};
 ghost use Rattle.channel.specs.Take.{rowFor, messagesNumber, affected, messagesTaken};
 ghost use Rattle.channel.specs.Take.{acknowledgement, dataTaken};
 use crate::outcome::Outcome;
+use format::Format;
 use store::calls;
 use table::answers;
 use table::rows::Row;
@@ -32,7 +34,7 @@ fn judge(state: &[u32], i: usize, datagram: &[u8], survey: Survey) -> u32
     requires { ⌜ lengthAnswer (orderLength (now state)) ≡ 0 ⌝ }
     requires { ⌜ minSize ≤ length (now datagram) ⌝ }
     requires { ⌜ i ≡ rowFor (now state) (now datagram) ⌝ }
-    requires { ⌜ survey ≡ surveyAll (now datagram) ⌝ }
+    requires { ⌜ survey ≡ surveyAll (orderFormat (now state)) (now datagram) ⌝ }
     ensures { λ r. ⌜ r ≡ messagesNumber (now (state .entry)) (now (datagram .entry)) ⌝ }
 {
     let keepalive = datagram.len() == MIN_SIZE;
@@ -47,8 +49,16 @@ fn judge(state: &[u32], i: usize, datagram: &[u8], survey: Survey) -> u32
 }
 
 // The effects of messages on the channel that they go to.
-fn apply_messages(state: &mut [u32], i: usize, has: &mut [u32], wants: &mut [u32], datagram: &[u8])
+fn apply_messages(
+    state: &mut [u32],
+    format: Format,
+    i: usize,
+    has: &mut [u32],
+    wants: &mut [u32],
+    datagram: &[u8],
+)
     requires { ⌜ lengthAnswer (orderLength (now state)) ≡ 0 ⌝ }
+    requires { ⌜ format ≡ orderFormat (now state) ⌝ }
     requires { ⌜ (i ≡ rowFor (now state) (now datagram)) × (i ≤ rowCount) ⌝ }
     ensures { λ _. ⌜ channelsOf (now (state .exit)) (now (has .exit)) (now (wants .exit)) []
         ≡ affected
@@ -56,8 +66,9 @@ fn apply_messages(state: &mut [u32], i: usize, has: &mut [u32], wants: &mut [u32
         (now (datagram .entry)) ⌝ }
 {
     let row = words::row_at(state, i);
-    let n = bits::row_words(pack::chunk_count(words::length_in(state)) as u64) as usize;
-    let choked = effects::apply(has, wants, 32 * (n * i), row.choked, datagram);
+    let n = pack::chunk_count(words::length_in(state));
+    let w = bits::row_words(n as u64) as usize;
+    let choked = effects::apply(has, wants, format, n, 32 * (w * i), row.choked, datagram);
     if words::flag(choked) == words::flag(row.choked) {
         return;
     }
@@ -74,6 +85,7 @@ fn apply_messages(state: &mut [u32], i: usize, has: &mut [u32], wants: &mut [u32
 // Messages without DATA.
 pub(crate) fn take_messages(
     state: &mut [u32],
+    format: Format,
     has: &mut [u32],
     wants: &mut [u32],
     reply: &[u8],
@@ -81,8 +93,9 @@ pub(crate) fn take_messages(
     survey: Survey,
 ) -> Outcome
     requires { ⌜ lengthAnswer (orderLength (now state)) ≡ 0 ⌝ }
+    requires { ⌜ format ≡ orderFormat (now state) ⌝ }
     requires { ⌜ minSize ≤ length (now datagram) ⌝ }
-    requires { ⌜ survey ≡ surveyAll (now datagram) ⌝ }
+    requires { ⌜ survey ≡ surveyAll (orderFormat (now state)) (now datagram) ⌝ }
     ensures { λ r. ⌜ outOf (r .answer) (r .len)
         (channelsOf (now (state .exit)) (now (has .exit)) (now (wants .exit)) (now (reply .entry)))
         ≡ messagesTaken
@@ -97,13 +110,14 @@ pub(crate) fn take_messages(
     if !survey.effective {
         return Outcome { answer: 0, len: 0 };
     }
-    apply_messages(state, i, has, wants, datagram);
+    apply_messages(state, format, i, has, wants, datagram);
     Outcome { answer: 0, len: 0 }
 }
 
 // The ACK of chunk c, to the peer of the channel that it came on; its length.
 fn acknowledge(
     state: &[u32],
+    format: Format,
     i: usize,
     reply: &mut [u8],
     clock: u64,
@@ -112,6 +126,8 @@ fn acknowledge(
     datagram: &[u8],
 ) -> usize
     requires { ⌜ maxSize ≤ length (now reply) ⌝ }
+    requires { ⌜ format ≡ orderFormat (now state) ⌝ }
+    requires { ⌜ c < chunks chunkSize maxLength ⌝ }
     requires { ⌜ i ≡ rowFor (now state) (now datagram) ⌝ }
     ensures { λ r. ⌜ (r ≡ length (acknowledgement (now (state .entry)) (now (datagram .entry)) clock c timestamp))
         × (now (reply .exit) ≡ placed (now (reply .entry)) 0
@@ -119,12 +135,13 @@ fn acknowledge(
 {
     let row = words::row_at(state, i);
     let delay = std::num::wrapping_sub_u64(clock, timestamp);
-    replies::ack(reply, row.peer, c, c, delay)
+    replies::ack(reply, format, row.peer, c, c, delay)
 }
 
 // Messages with DATA, whose chunk has `len` bytes from `start` on and whose INTEGRITY messages are in `entries`.
 pub(crate) fn take_chunk(
     state: &mut [u32],
+    format: Format,
     chunks: &mut [u8],
     map: &mut [u32],
     hashes: &mut [u32],
@@ -142,10 +159,11 @@ pub(crate) fn take_chunk(
     survey: Survey,
 ) -> Outcome
     requires { ⌜ lengthAnswer (orderLength (now state)) ≡ 0 ⌝ }
+    requires { ⌜ format ≡ orderFormat (now state) ⌝ }
     requires { ⌜ maxSize ≤ length (now reply) ⌝ }
     requires { ⌜ minSize ≤ length (now datagram) ⌝ }
     requires { ⌜ start + len ≤ length (now datagram) ⌝ }
-    requires { ⌜ survey ≡ surveyAll (now datagram) ⌝ }
+    requires { ⌜ survey ≡ surveyAll (orderFormat (now state)) (now datagram) ⌝ }
     ensures { λ r. ⌜ outOf (r .answer) (r .len)
         (worldOf (now (state .exit)) (now (chunks .exit)) (now (map .exit)) (now (hashes .exit))
         (now (trusted .exit)) (now (has .exit)) (now (wants .exit)) (now (reply .exit)))
@@ -178,14 +196,14 @@ pub(crate) fn take_chunk(
     if answer != 0 {
         return Outcome { answer, len: 0 };
     }
-    let sent = acknowledge(state, i, reply, clock, c, timestamp, datagram);
+    let sent = acknowledge(state, format, i, reply, clock, c, timestamp, datagram);
     if !survey.effective {
         return Outcome {
             answer: 0,
             len: sent,
         };
     }
-    apply_messages(state, i, has, wants, datagram);
+    apply_messages(state, format, i, has, wants, datagram);
     Outcome {
         answer: 0,
         len: sent,

@@ -41,10 +41,11 @@ pub(crate) fn occupy(
 {
     let n = pack::chunk_count(words::length_in(state));
     let root = words::root_in(state);
+    let format = words::format_in(state);
     let i = words::lowest_free(state);
     clear_row(has, n, i);
     clear_row(wants, n, i);
-    let len = replies::handshake(reply, row.peer, row.id, root);
+    let len = replies::handshake(reply, format, row.peer, row.id, root);
     words::put_row(state, i, row);
     Outcome { answer: 0, len }
 }

@@ -1,10 +1,10 @@
-// The numbers 12 and 11 for the calls that are lent all eight rooms, from lengths alone.
+// The number 12 for an order's method, and 12 and 11 for the calls that are lent all eight rooms, from lengths alone.
 ghost use mathlib.Core.Path.{_≡_};
 ghost use lib.Dec.{ltb};
 ghost use Rattle.base.specs.Pick.{pick};
 ghost use Rattle.table.proofs.Promise.{stateWords};
 ghost use Rattle.store.proofs.Promise.{earlier, orderAnswer, buildAnswer};
-ghost use Rattle.channel.specs.Answers.{channelRoomsAnswer};
+ghost use Rattle.channel.specs.Answers.{methodAnswer, channelRoomsAnswer};
 use store::answers;
 use table::rows::ROWS;
 use table::words::STATE_WORDS;
@@ -18,6 +18,13 @@ pub fn earlier(first: u32, second: u32) -> u32
         return first;
     }
     second
+}
+
+// 12 for a method that no paper gives.
+pub fn method_answer(method: u32) -> u32
+    ensures { λ r. ⌜ r ≡ methodAnswer method ⌝ }
+{
+    if format::is_method(method) { 0 } else { 12 }
 }
 
 // 11: the room for the state, one for what the peers have or want, or the reply room, is too small.

@@ -40,7 +40,7 @@ pub fn start(
         order ⌝ }
 {
     let length = order.length;
-    let answer = rooms::all_rooms_answer(
+    let short = rooms::all_rooms_answer(
         length,
         state.len(),
         chunks.len(),
@@ -51,6 +51,7 @@ pub fn start(
         wants.len(),
         reply.len(),
     );
+    let answer = rooms::earlier(rooms::method_answer(order.method), short);
     if answer != 0 {
         return answer;
     }
@@ -61,7 +62,7 @@ pub fn start(
     0
 }
 
-// Builds a whole store of a length from its content; the root found becomes the order's.
+// Builds a whole store from its content, under an order whose root is not looked at; the root found becomes the order's.
 pub fn build(
     state: &mut [u32],
     chunks: &mut [u8],
@@ -71,7 +72,7 @@ pub fn build(
     has: &mut [u32],
     wants: &mut [u32],
     reply: &[u8],
-    length: u32,
+    order: Order,
     content: &[u8],
 ) -> u32
     ensures { λ r. ⌜ outOf r 0
@@ -80,9 +81,11 @@ pub fn build(
         ≡ buildSpec
         (worldOf (now (state .entry)) (now (chunks .entry)) (now (map .entry)) (now (hashes .entry))
         (now (trusted .entry)) (now (has .entry)) (now (wants .entry)) (now (reply .entry)))
-        length (now (content .entry)) ⌝ }
+        order (now (content .entry)) ⌝ }
 {
-    let answer = rooms::build_number(
+    let length = order.length;
+    let method = order.method;
+    let short = rooms::build_number(
         length,
         content.len(),
         state.len(),
@@ -94,6 +97,7 @@ pub fn build(
         wants.len(),
         reply.len(),
     );
+    let answer = rooms::earlier(rooms::method_answer(method), short);
     if answer != 0 {
         return answer;
     }
@@ -101,6 +105,13 @@ pub fn build(
     let root = built.root;
     clear_rows(has, length);
     clear_rows(wants, length);
-    words::put_fresh(state, Order { root, length });
+    words::put_fresh(
+        state,
+        Order {
+            root,
+            length,
+            method,
+        },
+    );
     0
 }

@@ -3,15 +3,16 @@ ghost use mathlib.Core.Path.{_≡_};
 ghost use mathlib.Core.Bool.{true, false};
 ghost use Prim.Native.Nat.{_≤_};
 ghost use lib.ListN.{length};
-ghost use Rattle.wire.proofs.Promise.{maxSize, layoutOf, noSurvey, Fronted};
+ghost use Rattle.wire.proofs.Promise.{maxSize, noSurvey, Fronted};
 ghost use Rattle.store.proofs.Promise.{lengthAnswer};
-ghost use Rattle.channel.specs.World.{worldOf, outOf, orderLength};
-ghost use Rattle.channel.specs.Take.{takeSpec};
+ghost use Rattle.channel.specs.World.{worldOf, outOf, orderLength, orderFormat};
+ghost use Rattle.channel.specs.Take.{layoutIn, takeSpec};
 ghost use Rattle.channel.specs.Steps.{ruledOf, ruledBy};
 use crate::handshakes;
 use crate::messages;
 use crate::outcome::Outcome;
 use crate::rooms;
+use format::Format;
 use table::words;
 use wire::layout::Layout;
 use wire::limits::ENTRIES;
@@ -57,6 +58,7 @@ fn messages_left(survey: Survey) -> Ruling
 // A datagram that has others than plain messages: its scratch is made here alone.
 fn rule_behind(
     state: &mut [u32],
+    format: Format,
     chunks: &mut [u8],
     map: &mut [u32],
     hashes: &mut [u32],
@@ -70,8 +72,9 @@ fn rule_behind(
     front: Front,
 ) -> Ruling
     requires { ⌜ lengthAnswer (orderLength (now state)) ≡ 0 ⌝ }
+    requires { ⌜ format ≡ orderFormat (now state) ⌝ }
     requires { ⌜ maxSize ≤ length (now reply) ⌝ }
-    requires { ⌜ Fronted (now datagram) front ⌝ }
+    requires { ⌜ Fronted format (now datagram) front ⌝ }
     ensures { λ r. ⌜ ruledOf (outOf (r .answer) (r .len)
         (worldOf (now (state .exit)) (now (chunks .exit)) (now (map .exit)) (now (hashes .exit))
         (now (trusted .exit)) (now (has .exit)) (now (wants .exit)) (now (reply .exit))))
@@ -79,10 +82,10 @@ fn rule_behind(
         ≡ ruledBy
         (worldOf (now (state .entry)) (now (chunks .entry)) (now (map .entry)) (now (hashes .entry))
         (now (trusted .entry)) (now (has .entry)) (now (wants .entry)) (now (reply .entry)))
-        clock id (now (datagram .entry)) (layoutOf (now (datagram .entry)) .layout) ⌝ }
+        clock id (now (datagram .entry)) (layoutIn (now (state .entry)) (now (datagram .entry)) .layout) ⌝ }
 {
     let mut entries = [0u64; ENTRIES];
-    let pass = pass::rest(datagram, &mut entries, front);
+    let pass = pass::rest(format, datagram, &mut entries, front);
     let survey = pass.survey;
     let found = pass.layout;
     match found {
@@ -109,6 +112,7 @@ fn rule_behind(
             entries: n,
         } => ruled(messages::take_chunk(
             state,
+            format,
             chunks,
             map,
             hashes,
@@ -132,6 +136,7 @@ fn rule_behind(
 // compiler puts in line.
 fn rule(
     state: &mut [u32],
+    format: Format,
     chunks: &mut [u8],
     map: &mut [u32],
     hashes: &mut [u32],
@@ -145,8 +150,9 @@ fn rule(
     front: Front,
 ) -> Ruling
     requires { ⌜ lengthAnswer (orderLength (now state)) ≡ 0 ⌝ }
+    requires { ⌜ format ≡ orderFormat (now state) ⌝ }
     requires { ⌜ maxSize ≤ length (now reply) ⌝ }
-    requires { ⌜ Fronted (now datagram) front ⌝ }
+    requires { ⌜ Fronted format (now datagram) front ⌝ }
     ensures { λ r. ⌜ ruledOf (outOf (r .answer) (r .len)
         (worldOf (now (state .exit)) (now (chunks .exit)) (now (map .exit)) (now (hashes .exit))
         (now (trusted .exit)) (now (has .exit)) (now (wants .exit)) (now (reply .exit))))
@@ -154,13 +160,14 @@ fn rule(
         ≡ ruledBy
         (worldOf (now (state .entry)) (now (chunks .entry)) (now (map .entry)) (now (hashes .entry))
         (now (trusted .entry)) (now (has .entry)) (now (wants .entry)) (now (reply .entry)))
-        clock id (now (datagram .entry)) (layoutOf (now (datagram .entry)) .layout) ⌝ }
+        clock id (now (datagram .entry)) (layoutIn (now (state .entry)) (now (datagram .entry)) .layout) ⌝ }
 {
     if front.at == datagram.len() {
         return messages_left(front.survey);
     }
     rule_behind(
         state,
+        format,
         chunks,
         map,
         hashes,
@@ -217,9 +224,11 @@ pub fn take(
     if !pass::has_size(datagram) {
         return Outcome { answer: 1, len: 0 };
     }
-    let front = pass::plain_front(datagram);
+    let format = words::format_in(state);
+    let front = pass::plain_front(format, datagram);
     let ruling = rule(
         state,
+        format,
         chunks,
         map,
         hashes,
@@ -238,5 +247,5 @@ pub fn take(
             len: ruling.len,
         };
     }
-    messages::take_messages(state, has, wants, reply, datagram, ruling.survey)
+    messages::take_messages(state, format, has, wants, reply, datagram, ruling.survey)
 }

@@ -66,6 +66,15 @@ pub fn write(
     let row = words::row_at(state, words::open_row_of(state, id));
     let from = CHUNK_SIZE as usize * c as usize;
     let end = from + pack::chunk_size(length, c) as usize;
-    let len = replies::chunk(reply, hashes, row.peer, n, c, clock, &chunks[from..end]);
+    let len = replies::chunk(
+        reply,
+        words::format_in(state),
+        hashes,
+        row.peer,
+        n,
+        c,
+        clock,
+        &chunks[from..end],
+    );
     Outcome { answer: 0, len }
 }

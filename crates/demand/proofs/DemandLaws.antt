@@ -14,13 +14,13 @@ use Rattle.held.proofs.Promise.{held-counted}
 use Rattle.store.proofs.Promise.{Rooms, countOf, Digest, Running, Whole, Alike, lengthAnswer, roomsAnswer, buildAnswer, rootOf, both-zero, order-accepted, build-accepted, root-words, start-zero, started-running, started-empty, build-zero, built-running, built-whole, content-root, running-hangs, whole-alike}
 use Rattle.order.specs.declared.Order.{Order}
 use Rattle.channel.specs.World.{Channels, World, orderLength, chunkCount}
-use Rattle.channel.specs.Answers.{peerWords, channelsAnswer, allRoomsAnswer}
-use Rattle.channel.specs.Starting.{orderOf, freshChannels, startSpec, buildNumber, buildSpec}
+use Rattle.channel.specs.Answers.{peerWords, channelsAnswer, allRoomsAnswer, methodAnswer}
+use Rattle.channel.specs.Starting.{orderOf, freshChannels, startSpec, buildNumber, buildSpec, startNumber}
 use Rattle.channel.specs.Ask.{Asked, askedOf, askSpec}
 use Rattle.demand.specs.Run.{Call, run, FreshOrBuilt, fresh, built}
 use Rattle.demand.specs.Demand.{rootIn, lengthIn, chunksIn, ask, BothWhole, Demand}
 use Rattle.table.proofs.Promise.{stateWords, orderIn, fresh-order, fresh-length}
-use Rattle.channel.proofs.AcceptLaws.{channel-rooms-accepted}
+use Rattle.channel.proofs.AcceptLaws.{channel-rooms-accepted, method-accepted}
 use Rattle.base.proofs.OutLaws.{unless-zero}
 use Rattle.demand.proofs.RunLaws.{Under, run-keeps, run-under, run-map, run-bytes}
 use Rattle.demand.proofs.StepLaws.{Kept}
@@ -54,24 +54,25 @@ ready-of w o e room h s l r =
     }
 
 -- A running store with channels under a new order.
-begun-ready : (rooms : Rooms) (ch : Channels) (root : List ℕ) (L : ℕ) → lengthAnswer L ≡ 0 → channelsAnswer L ch ≡ 0
-    → Running L (bytesOf (words 8 root)) rooms → Ready (record { rooms = rooms; channels = freshChannels (orderOf root L) ch })
+begun-ready : (rooms : Rooms) (ch : Channels) (root : List ℕ) (L method : ℕ) → methodAnswer method ≡ 0 → lengthAnswer L ≡ 0 → channelsAnswer L ch ≡ 0
+    → Running L (bytesOf (words 8 root)) rooms → Ready (record { rooms = rooms; channels = freshChannels (orderOf root L method) ch })
 unfolding freshChannels
-begun-ready rooms ch root L l z r =
-    let o = orderOf root L in
+begun-ready rooms ch root L method q l z r =
+    let o = orderOf root L method in
     let m = channel-rooms-accepted L (length (ch .state)) (length (ch .has)) (length (ch .wants)) (length (ch .reply)) z in
-    ready-of _ o (fresh-order (ch .state) o (m .0) (words-length 8 root)) (rw (fresh-length (ch .state) o) (m .0))
+    ready-of _ o (fresh-order (ch .state) o (m .0) (words-length 8 root) (method-accepted method q)) (rw (fresh-length (ch .state) o) (m .0))
     (rw (length-clearWords (ch .has) 0 (peerWords (countOf L))) (m .1)) (rw (length-clearWords (ch .wants) 0 (peerWords (countOf L))) (m .2)) l r
 
 -- What a start that nothing refuses leaves.
-fresh-ready : (w : World) (root : List ℕ) (L : ℕ) → startSpec w (orderOf root L) .answer ≡ 0 → Ready (startSpec w (orderOf root L) .after)
+fresh-ready : (w : World) (root : List ℕ) (L method : ℕ) → startSpec w (orderOf root L method) .answer ≡ 0 → Ready (startSpec w (orderOf root L method) .after)
 unfolding startSpec
-fresh-ready w root L e =
+fresh-ready w root L method e =
     let r = bytesOf (words 8 root) in
-    let z = unless-zero (allRoomsAnswer L w) w _ e .0 in
-    let p = both-zero (roomsAnswer L (w .rooms)) (channelsAnswer L (w .channels)) z in
+    let z = unless-zero (startNumber w (orderOf root L method)) w _ e .0 in
+    let m = both-zero (methodAnswer method) (allRoomsAnswer L w) z in
+    let p = both-zero (roomsAnswer L (w .rooms)) (channelsAnswer L (w .channels)) (m .1) in
     let g = started-running (w .rooms) r L (root-words (words 8 root) (words-length 8 root)) (start-zero (w .rooms) r L (p .0)) in
-    rw z (begun-ready _ (w .channels) root L (order-accepted L _ _ _ _ (p .0) .0) (p .1) g)
+    rw z (begun-ready _ (w .channels) root L method (m .0) (order-accepted L _ _ _ _ (p .0) .0) (p .1) g)
 
 -- The words of a content's root stand for it.
 root-back : (s : List ℕ) → bytesOf (words 8 (rootOf s)) ≡ rootOf s
@@ -81,33 +82,35 @@ root-back s =
     bytes-words 8 (rootOf s) (d .0) (omega (arith, d .1)) ∙ take-all 32 (rootOf s) (omega (arith, d .1))
 
 -- What a building that nothing refuses leaves.
-built-ready : (w : World) (L : ℕ) (s : List ℕ) → buildSpec w L s .answer ≡ 0 → Ready (buildSpec w L s .after)
+built-ready : (w : World) (o : Order) (s : List ℕ) → buildSpec w o s .answer ≡ 0 → Ready (buildSpec w o s .after)
 unfolding buildSpec
-built-ready w L s e =
-    let z = unless-zero (buildNumber w L s) w _ e .0 in
-    let p = both-zero (buildAnswer L (length s) (length (w .rooms .bytes)) (length (w .rooms .map)) (length (w .rooms .hashes)) (length (w .rooms .trusted))) (channelsAnswer L (w .channels)) z in
+built-ready w o s e =
+    let L = o .length in
+    let z = unless-zero (buildNumber w o s) w _ e .0 in
+    let m = both-zero (methodAnswer (o .method)) _ z in
+    let p = both-zero (buildAnswer L (length s) (length (w .rooms .bytes)) (length (w .rooms .map)) (length (w .rooms .hashes)) (length (w .rooms .trusted))) (channelsAnswer L (w .channels)) (m .1) in
     let g = built-running (w .rooms) L s (build-zero (w .rooms) L s (p .0)) in
-    rw z (begun-ready _ (w .channels) (rootOf s) L (build-accepted L _ _ _ _ _ (p .0) .0) (p .1) (rw (root-back s) (g .1)))
+    rw z (begun-ready _ (w .channels) (rootOf s) L (o .method) (m .0) (build-accepted L _ _ _ _ _ (p .0) .0) (p .1) (rw (root-back s) (g .1)))
 
 pub fresh-or-built-ready : (w : World) → FreshOrBuilt w → Ready w
-fresh-or-built-ready _ (fresh w root L e) = fresh-ready w root L e
-fresh-or-built-ready _ (built w L s e) = built-ready w L s e
+fresh-or-built-ready _ (fresh w root L method e) = fresh-ready w root L method e
+fresh-or-built-ready _ (built w o s e) = built-ready w o s e
 
 -- A fresh store has no chunk in its map,
 pub fresh-empty : (w : World) (o : Order) → startSpec w o .answer ≡ 0 → (x : ℕ) → x < countOf (o .length) → bitAt (startSpec w o .after .rooms .map) x ≡ false
 unfolding startSpec
 fresh-empty w o e x l =
-    let z = unless-zero (allRoomsAnswer (o .length) w) w _ e .0 in
-    let p = both-zero (roomsAnswer (o .length) (w .rooms)) _ z in
+    let z = unless-zero (startNumber w o) w _ e .0 in
+    let p = both-zero (roomsAnswer (o .length) (w .rooms)) _ (both-zero (methodAnswer (o .method)) _ z .1) in
     rw z (started-empty (w .rooms) (bytesOf (o .root .words)) (o .length) (start-zero (w .rooms) (bytesOf (o .root .words)) (o .length) (p .0)) x l)
 
 -- a built one all N.
-pub built-full : (w : World) (L : ℕ) (s : List ℕ) → buildSpec w L s .answer ≡ 0 → Whole L (buildSpec w L s .after .rooms)
+pub built-full : (w : World) (o : Order) (s : List ℕ) → buildSpec w o s .answer ≡ 0 → Whole (o .length) (buildSpec w o s .after .rooms)
 unfolding buildSpec
-built-full w L s e =
-    let z = unless-zero (buildNumber w L s) w _ e .0 in
-    let p = both-zero _ _ z in
-    rw z (built-whole (w .rooms) L s (build-zero (w .rooms) L s (p .0)))
+built-full w o s e =
+    let z = unless-zero (buildNumber w o s) w _ e .0 in
+    let p = both-zero _ _ (both-zero (methodAnswer (o .method)) _ z .1) in
+    rw z (built-whole (w .rooms) (o .length) s (build-zero (w .rooms) (o .length) s (p .0)))
 
 -- ---- asking
 

@@ -13,6 +13,7 @@ use Rattle.demand.proofs.DemandLaws as demand
 use Rattle.demand.proofs.SufficeLaws as suffice
 pub use Rattle.demand.specs.Run.{Call, opening, taking, writing, asking, lend, out, step, run, ReplyFits, FreshOrBuilt, fresh, built, firstBrought}
 pub use Rattle.demand.specs.Demand.{ask, BothWhole, Demand}
+use lib.ListN.{length}
 
 -- After a start or a building that answered 0, no call of a list, lent a reply room of at least the least size, is refused with
 -- 11 or 12: its other rooms are the store's own, as the last call left them.
@@ -25,7 +26,7 @@ never-short = suffice.never-short
 pub fresh-empty : (w : World) (o : Order) → startSpec w o .answer ≡ 0 → (x : ℕ) → x < countOf (o .length) → bitAt (startSpec w o .after .rooms .map) x ≡ false
 fresh-empty = demand.fresh-empty
 
-pub built-full : (w : World) (L : ℕ) (s : List ℕ) → buildSpec w L s .answer ≡ 0 → Whole L (buildSpec w L s .after .rooms)
+pub built-full : (w : World) (o : Order) (s : List ℕ) → buildSpec w o s .answer ≡ 0 → Whole (o .length) (buildSpec w o s .after .rooms)
 built-full = demand.built-full
 
 -- ---- demand 3, of every list of calls on a fresh or built store

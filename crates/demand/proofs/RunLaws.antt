@@ -13,6 +13,7 @@ use Rattle.store.proofs.Promise.{Rooms, Integrity, countOf, chunkIn, Running, t
 use Rattle.channel.specs.World.{World, orderRoot, orderLength}
 use Rattle.demand.specs.Run.{Call, step, run, brings, orNext, firstBrought, wasBrought, broughtBytes}
 use Rattle.demand.proofs.StepLaws.{Kept, keptBy, step-keeps, Moved, stays, takes, step-moved}
+use lib.ListN.{length}
 
 -- What no call of a list changes: the order, and how long the rooms are.
 pub run-keeps : (w : World) (ks : List Call) → keptBy (run w ks) ≡ keptBy w

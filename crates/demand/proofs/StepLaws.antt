@@ -9,10 +9,9 @@ use native.Mathlib.Omega.{arith}
 use lib.Dec.{eqb}
 use lib.ListN.{length}
 use Rattle.base.specs.Pick.{pick}
-use Rattle.wire.proofs.Promise.{layoutOf}
 use Rattle.wire.specs.declared.layout.Layout.{Layout}
 use Rattle.wire.specs.declared.layout.Layout.the-variants.{Fault, HandshakeAlone, Messages, MessagesAndData}
-use Rattle.writer.proofs.Promise.{within, readAll}
+use Rattle.writer.proofs.Promise.{within}
 use Rattle.store.proofs.Promise.{Rooms, Integrity, takeSpec as storeTake}
 use Rattle.order.specs.declared.Order.{Order}
 use Rattle.bits.proofs.Promise.{length-clearWords}
@@ -22,7 +21,7 @@ use Rattle.table.proofs.Promise.{orderIn, rowAt, putRow, put-row-order, put-row
 use Rattle.channel.specs.World.{Channels, channelsOf, World, Out, outOf, unless, beside, orderRoot, orderLength, chunkCount, tableRows, rowBit}
 use Rattle.channel.specs.Answers.{ownRoomsAnswer}
 use Rattle.channel.specs.Opening.{callingRow, occupied, openNumber, openSpec}
-use Rattle.channel.specs.Take.{rowFor, handshakeTaken, messagesNumber, affected, messagesTaken, dataBy, storeOut, dataTaken, byLayout, takeSpec}
+use Rattle.channel.specs.Take.{rowFor, handshakeTaken, messagesNumber, affected, messagesTaken, dataBy, storeOut, dataTaken, byLayout, takeSpec, layoutIn, messagesIn}
 use Rattle.channel.specs.Write.{writeNumber, writeSpec}
 use Rattle.demand.specs.Run.{Call, opening, taking, writing, asking, lend, step, dataFor, brings}
 use Rattle.base.proofs.OutLaws.{unless-keeps}
@@ -61,7 +60,7 @@ unfolding affected
 affected-keeps ch s =
     let st = ch .state in
     let i = rowFor st s in
-    let e = effects-lengths (rowBit (chunkCount st) i) (readAll s) (peerOf (ch .has) (ch .wants) (rowAt (tableRows st) i .choked)) in
+    let e = effects-lengths (chunkCount st) (rowBit (chunkCount st) i) (messagesIn st s) (peerOf (ch .has) (ch .wants) (rowAt (tableRows st) i .choked)) in
     kept-same (put-row-order st i _) (put-row-length st i _) (e .has-long) (e .wants-long)
 
 open-keeps : (w : World) (id : ℕ) → keptBy (openSpec w id .after) ≡ keptBy w
@@ -124,17 +123,17 @@ unfolding byLayout dataTaken
 layout-moved w clock id s (Fault n) = without w (outOf n 0 w) refl
 layout-moved w clock id s (HandshakeAlone a o) = without w (beside (w .rooms) (handshakeTaken (w .channels) id s a o)) refl
 layout-moved w clock id s (Messages k) = without w (beside (w .rooms) (messagesTaken (w .channels) s)) refl
-layout-moved w clock id s (MessagesAndData c x b n k) = data-moved w clock s (layoutOf s .entries) c x b n (messagesNumber (w .channels .state) s)
+layout-moved w clock id s (MessagesAndData c x b n k) = data-moved w clock s (layoutIn (w .channels .state) s .entries) c x b n (messagesNumber (w .channels .state) s)
 
 take-moved : (w : World) (clock id : ℕ) (s : List ℕ)
-    → Moved w (takeSpec w clock id s .after .rooms) (λ x. pick (eqb (takeSpec w clock id s .answer) 0) (dataFor x s (layoutOf s .layout)) none)
+    → Moved w (takeSpec w clock id s .after .rooms) (λ x. pick (eqb (takeSpec w clock id s .answer) 0) (dataFor x s (layoutIn (w .channels .state) s .layout)) none)
 unfolding takeSpec
 take-moved w clock id s = go (ownRoomsAnswer w)
   where
-    go : (n : ℕ) → Moved w (unless n w (byLayout w clock id s (layoutOf s .layout)) .after .rooms)
-        (λ x. pick (eqb (unless n w (byLayout w clock id s (layoutOf s .layout)) .answer) 0) (dataFor x s (layoutOf s .layout)) none)
-    go zero = layout-moved w clock id s (layoutOf s .layout)
-    go (suc n) = stays refl (λ x. refused-none n (dataFor x s (layoutOf s .layout)))
+    go : (n : ℕ) → Moved w (unless n w (byLayout w clock id s (layoutIn (w .channels .state) s .layout)) .after .rooms)
+        (λ x. pick (eqb (unless n w (byLayout w clock id s (layoutIn (w .channels .state) s .layout)) .answer) 0) (dataFor x s (layoutIn (w .channels .state) s .layout)) none)
+    go zero = layout-moved w clock id s (layoutIn (w .channels .state) s .layout)
+    go (suc n) = stays refl (λ x. refused-none n (dataFor x s (layoutIn (w .channels .state) s .layout)))
 
 open-rooms : (w : World) (id : ℕ) → openSpec w id .after .rooms ≡ w .rooms
 unfolding openSpec

@@ -33,8 +33,8 @@ chunkBytes w x = chunkIn (lengthIn w) (w .rooms .bytes) x
 abbrev pub ask : World → Asked
 ask w = askSpec (w .channels .state) (w .rooms .map)
 
--- Another store, fresh or built, under the same root and length, after a list of calls of its own, and both whole, as
--- asking says.
+-- Another store, fresh or built, under the same root and length and any method, after a list of calls of its own, and both
+-- whole, as asking says.
 pub record BothWhole (w : World) (ks : List Call) (v : World) (js : List Call) : Type 0 where
   pub fresh-or-built : FreshOrBuilt v
   pub same-root : rootIn v ≡ rootIn w

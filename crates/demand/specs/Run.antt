@@ -7,14 +7,15 @@ use mathlib.Core.Option.{Option, none, some}
 use lib.Dec.{eqb}
 use lib.ListN.{length}
 use Rattle.base.specs.Pick.{pick}
-use Rattle.wire.proofs.Promise.{maxSize, layoutOf}
+use Rattle.order.specs.declared.Order.{Order}
+use Rattle.wire.proofs.Promise.{maxSize}
 use Rattle.wire.specs.declared.layout.Layout.{Layout}
 use Rattle.wire.specs.declared.layout.Layout.the-variants.{Fault, HandshakeAlone, Messages, MessagesAndData}
 use Rattle.writer.proofs.Promise.{within}
 use Rattle.channel.specs.World.{World, channelsOf, Out, outOf}
 use Rattle.channel.specs.Opening.{openSpec}
 use Rattle.channel.specs.Starting.{orderOf, startSpec, buildSpec}
-use Rattle.channel.specs.Take.{takeSpec}
+use Rattle.channel.specs.Take.{layoutIn, takeSpec}
 use Rattle.channel.specs.Write.{writeSpec}
 use Rattle.channel.specs.Ask.{askSpec}
 
@@ -57,9 +58,9 @@ run w (k ∷ ks) = run (step w k) ks
 
 -- A fresh or built store: what a start or a building that answered 0 leaves, whatever was there before.
 pub data FreshOrBuilt : World → Type 0 where
-  fresh : (w : World) (root : List ℕ) (L : ℕ) → startSpec w (orderOf root L) .answer ≡ 0
-      → FreshOrBuilt (startSpec w (orderOf root L) .after)
-  built : (w : World) (L : ℕ) (s : List ℕ) → buildSpec w L s .answer ≡ 0 → FreshOrBuilt (buildSpec w L s .after)
+  fresh : (w : World) (root : List ℕ) (L method : ℕ) → startSpec w (orderOf root L method) .answer ≡ 0
+      → FreshOrBuilt (startSpec w (orderOf root L method) .after)
+  built : (w : World) (o : Order) (s : List ℕ) → buildSpec w o s .answer ≡ 0 → FreshOrBuilt (buildSpec w o s .after)
 
 -- ---- what taken datagrams brought
 
@@ -74,7 +75,7 @@ dataFor x s (MessagesAndData c t b n k) = pick (eqb x c) (some (within s b n)) n
 abbrev pub brings : World → Call → ℕ → Option (List ℕ)
 brings w (opening reply id) x = none
 brings w (taking reply clock id s) x =
-    pick (eqb (out w (taking reply clock id s) .answer) 0) (dataFor x s (layoutOf s .layout)) none
+    pick (eqb (out w (taking reply clock id s) .answer) 0) (dataFor x s (layoutIn (w .channels .state) s .layout)) none
 brings w (writing reply id c clock) x = none
 brings w asking x = none
 

@@ -8,18 +8,19 @@ use mathlib.Core.Bool.{Bool, true, false, true≢false}
 use lib.ListN.{length, getD, take, drop, length-drop}
 use lib.Seq.{take-all}
 use lib.Dec.{eqb}
-use borrow.Author.Tests.{ne-eqb, eqb-true}
+use borrow.Author.Tests.{lt-ltb, le-ltb, eq-eqb, ne-eqb, eqb-true}
 use Rattle.base.specs.Pick.{pick}
 use Rattle.bits.proofs.Promise.{setRange, clearRange}
-use Rattle.wire.proofs.Promise.{stepAt, rangeOf, plainSize, plainMessage, plain-read}
+use Rattle.format.specs.declared.Format.{Format}
+use Rattle.wire.proofs.Promise.{be64, namedSize, firstOf, lastOf, isEmpty, named, stepAt, rangeOf, plainSize, plainMessage, plain-read}
 use Rattle.wire.specs.declared.range.Range.{Range}
 use Rattle.wire.specs.declared.message.Cursor.{Cursor}
 use Rattle.wire.specs.declared.message.Message.{Message}
-use Rattle.wire.specs.declared.message.Message.the-variants.{Handshake, Data, Ack, Have, Integrity, Request, Cancel, Choke, Unchoke}
+use Rattle.wire.specs.declared.message.Message.the-variants.{Handshake, Data, Ack, Have, Integrity, Request, Cancel, Choke, Unchoke, Empty}
 use Rattle.wire.specs.declared.message.Step.{Step}
 use Rattle.wire.specs.declared.message.Step.the-variants.{Read, End, Refused}
 use Rattle.writer.proofs.Promise.{onStep, readFrom}
-use Rattle.effects.specs.Effects.{Peer, peerOf, effect, effects}
+use Rattle.effects.specs.Effects.{Peer, peerOf, have, inside, effect, effects}
 use Rattle.effects.specs.Steps.{isHave, Turned, turnOf, turned}
 use Rattle.effects.proofs.SurveyLaws.{read-more}
 
@@ -42,94 +43,117 @@ unfolding isHave
 no-have k h = (λ e. true≢false (rw e at h), λ e. true≢false (rw e at h))
 
 -- HAVE sets has-bits and clears wants.
-pub have-sets : (b : ℕ) (has wants : List ℕ) (k : Bool) (f l : ℕ) {h w : List ℕ} → h ≡ setRange has (b + f) (b + l + 1) → w ≡ clearRange wants (b + f) (b + l + 1)
-    → peerOf h w k ≡ effect b (Have f l) (peerOf has wants k)
-unfolding effect
-have-sets b has wants k f l d e = rw (d, e)
+pub have-sets : (has wants : List ℕ) (k : Bool) (from upto : ℕ) {h w : List ℕ} → h ≡ setRange has from upto → w ≡ clearRange wants from upto
+    → peerOf h w k ≡ have from upto (peerOf has wants k)
+have-sets has wants k from upto d e = rw (d, e)
 
-module _ (b : ℕ) (has wants : List ℕ) (k : Bool) (t : List ℕ) where
+-- The end of chunks, by the code's test.
+module _ (N l : ℕ) where
+  pub inside-in : l < N → l + 1 ≡ inside N l
+  inside-in h = simp (lt-ltb l N h)
+
+  pub inside-out : N ≤ l → N ≡ inside N l
+  inside-out h = simp (le-ltb l N h)
+
+module _ (F : Format) (N b : ℕ) (has wants : List ℕ) (k : Bool) (t : List ℕ) where
   -- CHOKE and UNCHOKE set and clear the mark.
-  pub mark-does : 9 < getD t 0 0 → peerOf has wants (eqb (getD t 0 0) 10) ≡ effect b (plainMessage t) (peerOf has wants k)
+  pub mark-does : 9 < getD t 0 0 → peerOf has wants (eqb (getD t 0 0) 10) ≡ effect N b (plainMessage F t) (peerOf has wants k)
   unfolding plainMessage effect
-  mark-does h =
-      simp (ne-eqb (getD t 0 0) 2 (λ e. omega arith), ne-eqb (getD t 0 0) 3 (λ e. omega arith), ne-eqb (getD t 0 0) 8 (λ e. omega arith), ne-eqb (getD t 0 0) 9 (λ e. omega arith))
-      (by (eqb (getD t 0 0) 10))
+  mark-does h = simp (lt-ltb 9 (getD t 0 0) h) (by (eqb (getD t 0 0) 10))
     where
-      by : (x : Bool) → peerOf has wants x ≡ effect b (pick x Choke Unchoke) (peerOf has wants k)
+      by : (x : Bool) → peerOf has wants x ≡ effect N b (pick x Choke Unchoke) (peerOf has wants k)
       by true = refl
       by false = refl
 
-  module _ (r : Range) (e : r ≡ rangeOf t) where
-    -- HAVE and ACK have one effect.
-    pub have-does : {x : Bool} → x ≡ isHave (getD t 0 0) → x ≡ true → {p : Peer} → p ≡ effect b (Have (r .first) (r .last)) (peerOf has wants k)
-        → p ≡ effect b (plainMessage t) (peerOf has wants k)
+  module _ (low : getD t 0 0 ≤ 9) {e : Bool} (ee : e ≡ isEmpty F t) where
+    -- A message over no chunk does nothing.
+    pub empty-does : e ≡ true → peerOf has wants k ≡ effect N b (plainMessage F t) (peerOf has wants k)
     unfolding plainMessage effect
-    have-does g h d = d ∙ rw e (by (have-types (getD t 0 0) (sym g ∙ h)))
-      where
-        by : (getD t 0 0 ≡ 3) ⊎ (getD t 0 0 ≡ 2) → effect b (Have (rangeOf t .first) (rangeOf t .last)) (peerOf has wants k) ≡ effect b (plainMessage t) (peerOf has wants k)
-        by (inl q) = rw q
-        by (inr q) = rw q
+    empty-does p = simp (le-ltb 9 (getD t 0 0) low, ← ee, p)
 
-    -- REQUEST sets wants.
-    pub request-does : getD t 0 0 ≡ 8 → {w : List ℕ} → w ≡ setRange wants (b + r .first) (b + r .last + 1) → peerOf has w k ≡ effect b (plainMessage t) (peerOf has wants k)
-    unfolding plainMessage effect
-    request-does h d = rw (d, e, h)
+    module _ (p : e ≡ false) (r : Range) (re : r ≡ rangeOf F t) {from upto : ℕ} (fe : from ≡ b + r .first) {u : ℕ} (ue : u ≡ inside N (r .last)) (oe : upto ≡ b + u) where
+      -- where the chunks begin and end
+      from-is : from ≡ b + firstOf F t
+      from-is = fe ∙ ap (λ (x : Range). b + x .first) re
 
-    -- CANCEL clears wants.
-    pub cancel-does : getD t 0 0 ≡ 9 → {w : List ℕ} → w ≡ clearRange wants (b + r .first) (b + r .last + 1) → peerOf has w k ≡ effect b (plainMessage t) (peerOf has wants k)
-    unfolding plainMessage effect
-    cancel-does h d = rw (d, e, h)
+      upto-is : upto ≡ b + inside N (lastOf F t)
+      upto-is = oe ∙ ap (λ (x : ℕ). b + x) ue ∙ ap (λ (x : Range). b + inside N (x .last)) re
 
-  -- Any other type below 10 counts as UNCHOKE; none comes.
-  pub none-does : getD t 0 0 ≤ 9 → {x : Bool} → x ≡ isHave (getD t 0 0) → x ≡ false → (getD t 0 0 ≡ 8 → ⊥) → (getD t 0 0 ≡ 9 → ⊥)
-      → peerOf has wants false ≡ effect b (plainMessage t) (peerOf has wants k)
-  unfolding plainMessage effect
-  none-does h g p q z =
-      let n = no-have (getD t 0 0) (sym g ∙ p) in
-      simp (ne-eqb (getD t 0 0) 3 (n .0), ne-eqb (getD t 0 0) 2 (n .1), ne-eqb (getD t 0 0) 8 q, ne-eqb (getD t 0 0) 9 z, ne-eqb (getD t 0 0) 10 (λ e. omega arith))
+      -- the message by its type
+      named-is : (getD t 0 0 ≡ 2 → ⊥) → plainMessage F t ≡ named (getD t 0 0) (firstOf F t) (lastOf F t)
+      unfolding plainMessage
+      named-is q = simp (le-ltb 9 (getD t 0 0) low, ← ee, p, ne-eqb (getD t 0 0) 2 q)
+
+      ack-is : getD t 0 0 ≡ 2 → plainMessage F t ≡ Ack (firstOf F t) (lastOf F t) (be64 t (namedSize F))
+      unfolding plainMessage
+      ack-is q = simp (le-ltb 9 (getD t 0 0) low, ← ee, p, eq-eqb (getD t 0 0) 2 q)
+
+      -- HAVE and ACK have one effect.
+      pub have-does : {x : Bool} → x ≡ isHave (getD t 0 0) → x ≡ true → {q : Peer} → q ≡ have from upto (peerOf has wants k)
+          → q ≡ effect N b (plainMessage F t) (peerOf has wants k)
+      unfolding effect
+      have-does g h d = d ∙ rw (from-is, upto-is) (by (have-types (getD t 0 0) (sym g ∙ h)))
+        where
+          by : (getD t 0 0 ≡ 3) ⊎ (getD t 0 0 ≡ 2) → have (b + firstOf F t) (b + inside N (lastOf F t)) (peerOf has wants k) ≡ effect N b (plainMessage F t) (peerOf has wants k)
+          by (inl q) = rw (named-is (λ z. omega (arith, q, z)), q)
+          by (inr q) = rw (ack-is q)
+
+      module _ {x : Bool} (g : x ≡ isHave (getD t 0 0)) (h : x ≡ false) where
+        -- REQUEST sets wants.
+        pub request-does : getD t 0 0 ≡ 8 → {w : List ℕ} → w ≡ setRange wants from upto → peerOf has w k ≡ effect N b (plainMessage F t) (peerOf has wants k)
+        unfolding effect
+        request-does q d = rw (d, from-is, upto-is, named-is (no-have (getD t 0 0) (sym g ∙ h) .1), q)
+
+        -- CANCEL, and any other type, clears wants.
+        pub cancel-does : (getD t 0 0 ≡ 8 → ⊥) → {w : List ℕ} → w ≡ clearRange wants from upto → peerOf has w k ≡ effect N b (plainMessage F t) (peerOf has wants k)
+        unfolding effect
+        cancel-does q d =
+            let n = no-have (getD t 0 0) (sym g ∙ h) in
+            rw (d, from-is, upto-is, named-is (n .1), ne-eqb (getD t 0 0) 3 (n .0), ne-eqb (getD t 0 0) 8 q)
 
 -- A step that is no plain message has no effect.
-other-does : (b : ℕ) (m : Peer) (i : Message) (next : Cursor) → plainSize (Read i next) ≡ 0 → m ≡ effect b i m
+other-does : (F : Format) (N b : ℕ) (m : Peer) (i : Message) (next : Cursor) → plainSize F (Read i next) ≡ 0 → m ≡ effect N b i m
 unfolding effect
-other-does b m (Handshake a o) next h = refl
-other-does b m (Data f l x p n) next h = refl
-other-does b m (Ack f l d) next h = absurd (omega (arith, h))
-other-does b m (Have f l) next h = absurd (omega (arith, h))
-other-does b m (Integrity f l d) next h = refl
-other-does b m (Request f l) next h = absurd (omega (arith, h))
-other-does b m (Cancel f l) next h = absurd (omega (arith, h))
-other-does b m Choke next h = absurd (omega (arith, h))
-other-does b m Unchoke next h = absurd (omega (arith, h))
+other-does F N b m (Handshake a o) next h = refl
+other-does F N b m (Data f l x p n) next h = refl
+other-does F N b m (Ack f l d) next h = absurd (omega (arith, h))
+other-does F N b m (Have f l) next h = absurd (omega (arith, h))
+other-does F N b m (Integrity f l d) next h = refl
+other-does F N b m (Request f l) next h = absurd (omega (arith, h))
+other-does F N b m (Cancel f l) next h = absurd (omega (arith, h))
+other-does F N b m Choke next h = absurd (omega (arith, h))
+other-does F N b m Unchoke next h = absurd (omega (arith, h))
+other-does F N b m (Empty k) next h = absurd (omega (arith, h))
 
 -- ---- one turn
 
-module _ (b : ℕ) (m : Peer) (left : ℕ) where
+module _ (N b : ℕ) (m : Peer) (left : ℕ) where
   -- A turn at a message has its effect and goes on behind it.
-  pub turn-read : {st : Step} {i : Message} {next : Cursor} {x : Peer} → st ≡ Read i next → x ≡ effect b i m → turnOf x (next .at) left ≡ turned b m left st
+  pub turn-read : {st : Step} {i : Message} {next : Cursor} {x : Peer} → st ≡ Read i next → x ≡ effect N b i m → turnOf x (next .at) left ≡ turned N b m left st
   unfolding turned
   turn-read e d = rw (e, d)
 
   -- A turn at a plain message.
-  pub turn-plain : (s : List ℕ) (at : ℕ) {n : ℕ} → n ≡ plainSize (stepAt s at) → (n ≡ 0 → ⊥) → {x : Peer} → x ≡ effect b (plainMessage (take (length s - at) (drop at s))) m
-      → turnOf x (at + n) left ≡ turned b m left (stepAt s at)
-  turn-plain s at e h d = turn-read (plain-read s at e h) (rw part at d)
+  pub turn-plain : (F : Format) (s : List ℕ) (at : ℕ) {n : ℕ} → n ≡ plainSize F (stepAt F s at) → (n ≡ 0 → ⊥) → {x : Peer} → x ≡ effect N b (plainMessage F (take (length s - at) (drop at s))) m
+      → turnOf x (at + n) left ≡ turned N b m left (stepAt F s at)
+  turn-plain F s at e h d = turn-read (plain-read F s at e h) (rw part at d)
 
   -- At another one.
-  pub turn-other : {st : Step} {i : Message} {next : Cursor} {n : ℕ} → n ≡ plainSize st → n ≡ 0 → st ≡ Read i next → turnOf m (next .at) left ≡ turned b m left st
-  turn-other {st} {i} {next} e h g = turn-read g (other-does b m i next (ap plainSize (sym g) ∙ sym e ∙ h))
+  pub turn-other : (F : Format) {st : Step} {i : Message} {next : Cursor} {n : ℕ} → n ≡ plainSize F st → n ≡ 0 → st ≡ Read i next → turnOf m (next .at) left ≡ turned N b m left st
+  turn-other F {st} {i} {next} e h g = turn-read g (other-does F N b m i next (ap (plainSize F) (sym g) ∙ sym e ∙ h))
 
   -- At the end none is left.
-  pub turn-end : {st : Step} → st ≡ End → turnOf m 0 0 ≡ turned b m left st
+  pub turn-end : {st : Step} → st ≡ End → turnOf m 0 0 ≡ turned N b m left st
   unfolding turned
   turn-end e = rw e
 
   -- At a refusal none is left.
-  pub turn-refused : {st : Step} → st ≡ Refused → turnOf m 0 0 ≡ turned b m left st
+  pub turn-refused : {st : Step} → st ≡ Refused → turnOf m 0 0 ≡ turned N b m left st
   unfolding turned
   turn-refused e = rw e
 
   -- A turn leaves no more messages than it was given.
-  pub turn-less : (st : Step) {x : Peer} {at n : ℕ} → turnOf x at n ≡ turned b m left st → n ≤ left
+  pub turn-less : (st : Step) {x : Peer} {at n : ℕ} → turnOf x at n ≡ turned N b m left st → n ≤ left
   unfolding turned
   turn-less (Read i next) e = let d = ap (λ (t : Turned). t .left) e in omega arith
   turn-less End e = let d = ap (λ (t : Turned). t .left) e in omega arith
@@ -138,17 +162,17 @@ module _ (b : ℕ) (m : Peer) (left : ℕ) where
 -- ---- all of them
 
 -- What a turn at a step leaves to do, with n messages behind it, is what the step and they do.
-turn-on : (b : ℕ) (s : List ℕ) (n : ℕ) (m : Peer) (st : Step) → effects b (readFrom (turned b m n st .left) s (turned b m n st .at)) (turned b m n st .peer) ≡ effects b (onStep s st (λ x. readFrom n s x)) m
+turn-on : (F : Format) (N b : ℕ) (s : List ℕ) (n : ℕ) (m : Peer) (st : Step) → effects N b (readFrom F (turned N b m n st .left) s (turned N b m n st .at)) (turned N b m n st .peer) ≡ effects N b (onStep s st (λ x. readFrom F n s x)) m
 unfolding effects turned readFrom
-turn-on b s n m (Read i next) = refl
-turn-on b s n m End = refl
-turn-on b s n m Refused = refl
+turn-on F N b s n m (Read i next) = refl
+turn-on F N b s n m End = refl
+turn-on F N b s n m Refused = refl
 
 -- The effects left after a turn are those before it.
-pub turn-effects : (b : ℕ) (s : List ℕ) (at left : ℕ) (m : Peer) {t : Turned} → 0 < left → t ≡ turned b m (left - 1) (stepAt s at) → effects b (readFrom (t .left) s (t .at)) (t .peer) ≡ effects b (readFrom left s at) m
-turn-effects b s at left m h e = rw (e, read-more s at left h refl) (turn-on b s (left - 1) m (stepAt s at))
+pub turn-effects : (F : Format) (N b : ℕ) (s : List ℕ) (at left : ℕ) (m : Peer) {t : Turned} → 0 < left → t ≡ turned N b m (left - 1) (stepAt F s at) → effects N b (readFrom F (t .left) s (t .at)) (t .peer) ≡ effects N b (readFrom F left s at) m
+turn-effects F N b s at left m h e = rw (e, read-more F s at left h refl) (turn-on F N b s (left - 1) m (stepAt F s at))
 
 -- No messages have no effect.
-pub effects-none : (b : ℕ) (s : List ℕ) (at left : ℕ) (m : Peer) → left ≡ 0 → effects b (readFrom left s at) m ≡ m
+pub effects-none : (F : Format) (N b : ℕ) (s : List ℕ) (at left : ℕ) (m : Peer) → left ≡ 0 → effects N b (readFrom F left s at) m ≡ m
 unfolding effects readFrom
-effects-none b s at left m e = rw e
+effects-none F N b s at left m e = rw e

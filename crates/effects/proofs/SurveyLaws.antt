@@ -9,20 +9,21 @@ use lib.ListN.{length}
 use lib.Dec.{leb, ltb}
 use borrow.Author.Tests.{lt-leb, ltb-true, ltb-false, leb-true, leb-false, le-leb}
 use Rattle.base.specs.Pick.{pick}
-use Rattle.wire.proofs.Promise.{minSize, stepAt, noSurvey, naming, surveyed, surveyStep, surveyFrom, surveyAll}
+use Rattle.format.specs.declared.Format.{Format}
+use Rattle.wire.proofs.Promise.{reach, minSize, stepAt, noSurvey, naming, surveyed, surveyStep, surveyFrom, surveyAll}
 use Rattle.wire.specs.declared.survey.Survey.{Survey}
 use Rattle.wire.specs.declared.message.Message.{Message}
-use Rattle.wire.specs.declared.message.Message.the-variants.{Handshake, Data, Ack, Have, Integrity, Request, Cancel, Choke, Unchoke}
+use Rattle.wire.specs.declared.message.Message.the-variants.{Handshake, Data, Ack, Have, Integrity, Request, Cancel, Choke, Unchoke, Empty}
 use Rattle.wire.specs.declared.message.Step.{Step}
 use Rattle.wire.specs.declared.message.Step.the-variants.{Read, End, Refused}
 use Rattle.writer.proofs.Promise.{onStep, readFrom, readAll}
 use Rattle.effects.specs.Effects.{past, anyPast, Peer, effect, effects}
 
 -- What is read from a place on: what stands there, and what is read behind it.
-pub read-more : (s : List ℕ) (at left : ℕ) {st : Step} → 0 < left → stepAt s at ≡ st → readFrom left s at ≡ onStep s st (λ x. readFrom (left - 1) s x)
+pub read-more : (F : Format) (s : List ℕ) (at left : ℕ) {st : Step} → 0 < left → stepAt F s at ≡ st → readFrom F left s at ≡ onStep s st (λ x. readFrom F (left - 1) s x)
 unfolding readFrom
-read-more s at zero h e = absurd (omega arith)
-read-more s at (suc n) h e = let p : suc n - 1 ≡ n = omega arith in rw (e, p)
+read-more F s at zero h e = absurd (omega arith)
+read-more F s at (suc n) h e = let p : suc n - 1 ≡ n = omega arith in rw (e, p)
 
 -- ---- ranges
 
@@ -45,64 +46,66 @@ higher-past N a b = by (ltb a b) (leb N a) refl refl
     by false false p q = q ∙ sym (lt-leb N b (omega (arith, ltb-false a b p, leb-false N a q)))
 
 -- One message more.
-past-one : (N : ℕ) (i : Message) (v : Survey) → leb N (surveyed i v .highest) ≡ pick (leb N (v .highest)) true (past N i)
+past-one : (F : Format) (N : ℕ) (i : Message) (v : Survey) → leb N (surveyed F i v .highest) ≡ pick (leb N (v .highest)) true (past F N i)
 unfolding past naming
-past-one N (Handshake a o) v = or-false (leb N (v .highest))
-past-one N (Data f l x b n) v = higher-past N (v .highest) l
-past-one N (Ack f l d) v = higher-past N (v .highest) l
-past-one N (Have f l) v = higher-past N (v .highest) l
-past-one N (Integrity f l h) v = higher-past N (v .highest) l
-past-one N (Request f l) v = higher-past N (v .highest) l
-past-one N (Cancel f l) v = higher-past N (v .highest) l
-past-one N Choke v = or-false (leb N (v .highest))
-past-one N Unchoke v = or-false (leb N (v .highest))
+past-one F N (Handshake a o) v = or-false (leb N (v .highest))
+past-one F N (Data f l x b n) v = higher-past N (v .highest) l
+past-one F N (Ack f l d) v = higher-past N (v .highest) (reach F f l)
+past-one F N (Have f l) v = higher-past N (v .highest) (reach F f l)
+past-one F N (Integrity f l h) v = higher-past N (v .highest) l
+past-one F N (Request f l) v = higher-past N (v .highest) (reach F f l)
+past-one F N (Cancel f l) v = higher-past N (v .highest) (reach F f l)
+past-one F N Choke v = or-false (leb N (v .highest))
+past-one F N Unchoke v = or-false (leb N (v .highest))
+past-one F N (Empty k) v = or-false (leb N (v .highest))
 
-past-from : (N n : ℕ) (s : List ℕ) (at : ℕ) (v : Survey) → leb N (surveyFrom n s at v .highest) ≡ pick (leb N (v .highest)) true (anyPast N (readFrom n s at))
+past-from : (F : Format) (N n : ℕ) (s : List ℕ) (at : ℕ) (v : Survey) → leb N (surveyFrom F n s at v .highest) ≡ pick (leb N (v .highest)) true (anyPast F N (readFrom F n s at))
 unfolding surveyFrom readFrom anyPast
-past-from N zero s at v = or-false (leb N (v .highest))
-past-from N (suc n) s at v = by (λ x w. past-from N n s x w) (stepAt s at)
+past-from F N zero s at v = or-false (leb N (v .highest))
+past-from F N (suc n) s at v = by (λ x w. past-from F N n s x w) (stepAt F s at)
   where
-    by : ((x : ℕ) (w : Survey) → leb N (surveyFrom n s x w .highest) ≡ pick (leb N (w .highest)) true (anyPast N (readFrom n s x))) → (st : Step)
-        → leb N (surveyStep st v (λ x w. surveyFrom n s x w) .highest) ≡ pick (leb N (v .highest)) true (anyPast N (onStep s st (λ x. readFrom n s x)))
+    by : ((x : ℕ) (w : Survey) → leb N (surveyFrom F n s x w .highest) ≡ pick (leb N (w .highest)) true (anyPast F N (readFrom F n s x))) → (st : Step)
+        → leb N (surveyStep F st v (λ x w. surveyFrom F n s x w) .highest) ≡ pick (leb N (v .highest)) true (anyPast F N (onStep s st (λ x. readFrom F n s x)))
     by f (Read i next) =
-        f (next .at) (surveyed i v) ∙ ap (λ (x : Bool). pick x true (anyPast N (readFrom n s (next .at)))) (past-one N i v)
-        ∙ or-or (leb N (v .highest)) (past N i) (anyPast N (readFrom n s (next .at)))
+        f (next .at) (surveyed F i v) ∙ ap (λ (x : Bool). pick x true (anyPast F N (readFrom F n s (next .at)))) (past-one F N i v)
+        ∙ or-or (leb N (v .highest)) (past F N i) (anyPast F N (readFrom F n s (next .at)))
     by f End = or-false (leb N (v .highest))
     by f Refused = or-false (leb N (v .highest))
 
 -- A range reaches past the last of N chunks exactly where the highest chunk named does.
-pub past-survey : (N : ℕ) (s : List ℕ) → 0 < N → anyPast N (readAll s) ≡ leb N (surveyAll s .highest)
-past-survey N s h = sym (past-from N (length s) s minSize noSurvey ∙ ap (λ (x : Bool). pick x true (anyPast N (readAll s))) (lt-leb N 0 h))
+pub past-survey : (F : Format) (N : ℕ) (s : List ℕ) → 0 < N → anyPast F N (readAll F s) ≡ leb N (surveyAll F s .highest)
+past-survey F N s h = sym (past-from F N (length s) s minSize noSurvey ∙ ap (λ (x : Bool). pick x true (anyPast F N (readAll F s))) (lt-leb N 0 h))
 
 -- ---- effects
 
 -- A message that leaves the survey without an effect has none.
-quiet-one : (b : ℕ) (i : Message) (m : Peer) (v : Survey) → surveyed i v .effective ≡ false → (v .effective ≡ false) × (effect b i m ≡ m)
+quiet-one : (F : Format) (N b : ℕ) (i : Message) (m : Peer) (v : Survey) → surveyed F i v .effective ≡ false → (v .effective ≡ false) × (effect N b i m ≡ m)
 unfolding effect naming
-quiet-one b (Handshake a o) m v h = (h, refl)
-quiet-one b (Data f l x p n) m v h = (h, refl)
-quiet-one b (Ack f l d) m v h = absurd (true≢false h)
-quiet-one b (Have f l) m v h = absurd (true≢false h)
-quiet-one b (Integrity f l d) m v h = (h, refl)
-quiet-one b (Request f l) m v h = absurd (true≢false h)
-quiet-one b (Cancel f l) m v h = absurd (true≢false h)
-quiet-one b Choke m v h = absurd (true≢false h)
-quiet-one b Unchoke m v h = absurd (true≢false h)
+quiet-one F N b (Handshake a o) m v h = (h, refl)
+quiet-one F N b (Data f l x p n) m v h = (h, refl)
+quiet-one F N b (Ack f l d) m v h = absurd (true≢false h)
+quiet-one F N b (Have f l) m v h = absurd (true≢false h)
+quiet-one F N b (Integrity f l d) m v h = (h, refl)
+quiet-one F N b (Request f l) m v h = absurd (true≢false h)
+quiet-one F N b (Cancel f l) m v h = absurd (true≢false h)
+quiet-one F N b Choke m v h = absurd (true≢false h)
+quiet-one F N b Unchoke m v h = absurd (true≢false h)
+quiet-one F N b (Empty k) m v h = absurd (true≢false h)
 
-quiet-from : (b n : ℕ) (s : List ℕ) (at : ℕ) (v : Survey) (m : Peer) → surveyFrom n s at v .effective ≡ false → (v .effective ≡ false) × (effects b (readFrom n s at) m ≡ m)
+quiet-from : (F : Format) (N b n : ℕ) (s : List ℕ) (at : ℕ) (v : Survey) (m : Peer) → surveyFrom F n s at v .effective ≡ false → (v .effective ≡ false) × (effects N b (readFrom F n s at) m ≡ m)
 unfolding surveyFrom readFrom effects
-quiet-from b zero s at v m h = (h, refl)
-quiet-from b (suc n) s at v m h = by (λ x w q. quiet-from b n s x w m q) (stepAt s at) h
+quiet-from F N b zero s at v m h = (h, refl)
+quiet-from F N b (suc n) s at v m h = by (λ x w q. quiet-from F N b n s x w m q) (stepAt F s at) h
   where
-    by : ((x : ℕ) (w : Survey) → surveyFrom n s x w .effective ≡ false → (w .effective ≡ false) × (effects b (readFrom n s x) m ≡ m)) → (st : Step)
-        → surveyStep st v (λ x w. surveyFrom n s x w) .effective ≡ false → (v .effective ≡ false) × (effects b (onStep s st (λ x. readFrom n s x)) m ≡ m)
+    by : ((x : ℕ) (w : Survey) → surveyFrom F n s x w .effective ≡ false → (w .effective ≡ false) × (effects N b (readFrom F n s x) m ≡ m)) → (st : Step)
+        → surveyStep F st v (λ x w. surveyFrom F n s x w) .effective ≡ false → (v .effective ≡ false) × (effects N b (onStep s st (λ x. readFrom F n s x)) m ≡ m)
     by f (Read i next) q =
-        let rest = f (next .at) (surveyed i v) q in
-        let one = quiet-one b i m v (rest .0) in
-        (one .0, ap (effects b (readFrom n s (next .at))) (one .1) ∙ rest .1)
+        let rest = f (next .at) (surveyed F i v) q in
+        let one = quiet-one F N b i m v (rest .0) in
+        (one .0, ap (effects N b (readFrom F n s (next .at))) (one .1) ∙ rest .1)
     by f End q = (q, refl)
     by f Refused q = (q, refl)
 
 -- Messages without an effect by the survey have none.
-pub quiet-survey : (b : ℕ) (s : List ℕ) (m : Peer) → surveyAll s .effective ≡ false → effects b (readAll s) m ≡ m
-quiet-survey b s m h = quiet-from b (length s) s minSize noSurvey m h .1
+pub quiet-survey : (F : Format) (N b : ℕ) (s : List ℕ) (m : Peer) → surveyAll F s .effective ≡ false → effects N b (readAll F s) m ≡ m
+quiet-survey F N b s m h = quiet-from F N b (length s) s minSize noSurvey m h .1

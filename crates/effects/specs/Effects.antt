@@ -1,32 +1,36 @@
--- The ranges of a datagram's messages, and what the messages change (01, "Datagrams", the effects; number 7). Assumes nothing.
+-- The chunks of a datagram's messages, and what the messages change (01, "Datagrams", the effects; number 7). Assumes nothing.
 use Prim.Native.Nat.{ℕ, _+_}
 use mathlib.Core.List.{List, [], _∷_}
 use mathlib.Core.Bool.{Bool, true, false}
-use lib.Dec.{leb}
+use lib.Dec.{leb, ltb}
 use Rattle.bits.proofs.Promise.{setRange, clearRange}
 use Rattle.base.specs.Pick.{pick}
 use Rattle.wire.specs.declared.message.Message.{Message}
-use Rattle.wire.specs.declared.message.Message.the-variants.{Handshake, Data, Ack, Have, Integrity, Request, Cancel, Choke, Unchoke}
+use Rattle.wire.specs.declared.message.Message.the-variants.{Handshake, Data, Ack, Have, Integrity, Request, Cancel, Choke, Unchoke, Empty}
+use Rattle.format.specs.declared.Format.{Format}
+use Rattle.wire.proofs.Promise.{reach}
 use Rattle.writer.proofs.Promise.{Item}
 
--- ---- 7: a range past N-1
+-- ---- 7: chunks past N-1
 
--- Whether a message's range reaches past N-1: by its layout first is not above last, so the last chunk decides.
-unfoldable pub past : ℕ → Message → Bool
-past N (Handshake a o) = false
-past N (Data f l x b n) = leb N l
-past N (Ack f l d) = leb N l
-past N (Have f l) = leb N l
-past N (Integrity f l h) = leb N l
-past N (Request f l) = leb N l
-past N (Cancel f l) = leb N l
-past N Choke = false
-past N Unchoke = false
+-- Whether a message's chunks are past N-1. By its layout first is not above last, so of a range the last chunk decides.
+-- Under bins "wholly past is 7, and so is any INTEGRITY that reaches past" (02, No. 1); DATA has one chunk.
+unfoldable pub past : Format → ℕ → Message → Bool
+past F N (Handshake a o) = false
+past F N (Data f l x b n) = leb N l
+past F N (Ack f l d) = leb N (reach F f l)
+past F N (Have f l) = leb N (reach F f l)
+past F N (Integrity f l h) = leb N l
+past F N (Request f l) = leb N (reach F f l)
+past F N (Cancel f l) = leb N (reach F f l)
+past F N Choke = false
+past F N Unchoke = false
+past F N (Empty k) = false
 
--- Whether one of a datagram's messages has such a range.
-unfoldable pub anyPast : ℕ → List Item → Bool
-anyPast N [] = false
-anyPast N (i ∷ is) = pick (past N (i .message)) true (anyPast N is)
+-- Whether one of a datagram's messages has such chunks.
+unfoldable pub anyPast : Format → ℕ → List Item → Bool
+anyPast F N [] = false
+anyPast F N (i ∷ is) = pick (past F N (i .message)) true (anyPast F N is)
 
 -- ---- the effects
 
@@ -43,20 +47,26 @@ peerOf has wants choked = record { has = has; wants = wants; choked = choked }
 abbrev pub have : (from upto : ℕ) → Peer → Peer
 have from upto m = peerOf (setRange (m .has) from upto) (clearRange (m .wants) from upto) (m .choked)
 
--- A message on the channel whose bits begin at b in both rooms: "HAVE and ACK set the peer's has-bits and clear its wants ..;
--- REQUEST sets wants; CANCEL clears them; CHOKE sets a mark, UNCHOKE clears it". INTEGRITY and DATA change none of these.
-unfoldable pub effect : ℕ → Message → Peer → Peer
-effect b (Handshake a o) m = m
-effect b (Data f l x p n) m = m
-effect b (Ack f l d) m = have (b + f) (b + l + 1) m
-effect b (Have f l) m = have (b + f) (b + l + 1) m
-effect b (Integrity f l h) m = m
-effect b (Request f l) m = peerOf (m .has) (setRange (m .wants) (b + f) (b + l + 1)) (m .choked)
-effect b (Cancel f l) m = peerOf (m .has) (clearRange (m .wants) (b + f) (b + l + 1)) (m .choked)
-effect b Choke m = peerOf (m .has) (m .wants) true
-effect b Unchoke m = peerOf (m .has) (m .wants) false
+-- The end of chunks up to l of N: "its part inside the pack" (02, No. 1). Ranges past N-1 were refused with 7.
+abbrev pub inside : (N l : ℕ) → ℕ
+inside N l = pick (ltb l N) (l + 1) N
+
+-- A message on the channel whose bits begin at b in both rooms, of a pack of N chunks: "HAVE and ACK set the peer's has-bits and
+-- clear its wants ..; REQUEST sets wants; CANCEL clears them; CHOKE sets a mark, UNCHOKE clears it". INTEGRITY and DATA change
+-- none of these, nor does a message over no chunk.
+unfoldable pub effect : (N b : ℕ) → Message → Peer → Peer
+effect N b (Handshake a o) m = m
+effect N b (Data f l x p n) m = m
+effect N b (Ack f l d) m = have (b + f) (b + inside N l) m
+effect N b (Have f l) m = have (b + f) (b + inside N l) m
+effect N b (Integrity f l h) m = m
+effect N b (Request f l) m = peerOf (m .has) (setRange (m .wants) (b + f) (b + inside N l)) (m .choked)
+effect N b (Cancel f l) m = peerOf (m .has) (clearRange (m .wants) (b + f) (b + inside N l)) (m .choked)
+effect N b Choke m = peerOf (m .has) (m .wants) true
+effect N b Unchoke m = peerOf (m .has) (m .wants) false
+effect N b (Empty k) m = m
 
 -- The messages of a datagram, "in datagram order".
-unfoldable pub effects : ℕ → List Item → Peer → Peer
-effects b [] m = m
-effects b (i ∷ is) m = effects b is (effect b (i .message) m)
+unfoldable pub effects : (N b : ℕ) → List Item → Peer → Peer
+effects N b [] m = m
+effects N b (i ∷ is) m = effects N b is (effect N b (i .message) m)

@@ -20,7 +20,7 @@ pub record Turned : Type 0 where
 abbrev pub turnOf : Peer → ℕ → ℕ → Turned
 turnOf m at left = record { peer = m; at = at; left = left }
 
-unfoldable pub turned : ℕ → Peer → ℕ → Step → Turned
-turned b m left (Read message next) = turnOf (effect b message m) (next .at) left
-turned b m left End = turnOf m 0 0
-turned b m left Refused = turnOf m 0 0
+unfoldable pub turned : (N b : ℕ) → Peer → ℕ → Step → Turned
+turned N b m left (Read message next) = turnOf (effect N b message m) (next .at) left
+turned N b m left End = turnOf m 0 0
+turned N b m left Refused = turnOf m 0 0

@@ -3,11 +3,11 @@
 ghost use mathlib.Core.Path.{_≡_};
 ghost use Prim.Native.Nat.{_≤_, _<_, _^_};
 ghost use lib.ListN.{length, getD};
-ghost use Rattle.wire.proofs.Promise.{stepAt, plainMessage};
-ghost use Rattle.wire.specs.declared.message.Message.the-variants.{Have};
+ghost use Rattle.wire.proofs.Promise.{namedSize, stepAt, plainMessage};
 ghost use Rattle.writer.proofs.Promise.{readAll};
-ghost use Rattle.effects.specs.Effects.{peerOf, effect, effects};
+ghost use Rattle.effects.specs.Effects.{peerOf, have, inside, effect, effects};
 ghost use Rattle.effects.specs.Steps.{isHave, turnOf, turned};
+use format::Format;
 use wire::limits::MIN_SIZE;
 use wire::message::Cursor;
 use wire::message::Step;
@@ -15,21 +15,21 @@ use wire::plain;
 use wire::range;
 use wire::read;
 
-// HAVE and ACK: the peer has the chunks, and wants them no more.
-fn have(
-    has: &mut [u32],
-    wants: &mut [u32],
-    base: usize,
-    choked: bool,
-    first: u32,
-    last: u32,
-) -> bool
-    requires { ⌜ base < 2 ^ 32 ⌝ }
-    ensures { λ r. ⌜ peerOf (now (has .exit)) (now (wants .exit)) r
-        ≡ effect base (Have first last) (peerOf (now (has .entry)) (now (wants .entry)) choked) ⌝ }
+// The end of chunks up to `last` of n: their part inside the pack.
+fn inside(n: u32, last: u32) -> usize
+    ensures { λ r. ⌜ (r ≡ inside n last) × (r ≤ n) ⌝ }
 {
-    let from = base + first as usize;
-    let upto = base + last as usize + 1;
+    if last < n {
+        return last as usize + 1;
+    }
+    n as usize
+}
+
+// HAVE and ACK: the peer has the chunks, and wants them no more.
+fn have(has: &mut [u32], wants: &mut [u32], from: usize, upto: usize, choked: bool) -> bool
+    ensures { λ r. ⌜ peerOf (now (has .exit)) (now (wants .exit)) r
+        ≡ have from upto (peerOf (now (has .entry)) (now (wants .entry)) choked) ⌝ }
+{
     bits::set_range(has, from, upto);
     bits::clear_range(wants, from, upto);
     choked
@@ -45,34 +45,43 @@ fn is_have(kind: u8) -> bool
     kind == 2
 }
 
-// The effect of a plain message, which `rest` begins with; whether the peer choked us afterwards. The channel's bits begin
-// at `base`.
-fn apply_plain(has: &mut [u32], wants: &mut [u32], base: usize, choked: bool, rest: &[u8]) -> bool
+// The effect of a plain message, which `rest` begins with, on a channel of a pack of n chunks; whether the peer choked us
+// afterwards. The channel's bits begin at `base`.
+fn apply_plain(
+    has: &mut [u32],
+    wants: &mut [u32],
+    format: Format,
+    n: u32,
+    base: usize,
+    choked: bool,
+    rest: &[u8],
+) -> bool
     requires { ⌜ base < 2 ^ 32 ⌝ }
     requires { ⌜ 1 ≤ length (now rest) ⌝ }
-    requires { ⌜ (getD (now rest) 0 0 ≤ 9 → 9 ≤ length (now rest)) ⌝ }
+    requires { ⌜ (getD (now rest) 0 0 ≤ 9 → namedSize format ≤ length (now rest)) ⌝ }
     ensures { λ r. ⌜ peerOf (now (has .exit)) (now (wants .exit)) r
-        ≡ effect base (plainMessage (now (rest .entry))) (peerOf (now (has .entry)) (now (wants .entry)) choked) ⌝ }
+        ≡ effect n base (plainMessage format (now (rest .entry)))
+        (peerOf (now (has .entry)) (now (wants .entry)) choked) ⌝ }
 {
     let kind = rest[0];
     if 9 < kind {
         return kind == 10;
     }
-    let chunks = range::read(rest);
-    if is_have(kind) {
-        return have(has, wants, base, choked, chunks.first, chunks.last);
+    if range::is_empty(format, rest) {
+        return choked;
     }
+    let chunks = range::read(format, rest);
     let from = base + chunks.first as usize;
-    let upto = base + chunks.last as usize + 1;
+    let upto = base + inside(n, chunks.last);
+    if is_have(kind) {
+        return have(has, wants, from, upto, choked);
+    }
     if kind == 8 {
         bits::set_range(wants, from, upto);
         return choked;
     }
-    if kind == 9 {
-        bits::clear_range(wants, from, upto);
-        return choked;
-    }
-    false
+    bits::clear_range(wants, from, upto);
+    choked
 }
 
 // Where the pass stands after a message.
@@ -86,6 +95,8 @@ pub struct Turn {
 fn apply_turn(
     has: &mut [u32],
     wants: &mut [u32],
+    format: Format,
+    n: u32,
     base: usize,
     choked: bool,
     at: usize,
@@ -94,18 +105,18 @@ fn apply_turn(
 ) -> Turn
     requires { ⌜ base < 2 ^ 32 ⌝ }
     ensures { λ r. ⌜ turnOf (peerOf (now (has .exit)) (now (wants .exit)) (r .choked)) (r .at) (r .left)
-        ≡ turned base (peerOf (now (has .entry)) (now (wants .entry)) choked) left
-        (stepAt (now (datagram .entry)) at) ⌝ }
+        ≡ turned n base (peerOf (now (has .entry)) (now (wants .entry)) choked) left
+        (stepAt format (now (datagram .entry)) at) ⌝ }
 {
-    let size = plain::size(datagram, at);
+    let size = plain::size(format, datagram, at);
     if size != 0 {
         return Turn {
-            choked: apply_plain(has, wants, base, choked, &datagram[at..]),
+            choked: apply_plain(has, wants, format, n, base, choked, &datagram[at..]),
             at: at + size,
             left,
         };
     }
-    match read::read(datagram, Cursor { at }) {
+    match read::read(format, datagram, Cursor { at }) {
         Step::Read { message: _, next } => Turn {
             choked,
             at: next.at,
@@ -124,17 +135,26 @@ fn apply_turn(
     }
 }
 
-// The effects of a datagram's messages, one after the other; whether the peer choked us afterwards.
-pub fn apply(has: &mut [u32], wants: &mut [u32], base: usize, choked: bool, datagram: &[u8]) -> bool
+// The effects of a datagram's messages on a channel of a pack of n chunks, one after the other; whether the peer choked
+// us afterwards.
+pub fn apply(
+    has: &mut [u32],
+    wants: &mut [u32],
+    format: Format,
+    n: u32,
+    base: usize,
+    choked: bool,
+    datagram: &[u8],
+) -> bool
     requires { ⌜ base < 2 ^ 32 ⌝ }
     ensures { λ r. ⌜ peerOf (now (has .exit)) (now (wants .exit)) r
-        ≡ effects base (readAll (now (datagram .entry))) (peerOf (now (has .entry)) (now (wants .entry)) choked) ⌝ }
+        ≡ effects n base (readAll format (now (datagram .entry))) (peerOf (now (has .entry)) (now (wants .entry)) choked) ⌝ }
 {
     let mut mark = choked;
     let mut at: usize = MIN_SIZE;
     let mut left: usize = datagram.len();
     while 0 < left {
-        let turn = apply_turn(has, wants, base, mark, at, left - 1, datagram);
+        let turn = apply_turn(has, wants, format, n, base, mark, at, left - 1, datagram);
         mark = turn.choked;
         at = turn.at;
         left = turn.left;

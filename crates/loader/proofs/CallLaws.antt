@@ -6,12 +6,24 @@ use mathlib.Core.List.{List}
 use Rattle.hash.proofs.Promise.{words}
 use Rattle.hash.specs.declared.value.HashValue.{HashValue}
 use Rattle.table.proofs.Promise.{flag}
-use Rattle.channel.proofs.Promise.{World, Out, orderOf, startSpec, Asked, askedOf}
+use Rattle.channel.proofs.Promise.{World, Out, startSpec, buildSpec, Asked, askedOf}
+use Rattle.order.specs.declared.Order.{Order}
+use lib.ListN.{drop, length}
+use Rattle.loader.specs.Order.{le32, orderFrom}
 
--- A start with the root that the bytes have.
-pub start-under : (w : World) (root : List ℕ) (L : ℕ) {h : HashValue} {o : Out World} → h .words ≡ words 8 root
-    → o ≡ startSpec w (record { root = h; length = L }) → o ≡ startSpec w (orderOf root L)
-start-under w root L e d = d ∙ ap (λ (u : List ℕ). startSpec w (record { root = record { words = u }; length = L })) e
+-- The order in the bytes.
+pub order-read : (s : List ℕ) {h : HashValue} {L k : ℕ} → h .words ≡ words 8 (drop 0 s) → L ≡ le32 s 32 → k ≡ le32 s 36
+    → _≡_ {A = Order} (record { root = h; length = L; method = k }) (orderFrom s)
+unfolding orderFrom
+order-read s e f g = rw (e, f, g)
+
+-- A start under it.
+pub start-under : (w : World) (s : List ℕ) {u : Order} {o : Out World} → u ≡ orderFrom s → o ≡ startSpec w u → o ≡ startSpec w (orderFrom s)
+start-under w s e d = d ∙ ap (startSpec w) e
+
+-- A building.
+pub build-under : (w : World) (s content : List ℕ) {u : Order} {o : Out World} → u ≡ orderFrom s → o ≡ buildSpec w u content → o ≡ buildSpec w (orderFrom s) content
+build-under w s content e d = d ∙ ap (λ (x : Order). buildSpec w x content) e
 
 -- What asking gave, in numbers.
 pub ask-counted : (a : Asked) {n held k : ℕ} {whole : Bool} → askedOf n held whole ≡ a → k ≡ flag whole

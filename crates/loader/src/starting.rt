@@ -1,11 +1,12 @@
 // Starting a store, and building a whole one.
 ghost use mathlib.Core.Path.{_≡_};
-ghost use Rattle.channel.proofs.Promise.{outOf, worldOf, orderOf, startSpec, buildSpec};
+ghost use Rattle.channel.proofs.Promise.{outOf, worldOf, startSpec, buildSpec};
+ghost use Rattle.loader.specs.Order.{orderFrom};
+use crate::order_bytes;
+use crate::order_bytes::ORDER_BYTES;
 use channel::starting;
-use hash::value;
-use order::Order;
 
-// Starts a store under an order, whose root is 32 bytes.
+// Starts a store under an order.
 #[no_mangle]
 pub extern "C" fn ppspp_start(
     state: &mut [u32],
@@ -16,8 +17,7 @@ pub extern "C" fn ppspp_start(
     has: &mut [u32],
     wants: &mut [u32],
     reply: &[u8],
-    root: &[u8; 32],
-    length: u32,
+    order: &[u8; ORDER_BYTES],
 ) -> u32
     ensures { λ r. ⌜ outOf r 0
         (worldOf (now (state .exit)) (now (chunks .entry)) (now (map .exit)) (now (hashes .exit))
@@ -25,12 +25,9 @@ pub extern "C" fn ppspp_start(
         ≡ startSpec
         (worldOf (now (state .entry)) (now (chunks .entry)) (now (map .entry)) (now (hashes .entry))
         (now (trusted .entry)) (now (has .entry)) (now (wants .entry)) (now (reply .entry)))
-        (orderOf (now (root .entry)) length) ⌝ }
+        (orderFrom (now (order .entry))) ⌝ }
 {
-    let order = Order {
-        root: value::load(root, 0),
-        length,
-    };
+    let under = order_bytes::read(order);
     starting::start(
         state,
         chunks,
@@ -40,11 +37,11 @@ pub extern "C" fn ppspp_start(
         has,
         wants,
         reply,
-        order,
+        under,
     )
 }
 
-// Builds a whole store of a length from its content.
+// Builds a whole store from its content, under an order whose root is not looked at.
 #[no_mangle]
 pub extern "C" fn ppspp_build(
     state: &mut [u32],
@@ -55,7 +52,7 @@ pub extern "C" fn ppspp_build(
     has: &mut [u32],
     wants: &mut [u32],
     reply: &[u8],
-    length: u32,
+    order: &[u8; ORDER_BYTES],
     content: &[u8],
 ) -> u32
     ensures { λ r. ⌜ outOf r 0
@@ -64,8 +61,9 @@ pub extern "C" fn ppspp_build(
         ≡ buildSpec
         (worldOf (now (state .entry)) (now (chunks .entry)) (now (map .entry)) (now (hashes .entry))
         (now (trusted .entry)) (now (has .entry)) (now (wants .entry)) (now (reply .entry)))
-        length (now (content .entry)) ⌝ }
+        (orderFrom (now (order .entry))) (now (content .entry)) ⌝ }
 {
+    let under = order_bytes::read(order);
     starting::build(
         state,
         chunks,
@@ -75,7 +73,7 @@ pub extern "C" fn ppspp_build(
         has,
         wants,
         reply,
-        length,
+        under,
         content,
     )
 }

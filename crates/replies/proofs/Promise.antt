@@ -4,37 +4,40 @@
 use mathlib.Core.Path.{_≡_}
 use mathlib.Core.Logic.{_≢_}
 use mathlib.Core.List.{List}
-use Prim.Native.Nat.{ℕ, _≤_, _<_, _^_}
+use mathlib.Core.Bool.{true, false}
+use Prim.Native.Nat.{ℕ, _+_, _≤_, _<_, _^_}
 use lib.ListN.{length}
+use Rattle.format.specs.declared.Format.{Format}
 use Rattle.tree.proofs.Promise.{chunkSize, chunks, maxLength}
-use Rattle.wire.proofs.Promise.{maxSize}
-use Rattle.writer.proofs.Promise.{Reads}
+use Rattle.wire.proofs.Promise.{minSize, maxSize, timedSize}
+use Rattle.writer.proofs.Promise.{Reads, nameable, isEverything}
 use Rattle.replies.proofs.ReplyLaws.{handshake-length, ack-length, chunk-length}
 use Rattle.replies.proofs.ReadLaws as reading
 pub use Rattle.replies.specs.Replies.{datagram, handshakeItems, handshakeReply, ackItems, ackReply, hashItem, chunkItems, chunkReply}
 
--- Our HANDSHAKE has 60 bytes.
-pub handshake-long : (to source : ℕ) (root : List ℕ) → length root ≡ 32 → length (handshakeReply to source root) ≡ 60
+-- Our HANDSHAKE has 60 bytes by either method.
+pub handshake-long : (F : Format) (to source : ℕ) (root : List ℕ) → length root ≡ 32 → length (handshakeReply F to source root) ≡ 60
 handshake-long = handshake-length
 
--- An ACK has 21 bytes.
-pub ack-long : (to f l d : ℕ) → length (ackReply to f l d) ≡ 21
+-- An ACK has 21 bytes where chunks are named by ranges, 17 where by bins.
+pub ack-long : (F : Format) (to f l d : ℕ) → length (ackReply F to f l d) ≡ minSize + timedSize F
 ack-long = ack-length
 
 -- The datagram of a chunk of a pack keeps the limit.
-pub chunk-fits : (hashes : List ℕ) (to N c time : ℕ) (bytes : List ℕ) → N ≤ chunks chunkSize maxLength → length bytes ≤ chunkSize
-    → length (chunkReply hashes to N c time bytes) ≤ maxSize
+pub chunk-fits : (F : Format) (hashes : List ℕ) (to N c time : ℕ) (bytes : List ℕ) → N ≤ chunks chunkSize maxLength → length bytes ≤ chunkSize
+    → length (chunkReply F hashes to N c time bytes) ≤ maxSize
 chunk-fits = chunk-length
 
 -- ---- each passes the checks, and reads back as its messages (00, demand 2: "What is written reads back as the same messages")
 
-pub handshake-reads : (to source : ℕ) (root : List ℕ) → to < 2 ^ 32 → source < 2 ^ 32 → source ≢ 0 → length root ≡ 32
-    → Reads (handshakeReply to source root) to (handshakeItems source root)
+pub handshake-reads : (F : Format) (to source : ℕ) (root : List ℕ) → to < 2 ^ 32 → source < 2 ^ 32 → source ≢ 0 → length root ≡ 32
+    → Reads F (handshakeReply F to source root) to (handshakeItems source root)
 handshake-reads = reading.handshake-reads
 
-pub ack-reads : (to f l delay : ℕ) → to < 2 ^ 32 → f ≤ l → l < 2 ^ 32 → delay < 2 ^ 64 → Reads (ackReply to f l delay) to (ackItems f l delay)
+pub ack-reads : (F : Format) (to f l delay : ℕ) → to < 2 ^ 32 → f ≤ l → l < 2 ^ 32 → delay < 2 ^ 64 → nameable F f l ≡ true → isEverything F f l ≡ false
+    → Reads F (ackReply F to f l delay) to (ackItems f l delay)
 ack-reads = reading.ack-reads
 
-pub chunk-reads : (hashes : List ℕ) (to N c time : ℕ) (bytes : List ℕ) → to < 2 ^ 32 → c < 2 ^ 32 → time < 2 ^ 64 → N ≤ chunks chunkSize maxLength → length bytes ≤ chunkSize
-    → Reads (chunkReply hashes to N c time bytes) to (chunkItems hashes N c time bytes)
+pub chunk-reads : (F : Format) (hashes : List ℕ) (to N c time : ℕ) (bytes : List ℕ) → to < 2 ^ 32 → c < N → time < 2 ^ 64 → N ≤ chunks chunkSize maxLength → length bytes ≤ chunkSize
+    → Reads F (chunkReply F hashes to N c time bytes) to (chunkItems hashes N c time bytes)
 chunk-reads = reading.chunk-reads

@@ -1,5 +1,6 @@
 // The calls of the crate store for C and Rust, on numbers and slices alone: what the comparisons and the benchmark
-// link. An order's root is eight words; a call with another number of them is refused with 11, before all else.
+// link. An order's root is eight words; a call with another number of them is refused with 11, before all else. No call
+// here looks at the order's method.
 ghost use mathlib.Core.Path.{_≡_};
 ghost use Rattle.base.specs.Out.{outOf};
 ghost use Rattle.store.proofs.Promise.{hashIn, roomsOf, integrityOf, rootOf, startSpec, buildSpec, takeSpec};
@@ -34,6 +35,7 @@ pub extern "C" fn store_start(
     let order = Order {
         root: room::read(root, 0),
         length: length,
+        method: format::RANGES,
     };
     calls::start(order, chunks, map, hashes, trusted)
 }
@@ -98,6 +100,7 @@ pub extern "C" fn store_take(
     let order = Order {
         root: room::read(root, 0),
         length: length,
+        method: format::RANGES,
     };
     calls::take(
         order,

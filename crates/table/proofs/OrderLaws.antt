@@ -4,7 +4,7 @@ use native.Mathlib.Nat.{zero-add}
 use native.Mathlib.Omega.{arith}
 use mathlib.Core.Path.{_≡_, refl, sym, ap, subst, _∙_}
 use mathlib.Core.Logic.{_≢_}
-use mathlib.Core.Bool.{Bool, true, false}
+use mathlib.Core.Bool.{Bool, true, false, true≢false, _&&_}
 use mathlib.Core.List.{List, [], _∷_, _++_}
 use lib.Dec.{eqb}
 use lib.ListN.{length, getD, set, length-append, replicate}
@@ -12,43 +12,88 @@ use lib.Seq.{sets, length-sets}
 use borrow.Author.Tests.{eq-eqb, ne-eqb}
 use Rattle.base.specs.Pick.{pick}
 use Rattle.bits.proofs.Promise.{clearWords, length-clearWords, clearWords-in, clearWords-before}
+use Rattle.format.specs.Format.{isMethod}
 use Rattle.hash.specs.declared.value.HashValue.{HashValue}
 use Rattle.order.specs.declared.Order.{Order}
 use Rattle.table.specs.Rows.{rowCount, freeRow}
-use Rattle.table.specs.Words.{layoutVersion, stateWords, rowsPlace, rowSize, phaseOf, rowIn, rowsFrom, rowsIn, noOrder, orderIn, orderWords, freshWords}
+use Rattle.table.specs.Words.{layoutVersion, stateWords, methodPlace, rowsPlace, rowSize, phaseOf, rowIn, rowsFrom, rowsIn, noOrder, hasOrder, orderIn, orderWords, freshWords}
 use Rattle.table.proofs.CellLaws.{cell-of}
 
 module _ (w : List ℕ) where
+  -- Whether words that were read have an order.
+  pub has-read : {v m : ℕ} {b : Bool} → v ≡ getD w 0 0 → m ≡ getD w methodPlace 0 → v ≡ layoutVersion → b ≡ isMethod m → b ≡ hasOrder w
+  unfolding hasOrder
+  has-read e f v b = rw (eq-eqb (getD w 0 0) layoutVersion (sym e ∙ v), ← f) b
+
+  pub has-none : {v : ℕ} → v ≡ getD w 0 0 → v ≢ layoutVersion → false ≡ hasOrder w
+  unfolding hasOrder
+  has-none e v = rw (ne-eqb (getD w 0 0) layoutVersion (λ z. v (e ∙ z)))
+
   -- The order of words that were read.
-  pub length-read : {v n : ℕ} → v ≡ getD w 0 0 → n ≡ getD w 9 0 → v ≡ layoutVersion → n ≡ orderIn w .length
+  module _ {b : Bool} (he : b ≡ hasOrder w) (t : b ≡ true) where
+    pub length-read : {n : ℕ} → n ≡ getD w 9 0 → n ≡ orderIn w .length
+    unfolding orderIn
+    length-read f = rw (sym he ∙ t) f
+
+    pub method-read : {m : ℕ} → m ≡ getD w methodPlace 0 → m ≡ orderIn w .method
+    unfolding orderIn
+    method-read f = rw (sym he ∙ t) f
+
+    pub root-read : {a b c d e f g h : ℕ}
+        → a ≡ getD w 1 0 → b ≡ getD w 2 0 → c ≡ getD w 3 0 → d ≡ getD w 4 0 → e ≡ getD w 5 0 → f ≡ getD w 6 0 → g ≡ getD w 7 0 → h ≡ getD w 8 0
+        → _≡_ {A = HashValue} (record { words = a ∷ b ∷ c ∷ d ∷ e ∷ f ∷ g ∷ h ∷ [] }) (orderIn w .root)
+    unfolding orderIn
+    root-read p₁ p₂ p₃ p₄ p₅ p₆ p₇ p₈ = rw (sym he ∙ t, p₁, p₂, p₃, p₄, p₅, p₆, p₇, p₈)
+
+  -- Words without an order.
+  module _ {b : Bool} (he : b ≡ hasOrder w) (t : b ≡ false) where
+    none-read : noOrder ≡ orderIn w
+    unfolding orderIn
+    none-read = rw (sym he ∙ t)
+
+    pub length-none : noOrder .length ≡ orderIn w .length
+    length-none = ap (λ (o : Order). o .length) none-read
+
+    pub method-none : noOrder .method ≡ orderIn w .method
+    method-none = ap (λ (o : Order). o .method) none-read
+
+    pub root-none : noOrder .root ≡ orderIn w .root
+    root-none = ap (λ (o : Order). o .root) none-read
+
+  -- The order by its three parts.
+  pub order-read : {root : HashValue} {n m : ℕ} → root ≡ orderIn w .root → n ≡ orderIn w .length → m ≡ orderIn w .method
+      → _≡_ {A = Order} (record { root = root; length = n; method = m }) (orderIn w)
+  order-read e f g = rw (e, f, g)
+
+-- ---- what holds of any words
+
+either-order : (P : Order → Type 0) (b : Bool) (o p : Order) → (b ≡ true → P o) → P p → P (pick b o p)
+either-order P true o p x y = x refl
+either-order P false o p x y = y
+
+both-second : (a b : Bool) → (a && b) ≡ true → b ≡ true
+both-second true b e = e
+both-second false b e = absurd (true≢false (sym e))
+
+neither-second : (a : Bool) → (a && false) ≡ false
+neither-second true = refl
+neither-second false = refl
+
+module _ (w : List ℕ) where
+  -- The root has eight words,
+  pub root-eight : length (orderIn w .root .words) ≡ 8
   unfolding orderIn
-  length-read e f v = rw (eq-eqb (getD w 0 0) layoutVersion (sym e ∙ v)) f
+  root-eight = either-order (λ o. length (o .root .words) ≡ 8) (hasOrder w) _ noOrder (λ e. refl) refl
 
-  pub length-none : {v : ℕ} → v ≡ getD w 0 0 → v ≢ layoutVersion → 0 ≡ orderIn w .length
-  unfolding orderIn
-  length-none e v = rw (ne-eqb (getD w 0 0) layoutVersion (λ z. v (e ∙ z)))
+  -- the method is one that a paper gives,
+  pub order-method : isMethod (orderIn w .method) ≡ true
+  unfolding orderIn hasOrder isMethod
+  order-method = either-order (λ o. isMethod (o .method) ≡ true) (hasOrder w) _ noOrder (both-second (eqb (getD w 0 0) layoutVersion) (isMethod (getD w methodPlace 0))) refl
 
-  pub order-read : {root : HashValue} {n : ℕ} → root ≡ orderIn w .root → n ≡ orderIn w .length → _≡_ {A = Order} (record { root = root; length = n }) (orderIn w)
-  order-read e f = rw (e, f)
-
-  pub root-none : {v : ℕ} → v ≡ getD w 0 0 → v ≢ layoutVersion → _≡_ {A = HashValue} (record { words = 0 ∷ 0 ∷ 0 ∷ 0 ∷ 0 ∷ 0 ∷ 0 ∷ 0 ∷ [] }) (orderIn w .root)
-  unfolding orderIn
-  root-none e v = rw (ne-eqb (getD w 0 0) layoutVersion (λ z. v (e ∙ z)))
-
-  pub root-read : {v a b c d e f g h : ℕ} → v ≡ getD w 0 0 → v ≡ layoutVersion
-      → a ≡ getD w 1 0 → b ≡ getD w 2 0 → c ≡ getD w 3 0 → d ≡ getD w 4 0 → e ≡ getD w 5 0 → f ≡ getD w 6 0 → g ≡ getD w 7 0 → h ≡ getD w 8 0
-      → _≡_ {A = HashValue} (record { words = a ∷ b ∷ c ∷ d ∷ e ∷ f ∷ g ∷ h ∷ [] }) (orderIn w .root)
-  unfolding orderIn
-  root-read x v p₁ p₂ p₃ p₄ p₅ p₆ p₇ p₈ = rw (eq-eqb (getD w 0 0) layoutVersion (sym x ∙ v), p₁, p₂, p₃, p₄, p₅, p₆, p₇, p₈)
-
-either-eight : (b : Bool) (o p : Order) → length (o .root .words) ≡ 8 → length (p .root .words) ≡ 8 → length (pick b o p .root .words) ≡ 8
-either-eight true o p x y = x
-either-eight false o p x y = y
-
--- The root of any words has eight.
-pub root-eight : (w : List ℕ) → length (orderIn w .root .words) ≡ 8
-unfolding orderIn
-root-eight w = either-eight (eqb (getD w 0 0) layoutVersion) _ noOrder refl refl
+  -- and where the words have another, there is no order.
+  pub unknown-method : isMethod (getD w methodPlace 0) ≡ false → orderIn w ≡ noOrder
+  unfolding orderIn hasOrder
+  unknown-method e = rw (e, neither-second (eqb (getD w 0 0) layoutVersion))
 
 -- ---- a new order
 
@@ -74,32 +119,32 @@ eight-cells (a ∷ b ∷ c ∷ d ∷ e ∷ f ∷ g ∷ []) h = absurd (omega ari
 eight-cells (a ∷ b ∷ c ∷ d ∷ e ∷ f ∷ g ∷ i ∷ []) h = refl
 eight-cells (a ∷ b ∷ c ∷ d ∷ e ∷ f ∷ g ∷ i ∷ j ∷ w) h = absurd (omega arith)
 
--- ten stores
-pub order-stored : (l w : List ℕ) (n : ℕ) → length w ≡ 8
-    → set (set (set (set (set (set (set (set (set (set l 0 layoutVersion) 1 (getD w 0 0)) 2 (getD w 1 0)) 3 (getD w 2 0)) 4 (getD w 3 0)) 5 (getD w 4 0)) 6 (getD w 5 0)) 7 (getD w 6 0)) 8 (getD w 7 0)) 9 n
-    ≡ sets l 0 (layoutVersion ∷ w ++ n ∷ [])
-order-stored l w n h = ap (λ (u : List ℕ). sets l 0 (layoutVersion ∷ u ++ n ∷ [])) (eight-cells w h)
+-- eleven stores
+pub order-stored : (l w : List ℕ) (n m : ℕ) → length w ≡ 8
+    → set (set (set (set (set (set (set (set (set (set (set l 0 layoutVersion) 1 (getD w 0 0)) 2 (getD w 1 0)) 3 (getD w 2 0)) 4 (getD w 3 0)) 5 (getD w 4 0)) 6 (getD w 5 0)) 7 (getD w 6 0)) 8 (getD w 7 0)) 9 n) methodPlace m
+    ≡ sets l 0 (layoutVersion ∷ w ++ n ∷ m ∷ [])
+order-stored l w n m h = ap (λ (u : List ℕ). sets l 0 (layoutVersion ∷ u ++ n ∷ m ∷ [])) (eight-cells w h)
 
 -- the words of an order, behind the version
-order-back : (ws : List ℕ) (n : ℕ) (w : List ℕ) → length ws ≡ 8
-    → ((k : ℕ) → k < 10 → getD w k 0 ≡ getD (layoutVersion ∷ ws ++ n ∷ []) k 0)
-    → orderIn w ≡ record { root = record { words = ws }; length = n }
-unfolding orderIn
-order-back ws n w h =
-    subst (λ (u : List ℕ). ((k : ℕ) → k < 10 → getD w k 0 ≡ getD (layoutVersion ∷ u ++ n ∷ []) k 0) → orderIn w ≡ record { root = record { words = u }; length = n })
+order-back : (ws : List ℕ) (n m : ℕ) (w : List ℕ) → length ws ≡ 8 → isMethod m ≡ true
+    → ((k : ℕ) → k < rowsPlace → getD w k 0 ≡ getD (layoutVersion ∷ ws ++ n ∷ m ∷ []) k 0)
+    → orderIn w ≡ record { root = record { words = ws }; length = n; method = m }
+unfolding orderIn hasOrder
+order-back ws n m w h k =
+    subst (λ (u : List ℕ). ((k : ℕ) → k < rowsPlace → getD w k 0 ≡ getD (layoutVersion ∷ u ++ n ∷ m ∷ []) k 0) → orderIn w ≡ record { root = record { words = u }; length = n; method = m })
     (eight-cells ws h)
-    (λ f. rw (f 0 (omega arith), f 1 (omega arith), f 2 (omega arith), f 3 (omega arith), f 4 (omega arith), f 5 (omega arith), f 6 (omega arith), f 7 (omega arith), f 8 (omega arith), f 9 (omega arith)))
+    (λ f. rw (f 0 (omega arith), f 1 (omega arith), f 2 (omega arith), f 3 (omega arith), f 4 (omega arith), f 5 (omega arith), f 6 (omega arith), f 7 (omega arith), f 8 (omega arith), f 9 (omega arith), f methodPlace (omega arith), k))
 
 module _ (w : List ℕ) (o : Order) where
-  -- A new order is the order, in a room that holds the state,
-  pub fresh-order : stateWords ≤ length w → length (o .root .words) ≡ 8 → orderIn (freshWords w o) ≡ o
+  -- A new order is the order, in a room that holds the state, where a paper gives its method,
+  pub fresh-order : stateWords ≤ length w → length (o .root .words) ≡ 8 → isMethod (o .method) ≡ true → orderIn (freshWords w o) ≡ o
   unfolding freshWords
-  fresh-order room e = order-back (o .root .words) (o .length) (freshWords w o) e cells
+  fresh-order room e k = order-back (o .root .words) (o .length) (o .method) (freshWords w o) e k cells
     where
-      long : length (orderWords o) ≡ 10
-      long = omega (arith, e, length-append (o .root .words) (o .length ∷ []))
+      long : length (orderWords o) ≡ rowsPlace
+      long = omega (arith, e, length-append (o .root .words) (o .length ∷ o .method ∷ []))
 
-      cells : (k : ℕ) → k < 10 → getD (freshWords w o) k 0 ≡ getD (orderWords o) k 0
+      cells : (k : ℕ) → k < rowsPlace → getD (freshWords w o) k 0 ≡ getD (orderWords o) k 0
       cells k l = clearWords-before (sets w 0 (orderWords o)) rowsPlace stateWords k l ∙ rw (zero-add k) at (cell-of (orderWords o) w 0 k (rw long l) (rw long (omega arith)))
 
   -- the rows are free,

@@ -1,5 +1,5 @@
--- What the crates above know of this one: of its definitions the names passed on here, what is read from words after a row
--- or an order was put, and which numbers the table can give. Assumes nothing.
+-- What the crates above know of this one: of its definitions the names passed on here, what is read from any words and
+-- after a row or an order was put, and which numbers the table can give. Assumes nothing.
 use Prim.Native.Nat.{ℕ}
 use mathlib.Core.Path.{_≡_, refl}
 use mathlib.Core.Logic.{_≢_, _⊎_}
@@ -11,9 +11,9 @@ use Rattle.table.specs.declared.rows.Row.{Row}
 use Rattle.table.proofs.NumberLaws as numbers
 pub use Rattle.table.specs.Rows.{rowCount, freeRow, lowestFree, rowOf, openRowOf, rowAt, rowAfter}
 pub use Rattle.table.specs.Answers.{openAnswer, messagesAnswer, handshakeAnswer, writeAnswer}
-pub use Rattle.table.specs.Words.{layoutVersion, stateWords, flag, rowsIn, putRow, orderIn, freshWords}
+pub use Rattle.table.specs.Words.{layoutVersion, stateWords, methodPlace, flag, rowsIn, putRow, noOrder, orderIn, freshWords}
 pub use Rattle.table.proofs.RowWordLaws.{rows-length, peer-fits, flag-same, put-row-same, put-row-rows, put-row-order, put-row-length}
-pub use Rattle.table.proofs.OrderLaws.{root-eight, fresh-order, fresh-rows, fresh-length}
+pub use Rattle.table.proofs.OrderLaws.{root-eight, order-method, unknown-method, fresh-order, fresh-rows, fresh-length}
 
 -- The row at a place; past the table a free one.
 pub row-at : (rs : List Row) (i : ℕ) → rowAt rs i ≡ getD rs i freeRow

@@ -16,7 +16,7 @@ use Rattle.table.specs.declared.rows.Phase.{Phase}
 use Rattle.table.specs.declared.rows.Phase.the-variants.{Free, Calling, Open}
 use Rattle.table.specs.declared.rows.Row.{Row}
 use Rattle.table.specs.Rows.{rowCount, freeRow, rowAt}
-use Rattle.table.specs.Words.{stateWords, rowsPlace, rowSize, rowPlace, phaseOf, rowIn, rowsFrom, rowsIn, phaseWord, flag, rowCells, putRow, orderIn}
+use Rattle.table.specs.Words.{stateWords, methodPlace, rowsPlace, rowSize, rowPlace, phaseOf, rowIn, rowsFrom, rowsIn, phaseWord, flag, rowCells, putRow, hasOrder, orderIn}
 use Rattle.table.proofs.CellLaws.{cell-before, cell-behind, cell-of}
 
 -- ---- a row that was put
@@ -138,10 +138,10 @@ module _ (w : List ℕ) (i : ℕ) (r : Row) where
 
 -- The order is read from words before the rows.
 order-put : (w : List ℕ) (at : ℕ) (r : Row) → rowsPlace ≤ at → orderIn (sets w at (rowCells r)) ≡ orderIn w
-unfolding orderIn
+unfolding orderIn hasOrder
 order-put w at r h =
     let cell : (k : ℕ) → k < rowsPlace → getD (sets w at (rowCells r)) k 0 ≡ getD w k 0 = λ k b. cell-before (rowCells r) w at k (omega arith) in
-    rw (cell 0 (omega arith), cell 1 (omega arith), cell 2 (omega arith), cell 3 (omega arith), cell 4 (omega arith), cell 5 (omega arith), cell 6 (omega arith), cell 7 (omega arith), cell 8 (omega arith), cell 9 (omega arith))
+    rw (cell 0 (omega arith), cell 1 (omega arith), cell 2 (omega arith), cell 3 (omega arith), cell 4 (omega arith), cell 5 (omega arith), cell 6 (omega arith), cell 7 (omega arith), cell 8 (omega arith), cell 9 (omega arith), cell methodPlace (omega arith))
 
 -- ---- a row put into a room that holds the state
 

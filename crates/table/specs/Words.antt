@@ -1,8 +1,9 @@
--- A store's state as 74 lent words, layout version 1: the version, the root's eight words, the length, and four words for
--- each of the 16 rows of the channel table. The layout is ours; include/ppspp.h has the same table. A word past the room is
--- read as 0 and not written, so that all of this is said of any words. Assumes nothing.
+-- A store's state as 75 lent words, layout version 2: the version, the root's eight words, the length, the method of
+-- addressing chunks, and four words for each of the 16 rows of the channel table. The layout is ours; include/ppspp.h has
+-- the same table. A word past the room is read as 0 and not written, so that all of this is said of any words. Assumes
+-- nothing.
 use Prim.Native.Nat.{ℕ, zero, suc, _+_, _*_}
-use mathlib.Core.Bool.{Bool, true, false}
+use mathlib.Core.Bool.{Bool, true, false, _&&_}
 use mathlib.Core.List.{List, [], _∷_, _++_}
 use lib.Dec.{eqb, leb}
 use lib.ListN.{getD}
@@ -10,21 +11,26 @@ use lib.Seq.{sets}
 use Rattle.base.specs.Pick.{pick}
 use Rattle.base.specs.Same.{same}
 use Rattle.bits.proofs.Promise.{clearWords}
+use Rattle.format.specs.declared.Addressing.the-variants.{Ranges}
+use Rattle.format.specs.Format.{methodBy, isMethod}
 use Rattle.order.specs.declared.Order.{Order}
 use Rattle.table.specs.declared.rows.Phase.{Phase}
 use Rattle.table.specs.declared.rows.Phase.the-variants.{Free, Calling, Open}
 use Rattle.table.specs.declared.rows.Row.{Row}
 use Rattle.table.specs.Rows.{rowCount, rowAt}
 
--- The layout's version, its number of words, where the rows begin, and the words of a row.
+-- The layout's version, its number of words, where the method stands and the rows begin, and the words of a row.
 abbrev pub layoutVersion : ℕ
-layoutVersion = 1
+layoutVersion = 2
 
 abbrev pub stateWords : ℕ
-stateWords = 74
+stateWords = 75
+
+abbrev pub methodPlace : ℕ
+methodPlace = 10
 
 abbrev pub rowsPlace : ℕ
-rowsPlace = 10
+rowsPlace = 11
 
 abbrev pub rowSize : ℕ
 rowSize = 4
@@ -84,23 +90,34 @@ putRow w i r =
 
 -- No order: its length is 0, so that each call under it but starting and building is refused with 12.
 abbrev pub noOrder : Order
-noOrder = record { root = record { words = 0 ∷ 0 ∷ 0 ∷ 0 ∷ 0 ∷ 0 ∷ 0 ∷ 0 ∷ [] }; length = 0 }
+noOrder =
+    record {
+      root = record { words = 0 ∷ 0 ∷ 0 ∷ 0 ∷ 0 ∷ 0 ∷ 0 ∷ 0 ∷ [] };
+      length = 0;
+      method = methodBy Ranges;
+    }
 
--- The order: the root of words 1 to 8, and the length. Words of another version have none.
+-- Whether the words have an order: they are of this version, and their method is one that a paper gives (02, No. 1: a
+-- value in an order that no paper gives is 12).
+unfoldable pub hasOrder : List ℕ → Bool
+hasOrder w = eqb (getD w 0 0) layoutVersion && isMethod (getD w methodPlace 0)
+
+-- The order: the root of words 1 to 8, the length and the method.
 unfoldable pub orderIn : List ℕ → Order
 orderIn w =
-    pick (eqb (getD w 0 0) layoutVersion)
+    pick (hasOrder w)
     (record {
       root = record {
         words = getD w 1 0 ∷ getD w 2 0 ∷ getD w 3 0 ∷ getD w 4 0 ∷ getD w 5 0 ∷ getD w 6 0 ∷ getD w 7 0 ∷ getD w 8 0 ∷ [];
       };
       length = getD w 9 0;
+      method = getD w methodPlace 0;
     })
     noOrder
 
 -- The words of an order, behind the version.
 abbrev pub orderWords : Order → List ℕ
-orderWords o = layoutVersion ∷ o .root .words ++ o .length ∷ []
+orderWords o = layoutVersion ∷ o .root .words ++ o .length ∷ o .method ∷ []
 
 -- The words under a new order: all those of the rows are 0, so every row is free. What stands past the state stays.
 unfoldable pub freshWords : List ℕ → Order → List ℕ

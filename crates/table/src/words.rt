@@ -1,27 +1,31 @@
-// A store's state as lent words: the layout's version, the root's eight, the length, and four for each of the 16 rows. A
-// word past the room is read as 0 and not written.
+// A store's state as lent words: the layout's version, the root's eight, the length, the method of addressing, and four for
+// each of the 16 rows. A word past the room is read as 0 and not written.
 ghost use mathlib.Core.Path.{_≡_};
 ghost use Prim.Native.Nat.{_<_, _≤_};
 ghost use lib.ListN.{getD, set, length};
 ghost use lib.Seq.{sets};
 ghost use Rattle.base.specs.Same.{same};
+ghost use Rattle.format.specs.Format.{formatOf};
 ghost use Rattle.table.specs.Rows.{rowCount, firstRow, passes, lowestFree, rowOf, openRowOf, rowAt};
-ghost use Rattle.table.specs.Words.{stateWords, rowsPlace, rowPlace, phaseOf, rowIn, rowsIn, orderIn};
+ghost use Rattle.table.specs.Words.{stateWords, rowsPlace, rowPlace, phaseOf, rowIn, rowsIn, hasOrder, orderIn};
 ghost use Rattle.table.specs.Words.{phaseWord, flag, rowCells, putRow, orderWords, freshWords};
 use crate::rows;
 use crate::rows::Phase;
 use crate::rows::ROWS;
 use crate::rows::Row;
 use crate::rows::Search;
+use format::Format;
 use hash::value::HashValue;
 use order::Order;
 
-// The layout's version, its number of words, where the rows begin, and the words of a row.
-pub const LAYOUT_VERSION: u32 = 1;
+// The layout's version, its number of words, where the method stands and the rows begin, and the words of a row.
+pub const LAYOUT_VERSION: u32 = 2;
 
-pub const STATE_WORDS: usize = 74;
+pub const STATE_WORDS: usize = 75;
 
-const ROWS_PLACE: usize = 10;
+const METHOD_PLACE: usize = 10;
+
+const ROWS_PLACE: usize = 11;
 
 const ROW_WORDS: usize = 4;
 
@@ -43,37 +47,63 @@ fn put_word(words: &mut [u32], at: usize, x: u32)
 
 // ---- the order
 
-// The order's length; 0 in words of another version.
-pub fn length_in(words: &[u32]) -> u32
-    ensures { λ r. ⌜ r ≡ orderIn (now (words .entry)) .length ⌝ }
+// Whether the words have an order: they are of this version, and their method is one that a paper gives.
+fn has_order(words: &[u32]) -> bool
+    ensures { λ r. ⌜ r ≡ hasOrder (now (words .entry)) ⌝ }
 {
     if word(words, 0) == LAYOUT_VERSION {
-        word(words, 9)
+        format::is_method(word(words, METHOD_PLACE))
     } else {
-        0
+        false
     }
 }
 
-// The order's root; zeros in words of another version.
+// The order's length; 0 in words without an order.
+pub fn length_in(words: &[u32]) -> u32
+    ensures { λ r. ⌜ r ≡ orderIn (now (words .entry)) .length ⌝ }
+{
+    if has_order(words) { word(words, 9) } else { 0 }
+}
+
+// The number of the order's method; that of ranges in words without an order.
+fn method_in(words: &[u32]) -> u32
+    ensures { λ r. ⌜ r ≡ orderIn (now (words .entry)) .method ⌝ }
+{
+    if has_order(words) {
+        word(words, METHOD_PLACE)
+    } else {
+        format::RANGES
+    }
+}
+
+// What the order settles of a datagram's form.
+pub fn format_in(words: &[u32]) -> Format
+    ensures { λ r. ⌜ r ≡ formatOf (orderIn (now (words .entry)) .method) ⌝ }
+{
+    format::of_method(method_in(words))
+}
+
+// The order's root; zeros in words without an order.
 pub fn root_in(words: &[u32]) -> HashValue
     ensures { λ r. ⌜ r ≡ orderIn (now (words .entry)) .root ⌝ }
 {
-    if word(words, 0) != LAYOUT_VERSION {
-        return HashValue {
+    if has_order(words) {
+        HashValue {
+            words: [
+                word(words, 1),
+                word(words, 2),
+                word(words, 3),
+                word(words, 4),
+                word(words, 5),
+                word(words, 6),
+                word(words, 7),
+                word(words, 8),
+            ],
+        }
+    } else {
+        HashValue {
             words: [0, 0, 0, 0, 0, 0, 0, 0],
-        };
-    }
-    HashValue {
-        words: [
-            word(words, 1),
-            word(words, 2),
-            word(words, 3),
-            word(words, 4),
-            word(words, 5),
-            word(words, 6),
-            word(words, 7),
-            word(words, 8),
-        ],
+        }
     }
 }
 
@@ -85,6 +115,7 @@ pub fn order_in(words: &[u32]) -> Order
     Order {
         root,
         length: length_in(words),
+        method: method_in(words),
     }
 }
 
@@ -225,7 +256,7 @@ pub fn put_row(words: &mut [u32], i: usize, row: Row)
 
 // ---- an order is put
 
-// Writes the version, the root's words and the length.
+// Writes the version, the root's words, the length and the method.
 fn put_order(words: &mut [u32], order: Order)
     requires { ⌜ rowsPlace ≤ length (now words) ⌝ }
     ensures { λ _. ⌜ now (words .exit) ≡ sets (now (words .entry)) 0 (orderWords order) ⌝ }
@@ -241,6 +272,7 @@ fn put_order(words: &mut [u32], order: Order)
     words[7] = root.words[6];
     words[8] = root.words[7];
     words[9] = order.length;
+    words[METHOD_PLACE] = order.method;
 }
 
 // Puts a new order; every row is then free.

@@ -10,7 +10,7 @@ use Rattle.wire.proofs.Promise.{be32, be64}
 use Rattle.channel.proofs.Promise.{World, orderOf, startSpec, takeSpec, askSpec}
 use Rattle.script.specs.declared.frames.Frame.the-variants.{Bad}
 use Rattle.script.proofs.Promise.{isFrame, frameNumber, decoded, answerLine, closingLine}
-use Rattle.trace.specs.Limits.{lengthMax, orderDigits, digitsMin, digitsMax, badFirst}
+use Rattle.trace.specs.Limits.{lengthMax, orderDigits, digitsMin, digitsMax, badFirst, replayMethod}
 use Rattle.trace.specs.declared.session.Stage.{Stage}
 use Rattle.trace.specs.declared.session.Stage.the-variants.{First, Later, Over}
 
@@ -49,7 +49,8 @@ isOrder line = pick (isFrame orderDigits orderDigits line) (takesLength (be32 (d
 
 -- "Line one is root then L (32 bits)"; the order of a bad one has the length 0, which starting refuses.
 unfoldable pub lineOrder : List ℕ → Order
-lineOrder line = pick (isOrder line) (orderOf (decoded line) (be32 (decoded line) 32)) (orderOf (replicate 32 0) 0)
+lineOrder line =
+    pick (isOrder line) (orderOf (decoded line) (be32 (decoded line) 32) replayMethod) (orderOf (replicate 32 0) 0 replayMethod)
 
 -- Line one starts the store: nothing is written, and the next line is a datagram; or else "`0c` and nothing more".
 unfoldable pub firstLine : Replay → List ℕ → Answer

@@ -5,6 +5,7 @@ ghost use lib.ListN.{length, take, replicate};
 ghost use Rattle.base.specs.Pick.{pick};
 ghost use Rattle.wire.proofs.Promise.{be32};
 ghost use Rattle.channel.proofs.Promise.{worldOf, orderOf};
+ghost use Rattle.trace.specs.Limits.{replayMethod};
 ghost use Rattle.trace.specs.Session.{replayOf, answerOf, takesLength, lineOrder, firstLine};
 ghost use Rattle.trace.specs.Steps.{spoken};
 use crate::limits::BAD_FIRST;
@@ -15,6 +16,7 @@ use crate::session::Answered;
 use crate::session::Session;
 use crate::session::Stage;
 use channel::starting;
+use format::RANGES;
 use hash::value;
 use order::Order;
 use script::frames;
@@ -23,11 +25,12 @@ use wire::bytes;
 
 // The order of a bad line.
 fn no_order() -> Order
-    ensures { λ r. ⌜ r ≡ orderOf (replicate 32 0) 0 ⌝ }
+    ensures { λ r. ⌜ r ≡ orderOf (replicate 32 0) 0 replayMethod ⌝ }
 {
     Order {
         root: value::load(&[0u8; 32], 0),
         length: 0,
+        method: RANGES,
     }
 }
 
@@ -36,8 +39,8 @@ fn order_in(frame: &[u8]) -> Order
     requires { ⌜ 36 ≤ length (now frame) ⌝ }
     ensures { λ r. ⌜ r
         ≡ pick (takesLength (be32 (now (frame .entry)) 32))
-        (orderOf (now (frame .entry)) (be32 (now (frame .entry)) 32))
-        (orderOf (replicate 32 0) 0) ⌝ }
+        (orderOf (now (frame .entry)) (be32 (now (frame .entry)) 32) replayMethod)
+        (orderOf (replicate 32 0) 0 replayMethod) ⌝ }
 {
     let length = bytes::load32(frame, 32);
     if length == 0 {
@@ -49,6 +52,7 @@ fn order_in(frame: &[u8]) -> Order
     Order {
         root: value::load(frame, 0),
         length,
+        method: RANGES,
     }
 }
 

@@ -16,7 +16,8 @@ use Rattle.wire.specs.declared.message.Options.{Options}
 use Rattle.wire.specs.declared.message.Step.{Step}
 use Rattle.wire.specs.declared.layout.Layout.{Layout}
 use Rattle.wire.specs.declared.layout.Layout.the-variants.{Fault, HandshakeAlone, Messages, MessagesAndData}
-use Rattle.wire.proofs.ViewLaws.{View, the-end, refused, a-handshake, a-data, an-ack, a-have, an-integrity, a-request, a-cancel, a-choke, an-unchoke, view}
+use Rattle.wire.proofs.ViewLaws.{View, the-end, refused, a-handshake, a-data, an-ack, a-have, an-integrity, a-request, a-cancel, a-choke, an-unchoke, view, an-empty}
+use Rattle.format.specs.declared.Format.{Format}
 
 abbrev pub Alone : List ℕ → Layout → Type 0
 Alone s (Fault n) = Unit {0}
@@ -37,13 +38,13 @@ handshake-alone s at next a o p = by (eqb at minSize) refl (eqb next (length s))
     by true e false = tt
     by false e y = tt
 
-module _ (s : List ℕ) where
+module _ (F : Format) (s : List ℕ) where
   alone-if : (x : Bool) (gs : List ℕ) (c : Checked) → Alone s (c .layout) → Alone s (pick x (checkedOf (Fault 2) gs) c .layout)
   alone-if true gs c h = tt
   alone-if false gs c h = h
 
   alone-step : (es : List ℕ) (at : ℕ) (rest : List ℕ → ℕ → Checked) → ((gs : List ℕ) (next : ℕ) → Alone s (rest gs next .layout))
-      → (st : Step) → View at (drop at s) st → Alone s (layoutStep s es at st rest .layout)
+      → (st : Step) → View F at (drop at s) st → Alone s (layoutStep s es at st rest .layout)
   alone-step es at rest h _ (the-end l) = tt
   alone-step es at rest h _ refused = tt
   alone-step es at rest h _ (a-handshake e l o) = handshake-alone s at _ _ _ refl
@@ -55,17 +56,18 @@ module _ (s : List ℕ) where
   alone-step es at rest h _ (a-cancel e l o) = h es _
   alone-step es at rest h _ (a-choke e l) = h es _
   alone-step es at rest h _ (an-unchoke e l) = h es _
+  alone-step es at rest h _ (an-empty k g e l o) = h es _
 
-  alone-from : (n : ℕ) (es : List ℕ) (at : ℕ) → Alone s (layoutFrom n s es at .layout)
+  alone-from : (n : ℕ) (es : List ℕ) (at : ℕ) → Alone s (layoutFrom F n s es at .layout)
   unfolding layoutFrom
   alone-from zero es at = tt
-  alone-from (suc n) es at = alone-step es at (λ gs next. layoutFrom n s gs next) (λ gs next. alone-from n gs next) (stepAt s at) (view at (drop at s))
+  alone-from (suc n) es at = alone-step es at (λ gs next. layoutFrom F n s gs next) (λ gs next. alone-from n gs next) (stepAt F s at) (view F at (drop at s))
 
-  pub layout-alone : Alone s (layoutOf s .layout)
+  pub layout-alone : Alone s (layoutOf F s .layout)
   unfolding layoutOf
   layout-alone = by (ltb (length s) minSize) (ltb maxSize (length s))
     where
-      by : (x y : Bool) → Alone s (pick x (checkedOf (Fault 1) []) (pick y (checkedOf (Fault 1) []) (layoutFrom (length s) s [] minSize)) .layout)
+      by : (x y : Bool) → Alone s (pick x (checkedOf (Fault 1) []) (pick y (checkedOf (Fault 1) []) (layoutFrom F (length s) s [] minSize)) .layout)
       by true y = tt
       by false true = tt
       by false false = alone-from (length s) [] minSize

@@ -13,11 +13,12 @@ use Rattle.wire.specs.Limits.{minSize, maxSize}
 use Rattle.wire.specs.Read.{stepAt}
 use Rattle.wire.specs.Layout.{Checked, checkedOf, numberOf, seen, isEndOnly, handshakeFault, orFault, handshakeLayout, layoutStep, layoutFrom, layoutOf}
 use Rattle.wire.specs.declared.message.Options.{Options}
-use Rattle.wire.specs.declared.message.Message.the-variants.{Handshake, Data, Ack, Have, Integrity, Request, Cancel, Choke, Unchoke}
+use Rattle.wire.specs.declared.message.Message.the-variants.{Handshake, Data, Ack, Have, Integrity, Request, Cancel, Choke, Unchoke, Empty}
 use Rattle.wire.specs.declared.message.Step.{Step}
 use Rattle.wire.specs.declared.message.Step.the-variants.{Read, End, Refused}
 use Rattle.wire.specs.declared.layout.Layout.{Layout}
 use Rattle.wire.specs.declared.layout.Layout.the-variants.{Fault, HandshakeAlone, Messages, MessagesAndData}
+use Rattle.format.specs.declared.Format.{Format}
 
 -- Not refused.
 abbrev pub Passed : Layout → Type 0
@@ -73,21 +74,22 @@ numbered-step s es at rest h (Read (Request f l) next) = h es (next .at)
 numbered-step s es at rest h (Read (Cancel f l) next) = h es (next .at)
 numbered-step s es at rest h (Read Choke next) = h es (next .at)
 numbered-step s es at rest h (Read Unchoke next) = h es (next .at)
+numbered-step s es at rest h (Read (Empty k) next) = h es (next .at)
 
-numbered-from : (n : ℕ) (s es : List ℕ) (at : ℕ) → Numbered (layoutFrom n s es at .layout)
+numbered-from : (F : Format) (n : ℕ) (s es : List ℕ) (at : ℕ) → Numbered (layoutFrom F n s es at .layout)
 unfolding layoutFrom
-numbered-from zero s es at = tt
-numbered-from (suc n) s es at = numbered-step s es at (λ gs next. layoutFrom n s gs next) (λ gs next. numbered-from n s gs next) (stepAt s at)
+numbered-from F zero s es at = tt
+numbered-from F (suc n) s es at = numbered-step s es at (λ gs next. layoutFrom F n s gs next) (λ gs next. numbered-from F n s gs next) (stepAt F s at)
 
 -- A refusal is 1, 2 or 3.
-pub numbered : (s : List ℕ) → Numbered (layoutOf s .layout)
+pub numbered : (F : Format) (s : List ℕ) → Numbered (layoutOf F s .layout)
 unfolding layoutOf
-numbered s = by (ltb (length s) minSize) (ltb maxSize (length s))
+numbered F s = by (ltb (length s) minSize) (ltb maxSize (length s))
   where
-    by : (x y : Bool) → Numbered (pick x (checkedOf (Fault 1) []) (pick y (checkedOf (Fault 1) []) (layoutFrom (length s) s [] minSize)) .layout)
+    by : (x y : Bool) → Numbered (pick x (checkedOf (Fault 1) []) (pick y (checkedOf (Fault 1) []) (layoutFrom F (length s) s [] minSize)) .layout)
     by true y = (omega arith, omega arith)
     by false true = (omega arith, omega arith)
-    by false false = numbered-from (length s) s [] minSize
+    by false false = numbered-from F (length s) s [] minSize
 
 -- So a layout with the number 0 is not one.
 passes : (l : Layout) → Numbered l → numberOf l ≡ 0 → Passed l
@@ -97,12 +99,12 @@ passes (Messages k) h e = tt
 passes (MessagesAndData c x b n k) h e = tt
 
 -- A datagram with the number 0 is within the sizes and is not refused.
-pub passed : (s : List ℕ) → numberOf (layoutOf s .layout) ≡ 0 → (minSize ≤ length s) × (length s ≤ maxSize) × Passed (layoutOf s .layout)
+pub passed : (F : Format) (s : List ℕ) → numberOf (layoutOf F s .layout) ≡ 0 → (minSize ≤ length s) × (length s ≤ maxSize) × Passed (layoutOf F s .layout)
 unfolding layoutOf
-passed s e = (sizes .0, sizes .1, passes (layoutOf s .layout) (numbered s) e)
+passed F s e = (sizes .0, sizes .1, passes (layoutOf F s .layout) (numbered F s) e)
   where
     by : (x y : Bool) → ltb (length s) minSize ≡ x → ltb maxSize (length s) ≡ y
-        → numberOf (pick x (checkedOf (Fault 1) []) (pick y (checkedOf (Fault 1) []) (layoutFrom (length s) s [] minSize)) .layout) ≡ 0 → (minSize ≤ length s) × (length s ≤ maxSize)
+        → numberOf (pick x (checkedOf (Fault 1) []) (pick y (checkedOf (Fault 1) []) (layoutFrom F (length s) s [] minSize)) .layout) ≡ 0 → (minSize ≤ length s) × (length s ≤ maxSize)
     by true y p q z = absurd (omega (arith, z))
     by false true p q z = absurd (omega (arith, z))
     by false false p q z = (ltb-false (length s) minSize p, ltb-false maxSize (length s) q)
@@ -111,6 +113,6 @@ passed s e = (sizes .0, sizes .1, passes (layoutOf s .layout) (numbered s) e)
     sizes = by (ltb (length s) minSize) (ltb maxSize (length s)) refl refl e
 
 -- A datagram over the limit.
-pub too-long : (s : List ℕ) → maxSize < length s → layoutOf s .layout ≡ Fault 1
+pub too-long : (F : Format) (s : List ℕ) → maxSize < length s → layoutOf F s .layout ≡ Fault 1
 unfolding layoutOf
-too-long s h = rw (le-ltb (length s) minSize (omega arith), lt-ltb maxSize (length s) h)
+too-long F s h = rw (le-ltb (length s) minSize (omega arith), lt-ltb maxSize (length s) h)

@@ -18,6 +18,7 @@ use Rattle.wire.specs.declared.message.Options.{Options}
 use Rattle.wire.specs.declared.layout.Layout.the-variants.{Fault, HandshakeAlone}
 use Rattle.wire.specs.declared.survey.Survey.{Survey}
 use Rattle.wire.specs.declared.pass.Turn.the-variants.{On}
+use Rattle.format.specs.declared.Format.{Format}
 
 -- ---- whether a node is among the entries: one turn of the search, and its end
 
@@ -166,21 +167,21 @@ sized n = by (ltb n minSize) (ltb maxSize n) refl refl
     by false false p q e = (ltb-false n minSize p, ltb-false maxSize n q)
 
 -- the messages decide
-pub layout-sized : (s : List ℕ) → minSize ≤ length s → length s ≤ maxSize → layoutOf s ≡ layoutFrom (length s) s [] minSize
+pub layout-sized : (F : Format) (s : List ℕ) → minSize ≤ length s → length s ≤ maxSize → layoutOf F s ≡ layoutFrom F (length s) s [] minSize
 unfolding layoutOf
-layout-sized s low high = simp (le-ltb (length s) minSize low, le-ltb maxSize (length s) high)
+layout-sized F s low high = simp (le-ltb (length s) minSize low, le-ltb maxSize (length s) high)
 
 -- any other is refused with 1
-pub layout-unsized : (s : List ℕ) → hasSize (length s) ≡ false → layoutOf s ≡ checkedOf (Fault 1) []
+pub layout-unsized : (F : Format) (s : List ℕ) → hasSize (length s) ≡ false → layoutOf F s ≡ checkedOf (Fault 1) []
 unfolding layoutOf hasSize
-layout-unsized s = by (ltb (length s) minSize) (ltb maxSize (length s))
+layout-unsized F s = by (ltb (length s) minSize) (ltb maxSize (length s))
   where
     by : (a b : Bool) → pick a false (pick b false true) ≡ false
-        → pick a (checkedOf (Fault 1) []) (pick b (checkedOf (Fault 1) []) (layoutFrom (length s) s [] minSize)) ≡ checkedOf (Fault 1) []
+        → pick a (checkedOf (Fault 1) []) (pick b (checkedOf (Fault 1) []) (layoutFrom F (length s) s [] minSize)) ≡ checkedOf (Fault 1) []
     by true b e = refl
     by false true e = refl
     by false false e = absurd (true≢false e)
 
-pub check-unsized : (room s : List ℕ) → hasSize (length s) ≡ false → checkedOf (Fault 1) room ≡ checkSpec room s
+pub check-unsized : (F : Format) (room s : List ℕ) → hasSize (length s) ≡ false → checkedOf (Fault 1) room ≡ checkSpec F room s
 unfolding checkSpec placed
-check-unsized room s h = rw (layout-unsized s h)
+check-unsized F room s h = rw (layout-unsized F s h)

@@ -2,6 +2,7 @@
 pub mod PlacedLaws
 pub mod BytesLaws
 pub mod OptionsLaws
+pub mod PlaceLaws
 pub mod ReadLaws
 pub mod SpanLaws
 pub mod LayoutLaws

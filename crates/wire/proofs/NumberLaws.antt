@@ -8,6 +8,7 @@ use Rattle.wire.specs.Layout.{numberOf, layoutOf}
 use Rattle.wire.specs.declared.layout.Layout.{Layout}
 use Rattle.wire.specs.declared.layout.Layout.the-variants.{Fault, HandshakeAlone, Messages, MessagesAndData}
 use Rattle.wire.proofs.FaultLaws.{Numbered, numbered}
+use Rattle.format.specs.declared.Format.{Format}
 
 up-to-three : (n : ℕ) → n ≤ 3 → OneOf (0 ∷ 1 ∷ 2 ∷ 3 ∷ []) n
 unfolding among
@@ -24,5 +25,5 @@ by-layout (HandshakeAlone a o) h = refl
 by-layout (Messages k) h = refl
 by-layout (MessagesAndData c x b n k) h = refl
 
-pub layout-one : (s : List ℕ) → OneOf (0 ∷ 1 ∷ 2 ∷ 3 ∷ []) (numberOf (layoutOf s .layout))
-layout-one s = by-layout (layoutOf s .layout) (numbered s)
+pub layout-one : (F : Format) (s : List ℕ) → OneOf (0 ∷ 1 ∷ 2 ∷ 3 ∷ []) (numberOf (layoutOf F s .layout))
+layout-one F s = by-layout (layoutOf F s .layout) (numbered F s)

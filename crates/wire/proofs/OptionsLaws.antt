@@ -9,8 +9,9 @@ use lib.Dec.{ltb, eqb}
 use borrow.Author.Tests.{lt-ltb, le-ltb, le-leb, lt-leb, eq-eqb, ne-eqb, ltb-true, ltb-false}
 use Rattle.base.specs.Pick.{pick}
 use Rattle.wire.specs.Bytes.{begins}
-use Rattle.wire.specs.Options.{code, headSize, bodySize, optionSize, optionsFrom, isFixed, fixedHead, fixedTail}
+use Rattle.wire.specs.Options.{code, headSize, bodySize, optionSize, optionsFrom, isFixed, fixedHead, fixedTail, fixedSize, tailPlace}
 use Rattle.wire.proofs.BytesLaws.{part, begins-short}
+use Rattle.format.specs.declared.Format.{Format}
 
 -- the tests of the code
 pub ruleset tests = (le-ltb, lt-ltb, le-leb, lt-leb, eq-eqb, ne-eqb)
@@ -83,31 +84,31 @@ above-one least t n e p q = omega (arith, e)
 
 -- ---- the fixed options
 
-module _ (t : List ℕ) where
+module _ (F : Format) (t : List ℕ) where
   -- too few bytes
-  pub fixed-short : length t < 51 → false ≡ isFixed t
+  pub fixed-short : length t < fixedSize → false ≡ isFixed F t
   unfolding isFixed
-  fixed-short h = by (begins fixedHead t) (begins-short fixedTail (drop 39 t) (omega (arith, length-drop 39 t)))
+  fixed-short h = by (begins fixedHead t) (begins-short (fixedTail F) (drop tailPlace t) (omega (arith, length-drop tailPlace t)))
     where
-      by : (b : Bool) → begins fixedTail (drop 39 t) ≡ false → false ≡ pick b (begins fixedTail (drop 39 t)) false
+      by : (b : Bool) → begins (fixedTail F) (drop tailPlace t) ≡ false → false ≡ pick b (begins (fixedTail F) (drop tailPlace t)) false
       by true e = sym e
       by false e = refl
 
-  -- the fixed options have 51 bytes
-  pub fixed-long : {b : Bool} → b ≡ isFixed t → b ≡ true → 51 ≤ length t
-  fixed-long {b} e p = by (ltb (length t) 51) refl
+  -- the fixed options have their size
+  pub fixed-long : {b : Bool} → b ≡ isFixed F t → b ≡ true → fixedSize ≤ length t
+  fixed-long {b} e p = by (ltb (length t) fixedSize) refl
     where
-      by : (c : Bool) → ltb (length t) 51 ≡ c → 51 ≤ length t
-      by true q = let f = fixed-short (ltb-true (length t) 51 q) in let z : true ≡ false = cc in absurd (true≢false z)
-      by false q = ltb-false (length t) 51 q
+      by : (c : Bool) → ltb (length t) fixedSize ≡ c → fixedSize ≤ length t
+      by true q = let f = fixed-short (ltb-true (length t) fixedSize q) in let z : true ≡ false = cc in absurd (true≢false z)
+      by false q = ltb-false (length t) fixedSize q
 
   module _ (b : Bool) (front : b ≡ begins fixedHead t) where
     -- other bytes before the root
-    pub fixed-front : b ≡ false → false ≡ isFixed t
+    pub fixed-front : b ≡ false → false ≡ isFixed F t
     unfolding isFixed
     fixed-front p = simp (← front, p)
 
     -- the bytes behind the root decide
-    pub fixed-back : b ≡ true → {r : Bool} → r ≡ begins fixedTail (take (length t - 39) (drop 39 t)) → r ≡ isFixed t
+    pub fixed-back : b ≡ true → {r : Bool} → r ≡ begins (fixedTail F) (take (length t - tailPlace) (drop tailPlace t)) → r ≡ isFixed F t
     unfolding isFixed
     fixed-back p q = q ∙ simp (← front, p, part)

@@ -10,20 +10,21 @@ use lib.ListN.{length, getD, take, drop, length-drop}
 use lib.Dec.{ltb, eqb}
 use borrow.Author.Tests.{lt-ltb, le-ltb, eqb-true}
 use Rattle.base.specs.Pick.{pick}
-use Rattle.tree.proofs.Promise.{covers}
 use Rattle.wire.specs.Bytes.{be64}
-use Rattle.wire.specs.Range.{firstOf, lastOf}
-use Rattle.wire.specs.Read.{cursor, whole, ackAt, rangedAt, typed, stepOf, stepAt}
-use Rattle.wire.specs.Steps.{rangeOf, isSingle, isRanged, rangedSize, plainSize, plainMessage, isNode}
+use Rattle.wire.specs.Place.{firstOf, lastOf, integritySize, isEmpty, isSpecial, namedSize, timedSize}
+use Rattle.wire.specs.Read.{cursor, ackAt, rangedAt, typed, stepOf, stepAt, named, namesNode, isRanged}
+use Rattle.wire.specs.Steps.{rangeOf, isSingle, rangedSize, plainSize, plainMessage, isNode, ackSize}
 use Rattle.wire.specs.declared.range.Range.{Range}
 use Rattle.wire.specs.declared.message.Message.{Message}
-use Rattle.wire.specs.declared.message.Message.the-variants.{Ack, Have, Integrity, Request, Cancel}
+use Rattle.wire.specs.declared.message.Message.the-variants.{Ack, Integrity, Empty}
 use Rattle.wire.specs.declared.message.Step.{Step}
 use Rattle.wire.specs.declared.message.Step.the-variants.{Read, Refused}
 use Rattle.wire.proofs.BytesLaws.{part}
-use Rattle.wire.proofs.ReadLaws.{first-is, last-is}
-use Rattle.wire.proofs.ViewLaws.{View, the-end, refused, a-handshake, a-data, an-ack, a-have, an-integrity, a-request, a-cancel, a-choke, an-unchoke, view}
+use Rattle.wire.proofs.PlaceLaws.{not-none, first-is, last-is}
+use Rattle.wire.proofs.ViewLaws.{View, the-end, refused, a-handshake, a-data, an-ack, a-have, an-integrity, a-request, a-cancel, a-choke, an-unchoke, view, an-empty, ranged-types}
 use Rattle.wire.proofs.ViewLaws.{refusing, typed-is, end-is, choke-is, unchoke-is, integrity-is}
+use Rattle.format.specs.declared.Format.{Format}
+use Rattle.tree.proofs.Promise.{first, last}
 
 -- ---- the types
 
@@ -35,15 +36,6 @@ single-types k = by (eqb k 10) refl
     by true e h = inl (eqb-true k 10 e)
     by false e h = inr (eqb-true k 11 h)
 
-ranged-types : (k : ℕ) → isRanged k ≡ true → (k ≡ 3) ⊎ ((k ≡ 8) ⊎ (k ≡ 9))
-unfolding isRanged
-ranged-types k = by (eqb k 3) (eqb k 8) refl refl
-  where
-    by : (a b : Bool) → eqb k 3 ≡ a → eqb k 8 ≡ b → pick a true (pick b true (eqb k 9)) ≡ true → (k ≡ 3) ⊎ ((k ≡ 8) ⊎ (k ≡ 9))
-    by true b d e h = inl (eqb-true k 3 d)
-    by false true d e h = inr (inl (eqb-true k 8 e))
-    by false false d e h = inr (inr (eqb-true k 9 h))
-
 -- a type that a test tells is not another
 not-single : {k n : ℕ} → k ≡ n → isSingle n ≡ true → isSingle k ≡ false → ⊥
 not-single e h g = true≢false (sym h ∙ ap isSingle (sym e) ∙ g)
@@ -51,68 +43,114 @@ not-single e h g = true≢false (sym h ∙ ap isSingle (sym e) ∙ g)
 not-ranged : {k n : ℕ} → k ≡ n → isRanged n ≡ true → isRanged k ≡ false → ⊥
 not-ranged e h g = true≢false (sym h ∙ ap isRanged (sym e) ∙ g)
 
--- ---- a range behind a type
+-- ---- chunks behind a type
 
-module _ (n : ℕ) (t : List ℕ) where
-  pub ranged-cut : length t < n → 0 ≡ rangedSize n t
+module _ (F : Format) (t : List ℕ) {n : ℕ} (ne : n ≡ namedSize F) where
+  pub ranged-cut : length t < n → 0 ≡ rangedSize F t
   unfolding rangedSize
-  ranged-cut h = simp (lt-ltb (length t) n h)
+  ranged-cut h = simp (lt-ltb (length t) (namedSize F) (omega (arith, ne, h)))
 
-  module _ (h : n ≤ length t) (r : Range) (e : r ≡ rangeOf t) where
-    pub ranged-order : r .last < r .first → 0 ≡ rangedSize n t
+  module _ (h : n ≤ length t) {b : Bool} (be : b ≡ isEmpty F t) where
+    pub ranged-empty : b ≡ true → n ≡ rangedSize F t
     unfolding rangedSize
-    ranged-order o = let f = first-is t e in let l = last-is t e in simp (le-ltb (length t) n h, ← f, ← l, lt-ltb (r .last) (r .first) o)
+    ranged-empty p = rw ne (simp (le-ltb (length t) (namedSize F) (omega (arith, ne, h)), ← be, p))
 
-    pub ranged-good : r .first ≤ r .last → n ≡ rangedSize n t
-    unfolding rangedSize
-    ranged-good o = let f = first-is t e in let l = last-is t e in simp (le-ltb (length t) n h, ← f, ← l, le-ltb (r .last) (r .first) o)
+    module _ (z : b ≡ false) (r : Range) (e : r ≡ rangeOf F t) where
+      pub ranged-order : r .last < r .first → 0 ≡ rangedSize F t
+      unfolding rangedSize
+      ranged-order o =
+          let f = first-is F t e in let l = last-is F t e in
+          simp (le-ltb (length t) (namedSize F) (omega (arith, ne, h)), ← be, z, ← f, ← l, lt-ltb (r .last) (r .first) o)
+
+      pub ranged-good : r .first ≤ r .last → n ≡ rangedSize F t
+      unfolding rangedSize
+      ranged-good o =
+          let f = first-is F t e in let l = last-is F t e in
+          rw ne (simp (le-ltb (length t) (namedSize F) (omega (arith, ne, h)), ← be, z, ← f, ← l, le-ltb (r .last) (r .first) o))
+
+  pub ack-cut : length t < n + 8 → 0 ≡ ackSize F t
+  unfolding ackSize
+  ack-cut h = simp (lt-ltb (length t) (timedSize F) (omega (arith, ne, h)))
+
+  module _ (h : n + 8 ≤ length t) {b : Bool} (be : b ≡ isSpecial F t) where
+    pub ack-special : b ≡ true → 0 ≡ ackSize F t
+    unfolding ackSize
+    ack-special p = simp (le-ltb (length t) (timedSize F) (omega (arith, ne, h)), ← be, p)
+
+    module _ (z : b ≡ false) (r : Range) (e : r ≡ rangeOf F t) where
+      pub ack-order : r .last < r .first → 0 ≡ ackSize F t
+      unfolding ackSize
+      ack-order o =
+          let f = first-is F t e in let l = last-is F t e in
+          simp (le-ltb (length t) (timedSize F) (omega (arith, ne, h)), ← be, z, ← f, ← l, lt-ltb (r .last) (r .first) o)
+
+      pub ack-good : r .first ≤ r .last → n + 8 ≡ ackSize F t
+      unfolding ackSize
+      ack-good o =
+          let f = first-is F t e in let l = last-is F t e in
+          rw ne (simp (le-ltb (length t) (timedSize F) (omega (arith, ne, h)), ← be, z, ← f, ← l, le-ltb (r .last) (r .first) o))
 
 -- ---- the size of a plain message
 
--- a message that is cut short or bad has the size 0
-whole-size : (t : List ℕ) (n : ℕ) (bad : Bool) (m : Message) (next : ℕ)
-    → plainSize (whole t n bad m next) ≡ pick (ltb (length t) n) 0 (pick bad 0 (plainSize (Read m (cursor next))))
-whole-size t n bad m next = by (ltb (length t) n) bad
-  where
-    by : (x y : Bool) → plainSize (pick x Refused (pick y Refused (Read m (cursor next)))) ≡ pick x 0 (pick y 0 (plainSize (Read m (cursor next))))
-    by true y = refl
-    by false true = refl
-    by false false = refl
+-- HAVE, REQUEST or CANCEL, by its tests
+ranged-step : (F : Format) (m : Message) (k next : ℕ) → plainSize F (Read m (cursor next)) ≡ namedSize F → (cut none bad : Bool)
+    → plainSize F (pick cut Refused (pick none (Read (Empty k) (cursor next)) (pick bad Refused (Read m (cursor next)))))
+    ≡ pick cut 0 (pick none (namedSize F) (pick bad 0 (namedSize F)))
+ranged-step F m k next e true none bad = refl
+ranged-step F m k next e false true bad = refl
+ranged-step F m k next e false false true = refl
+ranged-step F m k next e false false false = e
 
-module _ (at : ℕ) (t : List ℕ) where
+-- ACK
+ack-step : (F : Format) (f l d next : ℕ) (cut special bad : Bool)
+    → plainSize F (pick cut Refused (pick (pick special true bad) Refused (Read (Ack f l d) (cursor next))))
+    ≡ pick cut 0 (pick special 0 (pick bad 0 (timedSize F)))
+ack-step F f l d next true special bad = refl
+ack-step F f l d next false true bad = refl
+ack-step F f l d next false false true = refl
+ack-step F f l d next false false false = refl
+
+module _ (F : Format) (at : ℕ) (t : List ℕ) where
   -- nothing is left
-  pub size-end : length t < 1 → 0 ≡ plainSize (stepOf at t)
-  size-end h = ap plainSize (sym (end-is at t h))
+  pub size-end : length t < 1 → 0 ≡ plainSize F (stepOf F at t)
+  size-end h = ap (plainSize F) (sym (end-is F at t h))
 
   module _ (h : 1 ≤ length t) where
-    pub size-single : isSingle (getD t 0 0) ≡ true → 1 ≡ plainSize (stepOf at t)
+    pub size-single : isSingle (getD t 0 0) ≡ true → 1 ≡ plainSize F (stepOf F at t)
     size-single e = by (single-types (getD t 0 0) e)
       where
-        by : (getD t 0 0 ≡ 10) ⊎ (getD t 0 0 ≡ 11) → 1 ≡ plainSize (stepOf at t)
-        by (inl k) = ap plainSize (sym (choke-is at t k h))
-        by (inr k) = ap plainSize (sym (unchoke-is at t k h))
+        by : (getD t 0 0 ≡ 10) ⊎ (getD t 0 0 ≡ 11) → 1 ≡ plainSize F (stepOf F at t)
+        by (inl k) = ap (plainSize F) (sym (choke-is F at t k h))
+        by (inr k) = ap (plainSize F) (sym (unchoke-is F at t k h))
 
     -- HAVE, REQUEST or CANCEL
-    pub size-ranged : isRanged (getD t 0 0) ≡ true → rangedSize 9 t ≡ plainSize (stepOf at t)
-    unfolding rangedSize typed rangedAt
+    ranged-plain : (k : ℕ) → plainSize F (Read (named k (firstOf F t) (lastOf F t)) (cursor (at + namedSize F))) ≡ namedSize F → plainSize F (rangedAt F k at t) ≡ rangedSize F t
+    unfolding rangedSize rangedAt
+    ranged-plain k e =
+        ranged-step F (named k (firstOf F t) (lastOf F t)) k (at + namedSize F) e (ltb (length t) (namedSize F)) (isEmpty F t) (ltb (lastOf F t) (firstOf F t))
+
+    pub size-ranged : isRanged (getD t 0 0) ≡ true → rangedSize F t ≡ plainSize F (stepOf F at t)
+    unfolding typed
     size-ranged e = by (ranged-types (getD t 0 0) e)
       where
-        by : (getD t 0 0 ≡ 3) ⊎ ((getD t 0 0 ≡ 8) ⊎ (getD t 0 0 ≡ 9)) → rangedSize 9 t ≡ plainSize (stepOf at t)
-        by (inl k) = sym (ap plainSize (typed-is at t 3 h k) ∙ whole-size t 9 (ltb (lastOf t) (firstOf t)) (Have (firstOf t) (lastOf t)) (at + 9))
-        by (inr (inl k)) = sym (ap plainSize (typed-is at t 8 h k) ∙ whole-size t 9 (ltb (lastOf t) (firstOf t)) (Request (firstOf t) (lastOf t)) (at + 9))
-        by (inr (inr k)) = sym (ap plainSize (typed-is at t 9 h k) ∙ whole-size t 9 (ltb (lastOf t) (firstOf t)) (Cancel (firstOf t) (lastOf t)) (at + 9))
+        by : (getD t 0 0 ≡ 3) ⊎ ((getD t 0 0 ≡ 8) ⊎ (getD t 0 0 ≡ 9)) → rangedSize F t ≡ plainSize F (stepOf F at t)
+        by (inl k) = sym (ap (plainSize F) (typed-is F at t 3 h k) ∙ ranged-plain 3 refl)
+        by (inr (inl k)) = sym (ap (plainSize F) (typed-is F at t 8 h k) ∙ ranged-plain 8 refl)
+        by (inr (inr k)) = sym (ap (plainSize F) (typed-is F at t 9 h k) ∙ ranged-plain 9 refl)
 
     -- ACK
-    pub size-ack : getD t 0 0 ≡ 2 → rangedSize 17 t ≡ plainSize (stepOf at t)
-    unfolding rangedSize typed ackAt
-    size-ack k = sym (ap plainSize (typed-is at t 2 h k) ∙ whole-size t 17 (ltb (lastOf t) (firstOf t)) (Ack (firstOf t) (lastOf t) (be64 t 9)) (at + 17))
+    pub size-ack : getD t 0 0 ≡ 2 → ackSize F t ≡ plainSize F (stepOf F at t)
+    unfolding ackSize typed ackAt
+    size-ack k =
+        sym (ap (plainSize F) (typed-is F at t 2 h k)
+        ∙ ack-step F (firstOf F t) (lastOf F t) (be64 t (namedSize F)) (at + timedSize F) (ltb (length t) (timedSize F)) (isSpecial F t) (ltb (lastOf F t) (firstOf F t)))
 
   -- any other type
-  pub size-other : isSingle (getD t 0 0) ≡ false → isRanged (getD t 0 0) ≡ false → (getD t 0 0 ≡ 2 → ⊥) → 0 ≡ plainSize (stepOf at t)
+  pub size-other : isSingle (getD t 0 0) ≡ false → isRanged (getD t 0 0) ≡ false → (getD t 0 0 ≡ 2 → ⊥) → 0 ≡ plainSize F (stepOf F at t)
   unfolding isSingle isRanged
-  size-other single ranged ack = by (stepOf at t) (view at t)
+  size-other single ranged ack = by (stepOf F at t) (view F at t)
     where
-      by : (st : Step) → View at t st → 0 ≡ plainSize st
+      by : (st : Step) → View F at t st → 0 ≡ plainSize F st
       by _ (the-end l) = refl
       by _ refused = refl
       by _ (a-handshake k l o) = refl
@@ -124,12 +162,13 @@ module _ (at : ℕ) (t : List ℕ) where
       by _ (a-cancel k l o) = absurd (not-ranged k refl ranged)
       by _ (a-choke k l) = absurd (not-single k refl single)
       by _ (an-unchoke k l) = absurd (not-single k refl single)
+      by _ (an-empty k g e l o) = absurd (not-ranged e g ranged)
 
 -- a plain message lies in what is left
-size-fits : (at : ℕ) (t : List ℕ) → plainSize (stepOf at t) ≤ length t
-size-fits at t = by (stepOf at t) (view at t)
+size-fits : (F : Format) (at : ℕ) (t : List ℕ) → plainSize F (stepOf F at t) ≤ length t
+size-fits F at t = by (stepOf F at t) (view F at t)
   where
-    by : (st : Step) → View at t st → plainSize st ≤ length t
+    by : (st : Step) → View F at t st → plainSize F st ≤ length t
     by _ (the-end l) = omega arith
     by _ refused = omega arith
     by _ (a-handshake k l o) = omega arith
@@ -141,44 +180,58 @@ size-fits at t = by (stepOf at t) (view at t)
     by _ (a-cancel k l o) = l
     by _ (a-choke k l) = l
     by _ (an-unchoke k l) = l
+    by _ (an-empty k g e l o) = l
 
 -- one of a type up to 9 has a range
-range-fits : (at : ℕ) (t : List ℕ) (st : Step) → View at t st → (plainSize st ≡ 0 → ⊥) → getD t 0 0 ≤ 9 → 9 ≤ length t
-range-fits at t _ (the-end l) h q = absurd (h refl)
-range-fits at t _ refused h q = absurd (h refl)
-range-fits at t _ (a-handshake k l o) h q = absurd (h refl)
-range-fits at t _ (a-data k l o) h q = absurd (h refl)
-range-fits at t _ (an-ack k l o) h q = omega arith
-range-fits at t _ (a-have k l o) h q = l
-range-fits at t _ (an-integrity k l o) h q = absurd (h refl)
-range-fits at t _ (a-request k l o) h q = l
-range-fits at t _ (a-cancel k l o) h q = l
-range-fits at t _ (a-choke k l) h q = absurd (omega arith)
-range-fits at t _ (an-unchoke k l) h q = absurd (omega arith)
+range-fits : (F : Format) (at : ℕ) (t : List ℕ) (st : Step) → View F at t st → (plainSize F st ≡ 0 → ⊥) → getD t 0 0 ≤ 9 → namedSize F ≤ length t
+range-fits F at t _ (the-end l) h q = absurd (h refl)
+range-fits F at t _ refused h q = absurd (h refl)
+range-fits F at t _ (a-handshake k l o) h q = absurd (h refl)
+range-fits F at t _ (a-data k l o) h q = absurd (h refl)
+range-fits F at t _ (an-ack k l o) h q = omega arith
+range-fits F at t _ (a-have k l o) h q = l
+range-fits F at t _ (an-integrity k l o) h q = absurd (h refl)
+range-fits F at t _ (a-request k l o) h q = l
+range-fits F at t _ (a-cancel k l o) h q = l
+range-fits F at t _ (a-choke k l) h q = absurd (omega arith)
+range-fits F at t _ (an-unchoke k l) h q = absurd (omega arith)
+range-fits F at t _ (an-empty k g e l o) h q = l
+
+-- one over no chunk
+empty-message : (F : Format) (at : ℕ) (t : List ℕ) (k : ℕ) → isRanged k ≡ true → getD t 0 0 ≡ k → isEmpty F t ≡ true
+    → Read (Empty k) (cursor (at + namedSize F)) ≡ Read (plainMessage F t) (cursor (at + namedSize F))
+unfolding plainMessage
+empty-message F at t k g e o = by (ranged-types k g)
+  where
+    by : (k ≡ 3) ⊎ ((k ≡ 8) ⊎ (k ≡ 9)) → Read (Empty k) (cursor (at + namedSize F)) ≡ Read (plainMessage F t) (cursor (at + namedSize F))
+    by (inl q) = rw (e, q, o)
+    by (inr (inl q)) = rw (e, q, o)
+    by (inr (inr q)) = rw (e, q, o)
 
 -- it is the one that its bytes say
-plain-message : (at : ℕ) (t : List ℕ) (st : Step) → View at t st → (plainSize st ≡ 0 → ⊥) → st ≡ Read (plainMessage t) (cursor (at + plainSize st))
+plain-message : (F : Format) (at : ℕ) (t : List ℕ) (st : Step) → View F at t st → (plainSize F st ≡ 0 → ⊥) → st ≡ Read (plainMessage F t) (cursor (at + plainSize F st))
 unfolding plainMessage
-plain-message at t _ (the-end l) h = absurd (h refl)
-plain-message at t _ refused h = absurd (h refl)
-plain-message at t _ (a-handshake k l o) h = absurd (h refl)
-plain-message at t _ (a-data k l o) h = absurd (h refl)
-plain-message at t _ (an-ack k l o) h = rw k
-plain-message at t _ (a-have k l o) h = rw k
-plain-message at t _ (an-integrity k l o) h = absurd (h refl)
-plain-message at t _ (a-request k l o) h = rw k
-plain-message at t _ (a-cancel k l o) h = rw k
-plain-message at t _ (a-choke k l) h = rw k
-plain-message at t _ (an-unchoke k l) h = rw k
+plain-message F at t _ (the-end l) h = absurd (h refl)
+plain-message F at t _ refused h = absurd (h refl)
+plain-message F at t _ (a-handshake k l o) h = absurd (h refl)
+plain-message F at t _ (a-data k l o) h = absurd (h refl)
+plain-message F at t _ (an-ack k l o) h = rw (k, not-none F t (o .0))
+plain-message F at t _ (a-have k l o) h = rw (k, o .0)
+plain-message F at t _ (an-integrity k l o) h = absurd (h refl)
+plain-message F at t _ (a-request k l o) h = rw (k, o .0)
+plain-message F at t _ (a-cancel k l o) h = rw (k, o .0)
+plain-message F at t _ (a-choke k l) h = rw k
+plain-message F at t _ (an-unchoke k l) h = rw k
+plain-message F at t _ (an-empty k g e l o) h = empty-message F at t k g e o
 
 -- ---- INTEGRITY
 
-module _ (at : ℕ) (t : List ℕ) where
+module _ (F : Format) (at : ℕ) (t : List ℕ) where
   -- another type, or fewer bytes
-  pub node-other : (getD t 0 0 ≡ 4 → 41 ≤ length t → ⊥) → false ≡ isNode (stepOf at t)
-  node-other h = by (stepOf at t) (view at t)
+  pub node-other : (getD t 0 0 ≡ 4 → integritySize F ≤ length t → ⊥) → false ≡ isNode (stepOf F at t)
+  node-other h = by (stepOf F at t) (view F at t)
     where
-      by : (st : Step) → View at t st → false ≡ isNode st
+      by : (st : Step) → View F at t st → false ≡ isNode st
       by _ (the-end l) = refl
       by _ refused = refl
       by _ (a-handshake k l o) = refl
@@ -190,20 +243,21 @@ module _ (at : ℕ) (t : List ℕ) where
       by _ (a-cancel k l o) = refl
       by _ (a-choke k l) = refl
       by _ (an-unchoke k l) = refl
+      by _ (an-empty k g e l o) = refl
 
-  -- its range decides
-  pub node-by : getD t 0 0 ≡ 4 → 41 ≤ length t → isNode (stepOf at t) ≡ covers (firstOf t + lastOf t) (firstOf t) (lastOf t)
-  node-by k l = ap isNode (integrity-is at t k l) ∙ by (covers (firstOf t + lastOf t) (firstOf t) (lastOf t))
+  -- its chunks decide
+  pub node-by : getD t 0 0 ≡ 4 → integritySize F ≤ length t → isNode (stepOf F at t) ≡ namesNode F t
+  node-by k l = ap isNode (integrity-is F at t k l) ∙ by (namesNode F t)
     where
-      by : (b : Bool) → isNode (refusing (not b) (Read (Integrity (firstOf t) (lastOf t) (at + 9)) (cursor (at + 41)))) ≡ b
+      by : (b : Bool) → isNode (refusing (not b) (Read (Integrity (firstOf F t) (lastOf F t) (at + namedSize F)) (cursor (at + integritySize F)))) ≡ b
       by true = refl
       by false = refl
 
--- an INTEGRITY message has 41 bytes
-node-fits : (at : ℕ) (t : List ℕ) → isNode (stepOf at t) ≡ true → 41 ≤ length t
-node-fits at t = by (stepOf at t) (view at t)
+-- an INTEGRITY message has its size
+node-fits : (F : Format) (at : ℕ) (t : List ℕ) → isNode (stepOf F at t) ≡ true → integritySize F ≤ length t
+node-fits F at t = by (stepOf F at t) (view F at t)
   where
-    by : (st : Step) → View at t st → isNode st ≡ true → 41 ≤ length t
+    by : (st : Step) → View F at t st → isNode st ≡ true → integritySize F ≤ length t
     by _ (the-end l) e = absurd (true≢false (sym e))
     by _ refused e = absurd (true≢false (sym e))
     by _ (a-handshake k l o) e = absurd (true≢false (sym e))
@@ -215,50 +269,51 @@ node-fits at t = by (stepOf at t) (view at t)
     by _ (a-cancel k l o) e = absurd (true≢false (sym e))
     by _ (a-choke k l) e = absurd (true≢false (sym e))
     by _ (an-unchoke k l) e = absurd (true≢false (sym e))
+    by _ (an-empty k g d l o) e = absurd (true≢false (sym e))
 
 -- ---- at a place of a datagram, with what is left of it as the code has it
 
-module _ (s : List ℕ) (at : ℕ) where
-  pub here-end : length s ≤ at → (0 ≡ plainSize (stepAt s at)) × (false ≡ isNode (stepAt s at))
-  here-end h = let l : length (drop at s) < 1 = omega (arith, length-drop at s) in (size-end at (drop at s) l, node-other at (drop at s) (λ k z. omega (arith, l, z)))
+module _ (F : Format) (s : List ℕ) (at : ℕ) where
+  pub here-end : length s ≤ at → (0 ≡ plainSize F (stepAt F s at)) × (false ≡ isNode (stepAt F s at))
+  here-end h = let l : length (drop at s) < 1 = omega (arith, length-drop at s) in (size-end F at (drop at s) l, node-other F at (drop at s) (λ k z. omega (arith, l, z)))
 
   module _ (h : at < length s) where
     left : 1 ≤ length (drop at s)
     left = omega (arith, length-drop at s)
 
-    pub here-single : {b : Bool} → b ≡ isSingle (getD (take (length s - at) (drop at s)) 0 0) → b ≡ true → 1 ≡ plainSize (stepAt s at)
-    here-single e p = size-single at (drop at s) left (sym (rw part at e) ∙ p)
+    pub here-single : {b : Bool} → b ≡ isSingle (getD (take (length s - at) (drop at s)) 0 0) → b ≡ true → 1 ≡ plainSize F (stepAt F s at)
+    here-single e p = size-single F at (drop at s) left (sym (rw part at e) ∙ p)
 
     pub here-ranged : {b : Bool} → b ≡ isRanged (getD (take (length s - at) (drop at s)) 0 0) → b ≡ true
-        → {n : ℕ} → n ≡ rangedSize 9 (take (length s - at) (drop at s)) → n ≡ plainSize (stepAt s at)
-    here-ranged e p g = rw part at g ∙ size-ranged at (drop at s) left (sym (rw part at e) ∙ p)
+        → {n : ℕ} → n ≡ rangedSize F (take (length s - at) (drop at s)) → n ≡ plainSize F (stepAt F s at)
+    here-ranged e p g = rw part at g ∙ size-ranged F at (drop at s) left (sym (rw part at e) ∙ p)
 
-    pub here-ack : getD (take (length s - at) (drop at s)) 0 0 ≡ 2 → {n : ℕ} → n ≡ rangedSize 17 (take (length s - at) (drop at s)) → n ≡ plainSize (stepAt s at)
-    here-ack k g = rw part at g ∙ size-ack at (drop at s) left (rw part at k)
+    pub here-ack : getD (take (length s - at) (drop at s)) 0 0 ≡ 2 → {n : ℕ} → n ≡ ackSize F (take (length s - at) (drop at s)) → n ≡ plainSize F (stepAt F s at)
+    here-ack k g = rw part at g ∙ size-ack F at (drop at s) left (rw part at k)
 
   pub here-other : {a b : Bool} → a ≡ isSingle (getD (take (length s - at) (drop at s)) 0 0) → a ≡ false
       → b ≡ isRanged (getD (take (length s - at) (drop at s)) 0 0) → b ≡ false
-      → (getD (take (length s - at) (drop at s)) 0 0 ≡ 2 → ⊥) → 0 ≡ plainSize (stepAt s at)
-  here-other e p g q k = size-other at (drop at s) (sym (rw part at e) ∙ p) (sym (rw part at g) ∙ q) (rw part at k)
+      → (getD (take (length s - at) (drop at s)) 0 0 ≡ 2 → ⊥) → 0 ≡ plainSize F (stepAt F s at)
+  here-other e p g q k = size-other F at (drop at s) (sym (rw part at e) ∙ p) (sym (rw part at g) ∙ q) (rw part at k)
 
   -- another type than INTEGRITY's, or too few bytes
-  pub here-no-node : (getD (take (length s - at) (drop at s)) 0 0 ≡ 4 → 41 ≤ length (take (length s - at) (drop at s)) → ⊥) → false ≡ isNode (stepAt s at)
-  here-no-node k = node-other at (drop at s) (rw part at k)
+  pub here-no-node : (getD (take (length s - at) (drop at s)) 0 0 ≡ 4 → integritySize F ≤ length (take (length s - at) (drop at s)) → ⊥) → false ≡ isNode (stepAt F s at)
+  here-no-node k = node-other F at (drop at s) (rw part at k)
 
-  -- its range decides
-  pub here-node : getD (take (length s - at) (drop at s)) 0 0 ≡ 4 → 41 ≤ length (take (length s - at) (drop at s)) → (r : Range) → r ≡ rangeOf (take (length s - at) (drop at s))
-      → {b : Bool} → covers (r .first + r .last) (r .first) (r .last) ≡ b → b ≡ isNode (stepAt s at)
-  here-node k l r e g = let q = rw part at e in sym (node-by at (drop at s) (rw part at k) (rw part at l) ∙ rw (← first-is (drop at s) q, ← last-is (drop at s) q) g)
+  -- its chunks decide
+  pub here-node : getD (take (length s - at) (drop at s)) 0 0 ≡ 4 → {n : ℕ} → n ≡ namedSize F → n + 32 ≤ length (take (length s - at) (drop at s))
+      → {b : Bool} → b ≡ namesNode F (take (length s - at) (drop at s)) → b ≡ isNode (stepAt F s at)
+  here-node k ne l e = rw part at e ∙ sym (node-by F at (drop at s) (rw part at k) (omega (arith, ne, ap length (part at s), l)))
 
   -- the message lies in the datagram
-  pub size-inside : {n : ℕ} → n ≡ plainSize (stepAt s at) → (n ≡ 0 → ⊥) → at + n ≤ length s
-  size-inside e h = omega (arith, e, h, size-fits at (drop at s), length-drop at s)
+  pub size-inside : {n : ℕ} → n ≡ plainSize F (stepAt F s at) → (n ≡ 0 → ⊥) → at + n ≤ length s
+  size-inside e h = omega (arith, e, h, size-fits F at (drop at s), length-drop at s)
 
-  pub node-inside : {b : Bool} → b ≡ isNode (stepAt s at) → b ≡ true → at + 41 ≤ length s
-  node-inside e h = omega (arith, node-fits at (drop at s) (sym e ∙ h), length-drop at s)
+  pub node-inside : {b : Bool} → b ≡ isNode (stepAt F s at) → b ≡ true → at + integritySize F ≤ length s
+  node-inside e h = omega (arith, node-fits F at (drop at s) (sym e ∙ h), length-drop at s)
 
-  pub plain-read : {n : ℕ} → n ≡ plainSize (stepAt s at) → (n ≡ 0 → ⊥) → stepAt s at ≡ Read (plainMessage (drop at s)) (cursor (at + n))
-  plain-read e h = rw e (plain-message at (drop at s) (stepAt s at) (view at (drop at s)) (λ q. h (e ∙ q)))
+  pub plain-read : {n : ℕ} → n ≡ plainSize F (stepAt F s at) → (n ≡ 0 → ⊥) → stepAt F s at ≡ Read (plainMessage F (drop at s)) (cursor (at + n))
+  plain-read e h = rw e (plain-message F at (drop at s) (stepAt F s at) (view F at (drop at s)) (λ q. h (e ∙ q)))
 
-  pub size-range : {n : ℕ} → n ≡ plainSize (stepAt s at) → (n ≡ 0 → ⊥) → getD (drop at s) 0 0 ≤ 9 → 9 ≤ length (drop at s)
-  size-range e h = range-fits at (drop at s) (stepAt s at) (view at (drop at s)) (λ q. h (e ∙ q))
+  pub size-range : {n : ℕ} → n ≡ plainSize F (stepAt F s at) → (n ≡ 0 → ⊥) → getD (drop at s) 0 0 ≤ 9 → namedSize F ≤ length (drop at s)
+  size-range e h = range-fits F at (drop at s) (stepAt F s at) (view F at (drop at s)) (λ q. h (e ∙ q))

@@ -9,7 +9,7 @@ use Rattle.wire.proofs.message.Message as message
 use Rattle.wire.specs.Layout.{numberOf}
 use Rattle.wire.specs.Steps.{noSurvey, passOf, lastOn}
 use Rattle.wire.specs.declared.message.Message.{Message}
-use Rattle.wire.specs.declared.message.Message.the-variants.{Handshake, Data, Ack, Have, Integrity, Request, Cancel, Choke, Unchoke}
+use Rattle.wire.specs.declared.message.Message.the-variants.{Handshake, Data, Ack, Have, Integrity, Request, Cancel, Choke, Unchoke, Empty}
 use Rattle.wire.specs.declared.layout.Layout.{Layout}
 use Rattle.wire.specs.declared.layout.Layout.the-variants.{Fault, HandshakeAlone, Messages, MessagesAndData}
 use Rattle.wire.specs.declared.survey.Survey.{Survey}
@@ -27,7 +27,7 @@ number-sound (MessagesAndData c x b n k) h = refl
 
 -- neither HANDSHAKE nor DATA
 abbrev others : List ℕ
-others = 2 ∷ 3 ∷ 4 ∷ 5 ∷ 6 ∷ 7 ∷ 8 ∷ []
+others = 2 ∷ 3 ∷ 4 ∷ 5 ∷ 6 ∷ 7 ∷ 8 ∷ 9 ∷ []
 
 pub last-other : (s : List ℕ) (used at : ℕ) (v : Survey) (next : ℕ) (m : Message) → OneOf others (tagOf message.the-type m)
     → {w : Survey} → w ≡ noSurvey → passOf (Fault 2) w ≡ lastOn s used at v next m
@@ -40,3 +40,4 @@ last-other s used at v next (Request f l) h e = rw e
 last-other s used at v next (Cancel f l) h e = rw e
 last-other s used at v next Choke h e = rw e
 last-other s used at v next Unchoke h e = rw e
+last-other s used at v next (Empty k) h e = rw e

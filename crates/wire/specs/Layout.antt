@@ -6,13 +6,14 @@ use mathlib.Core.Bool.{Bool, true, false}
 use lib.ListN.{length}
 use lib.Dec.{ltb, eqb}
 use Rattle.base.specs.Pick.{pick}
+use Rattle.format.specs.declared.Format.{Format}
 use Rattle.wire.specs.Bytes.{be32}
 use Rattle.wire.specs.Limits.{minSize, maxSize}
 use Rattle.wire.specs.Read.{stepNumber, stepAt}
 use Rattle.wire.specs.declared.message.Options.{Options}
 use Rattle.wire.specs.declared.message.Options.the-variants.{Fixed, EndOnly, Other}
 use Rattle.wire.specs.declared.message.Message.{Message}
-use Rattle.wire.specs.declared.message.Message.the-variants.{Handshake, Data, Ack, Have, Integrity, Request, Cancel, Choke, Unchoke}
+use Rattle.wire.specs.declared.message.Message.the-variants.{Handshake, Data, Ack, Have, Integrity, Request, Cancel, Choke, Unchoke, Empty}
 use Rattle.wire.specs.declared.message.Step.{Step}
 use Rattle.wire.specs.declared.message.Step.the-variants.{Read, End, Refused}
 use Rattle.wire.specs.declared.layout.Layout.{Layout}
@@ -72,6 +73,7 @@ layoutOn s es at next (Request f l) rest = rest es
 layoutOn s es at next (Cancel f l) rest = rest es
 layoutOn s es at next Choke rest = rest es
 layoutOn s es at next Unchoke rest = rest es
+layoutOn s es at next (Empty k) rest = rest es
 
 abbrev pub layoutStep : List ℕ → List ℕ → ℕ → Step → (List ℕ → ℕ → Checked) → Checked
 layoutStep s es at (Read m next) rest = layoutOn s es at (next .at) m (λ gs. rest gs (next .at))
@@ -80,13 +82,13 @@ layoutStep s es at Refused rest = checkedOf (Fault (stepNumber Refused)) es
 
 -- The messages from `at` on, of which there are at most n: n is the datagram's length at first, and each message has a byte
 -- at least, so it is never used up.
-unfoldable pub layoutFrom : ℕ → List ℕ → List ℕ → ℕ → Checked
-layoutFrom zero s es at = checkedOf (Messages (length es)) es
-layoutFrom (suc n) s es at = layoutStep s es at (stepAt s at) (λ gs next. layoutFrom n s gs next)
+unfoldable pub layoutFrom : Format → ℕ → List ℕ → List ℕ → ℕ → Checked
+layoutFrom F zero s es at = checkedOf (Messages (length es)) es
+layoutFrom F (suc n) s es at = layoutStep s es at (stepAt F s at) (λ gs next. layoutFrom F n s gs next)
 
 -- The size, then the messages behind the destination.
-unfoldable pub layoutOf : List ℕ → Checked
-layoutOf s =
+unfoldable pub layoutOf : Format → List ℕ → Checked
+layoutOf F s =
     pick (ltb (length s) minSize) (checkedOf (Fault 1) [])
     (pick (ltb maxSize (length s)) (checkedOf (Fault 1) [])
-    (layoutFrom (length s) s [] minSize))
+    (layoutFrom F (length s) s [] minSize))

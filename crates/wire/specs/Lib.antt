@@ -1,6 +1,6 @@
 pub mod Bytes
 pub mod Limits
-pub mod Range
+pub mod Place
 pub mod Options
 pub mod Read
 pub mod Layout

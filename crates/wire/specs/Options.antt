@@ -5,6 +5,8 @@ use mathlib.Core.Bool.{Bool, false}
 use lib.ListN.{length, getD, drop}
 use lib.Dec.{ltb, eqb}
 use Rattle.base.specs.Pick.{pick}
+use Rattle.format.specs.Format.{methodOf}
+use Rattle.format.specs.declared.Format.{Format}
 use Rattle.wire.specs.Bytes.{be16, begins}
 
 abbrev pub code : List ℕ → ℕ
@@ -42,13 +44,23 @@ optionsFrom (suc n) least t at =
 unfoldable pub optionsSize : List ℕ → ℕ
 optionsSize t = optionsFrom 11 0 t 0
 
--- The fixed options before and after the root's 32 bytes.
+-- The fixed options before and after the root's 32 bytes; option 6 names the order's method ("option 6 must match it").
 abbrev pub fixedHead : List ℕ
 fixedHead = 0 ∷ 1 ∷ 1 ∷ 1 ∷ 2 ∷ 0 ∷ 32 ∷ []
 
-abbrev pub fixedTail : List ℕ
-fixedTail = 3 ∷ 1 ∷ 4 ∷ 2 ∷ 6 ∷ 2 ∷ 9 ∷ 0 ∷ 0 ∷ 4 ∷ 0 ∷ 255 ∷ []
+abbrev pub fixedTail : Format → List ℕ
+fixedTail F = 3 ∷ 1 ∷ 4 ∷ 2 ∷ 6 ∷ methodOf F ∷ 9 ∷ 0 ∷ 0 ∷ 4 ∷ 0 ∷ 255 ∷ []
+
+-- Where the root and the options behind it begin, and the size of all.
+abbrev pub rootPlace : ℕ
+rootPlace = length fixedHead
+
+abbrev pub tailPlace : ℕ
+tailPlace = rootPlace + 32
+
+abbrev pub fixedSize : ℕ
+fixedSize = tailPlace + 12
 
 -- Whether t begins with the fixed options around some root; their last byte is End, so nothing can follow in the options.
-unfoldable pub isFixed : List ℕ → Bool
-isFixed t = pick (begins fixedHead t) (begins fixedTail (drop 39 t)) false
+unfoldable pub isFixed : Format → List ℕ → Bool
+isFixed F t = pick (begins fixedHead t) (begins (fixedTail F) (drop tailPlace t)) false

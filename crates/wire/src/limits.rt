@@ -5,5 +5,5 @@ pub const MIN_SIZE: usize = 4;
 
 pub const MAX_SIZE: usize = 2048;
 
-// Room for the nodes of a datagram, two words for each INTEGRITY message: 49 of 41 bytes fit.
-pub const ENTRIES: usize = 98;
+// Room for the nodes of a datagram, two words for each INTEGRITY message: 55 of 37 bytes, the fewest that one has, fit.
+pub const ENTRIES: usize = 110;

@@ -47,6 +47,10 @@ pub enum Message {
     },
     Choke,
     Unchoke,
+    // HAVE, REQUEST or CANCEL, by its type, over no chunk at all: bins alone can say so.
+    Empty {
+        kind: u8,
+    },
 }
 
 // Where reading stands in a datagram.

@@ -2,13 +2,35 @@
 ghost use mathlib.Core.Path.{_≡_};
 ghost use Prim.Native.Nat.{_+_, _≤_, _<_};
 ghost use lib.ListN.{length, getD};
-ghost use Rattle.wire.specs.Options.{headSize, bodySize, optionSize, optionsSize, isFixed};
+ghost use Rattle.wire.specs.Options.{headSize, bodySize, optionSize, optionsSize, fixedTail, isFixed};
 use crate::bytes;
+use format::Addressing;
+use format::Format;
 
 // The fixed options before and after the root's 32 bytes.
 pub const FIXED_HEAD: [u8; 7] = [0, 1, 1, 1, 2, 0, 32];
 
-pub const FIXED_TAIL: [u8; 12] = [3, 1, 4, 2, 6, 2, 9, 0, 0, 4, 0, 255];
+const BINS_TAIL: [u8; 12] = [3, 1, 4, 2, 6, 0, 9, 0, 0, 4, 0, 255];
+
+const RANGES_TAIL: [u8; 12] = [3, 1, 4, 2, 6, 2, 9, 0, 0, 4, 0, 255];
+
+// Where the root and the options behind it begin, and the size of all.
+pub const ROOT_PLACE: usize = 7;
+
+pub const TAIL_PLACE: usize = ROOT_PLACE + 32;
+
+pub const FIXED_SIZE: usize = TAIL_PLACE + 12;
+
+// Those behind the root: option 6 names the method.
+pub fn fixed_tail(format: Format) -> [u8; 12]
+    ensures { λ r. ⌜ r ≡ fixedTail format ⌝ }
+{
+    let addressing = format.addressing;
+    match addressing {
+        Addressing::Bins => BINS_TAIL,
+        Addressing::Ranges => RANGES_TAIL,
+    }
+}
 
 fn index(x: u32) -> usize
     ensures { λ r. ⌜ r ≡ x ⌝ }
@@ -94,14 +116,15 @@ pub(crate) fn options_size(options: &[u8]) -> usize
 }
 
 // Whether they begin with the fixed options around some root.
-pub(crate) fn is_fixed(options: &[u8]) -> bool
-    ensures { λ r. ⌜ r ≡ isFixed (now (options .entry)) ⌝ }
+pub(crate) fn is_fixed(format: Format, options: &[u8]) -> bool
+    ensures { λ r. ⌜ r ≡ isFixed format (now (options .entry)) ⌝ }
 {
-    if options.len() < 51 {
+    if options.len() < FIXED_SIZE {
         return false;
     }
     if !bytes::begins(options, &FIXED_HEAD) {
         return false;
     }
-    bytes::begins(&options[39..], &FIXED_TAIL)
+    let tail = fixed_tail(format);
+    bytes::begins(&options[TAIL_PLACE..], &tail)
 }

@@ -20,6 +20,7 @@ use crate::range;
 use crate::read;
 use crate::survey;
 use crate::survey::Survey;
+use format::Format;
 
 // What a pass gives.
 pub struct Pass {
@@ -37,20 +38,20 @@ pub struct Front {
 
 // Passes over the plain messages at the front of a datagram of sound size. No room is needed for them, and most datagrams
 // have no others.
-pub fn plain_front(datagram: &[u8]) -> Front
+pub fn plain_front(format: Format, datagram: &[u8]) -> Front
     requires { ⌜ minSize ≤ length (now datagram) ⌝ }
     requires { ⌜ length (now datagram) ≤ maxSize ⌝ }
-    ensures { λ r. ⌜ Fronted (now (datagram .entry)) r ⌝ }
+    ensures { λ r. ⌜ Fronted format (now (datagram .entry)) r ⌝ }
 {
     let mut at: usize = MIN_SIZE;
     let mut left: usize = datagram.len();
     let mut survey = survey::no_survey();
     while 0 < left {
-        let size = plain::size(datagram, at);
+        let size = plain::size(format, datagram, at);
         if size == 0 {
             return Front { at, left, survey };
         }
-        survey = survey::acting(survey, &datagram[at..], size);
+        survey = survey::acting(format, survey, &datagram[at..], size);
         at = at + size;
         left = left - 1;
     }
@@ -140,9 +141,9 @@ fn last_message(
 }
 
 // What stands at `at`, where it is neither a plain message nor INTEGRITY.
-fn last_turn(datagram: &[u8], at: usize, used: usize, survey: Survey) -> Pass
+fn last_turn(format: Format, datagram: &[u8], at: usize, used: usize, survey: Survey) -> Pass
     requires { ⌜ minSize ≤ length (now datagram) ⌝ }
-    ensures { λ r. ⌜ r ≡ lastAt (now (datagram .entry)) used at survey (stepAt (now (datagram .entry)) at) ⌝ }
+    ensures { λ r. ⌜ r ≡ lastAt (now (datagram .entry)) used at survey (stepAt format (now (datagram .entry)) at) ⌝ }
 {
     if datagram.len() <= at {
         return Pass {
@@ -150,7 +151,7 @@ fn last_turn(datagram: &[u8], at: usize, used: usize, survey: Survey) -> Pass
             survey,
         };
     }
-    match read::read(datagram, Cursor { at }) {
+    match read::read(format, datagram, Cursor { at }) {
         Step::Read { message, next } => {
             last_message(datagram, at, used, survey, next.at, message)
         }
@@ -166,42 +167,50 @@ fn last_turn(datagram: &[u8], at: usize, used: usize, survey: Survey) -> Pass
 }
 
 // What stands at `at`.
-fn take_turn(datagram: &[u8], entries: &mut [u64], at: usize, used: usize, survey: Survey) -> Turn
+fn take_turn(
+    format: Format,
+    datagram: &[u8],
+    entries: &mut [u64],
+    at: usize,
+    used: usize,
+    survey: Survey,
+) -> Turn
     requires { ⌜ Standing (now datagram) (length (now entries)) at used ⌝ }
     ensures { λ r. ⌜ turnedOf r (now (entries .exit))
-        ≡ turnAt (now (datagram .entry)) (now (entries .entry)) used at survey (stepAt (now (datagram .entry)) at) ⌝ }
+        ≡ turnAt format (now (datagram .entry)) (now (entries .entry)) used at survey (stepAt format (now (datagram .entry)) at) ⌝ }
 {
-    let size = plain::size(datagram, at);
+    let size = plain::size(format, datagram, at);
     if size != 0 {
         return Turn::On {
             at: at + size,
             entries: used,
-            survey: survey::acting(survey, &datagram[at..], size),
+            survey: survey::acting(format, survey, &datagram[at..], size),
         };
     }
-    if plain::is_node(datagram, at) {
-        let chunks = range::read(&datagram[at..]);
+    if plain::is_node(format, datagram, at) {
+        let named = range::named_size(format);
+        let chunks = range::read(format, &datagram[at..]);
         let node = chunks.first as u64 + chunks.last as u64;
         return note(
             entries,
             used,
             survey::naming(survey, chunks.last),
             node,
-            at + 9,
-            at + 41,
+            at + named,
+            at + (named + 32),
         );
     }
     Turn::Over {
-        pass: last_turn(datagram, at, used, survey),
+        pass: last_turn(format, datagram, at, used, survey),
     }
 }
 
 // The messages behind the front.
-fn pass_behind(datagram: &[u8], entries: &mut [u64], front: Front) -> Pass
-    requires { ⌜ Fronted (now datagram) front ⌝ }
+fn pass_behind(format: Format, datagram: &[u8], entries: &mut [u64], front: Front) -> Pass
+    requires { ⌜ Fronted format (now datagram) front ⌝ }
     requires { ⌜ entryWords ≤ length (now entries) ⌝ }
-    ensures { λ r. ⌜ (checkedOf (r .layout) (now (entries .exit)) ≡ checkSpec (now (entries .entry)) (now (datagram .entry)))
-        × (r .survey ≡ surveySpec (now (datagram .entry))) ⌝ }
+    ensures { λ r. ⌜ (checkedOf (r .layout) (now (entries .exit)) ≡ checkSpec format (now (entries .entry)) (now (datagram .entry)))
+        × (r .survey ≡ surveySpec format (now (datagram .entry))) ⌝ }
 {
     let mut at: usize = front.at;
     let mut used: usize = 0;
@@ -209,7 +218,7 @@ fn pass_behind(datagram: &[u8], entries: &mut [u64], front: Front) -> Pass
     let mut survey = front.survey;
     while 0 < left {
         left = left - 1;
-        match take_turn(datagram, entries, at, used, survey) {
+        match take_turn(format, datagram, entries, at, used, survey) {
             Turn::On {
                 at: next,
                 entries: n,
@@ -232,12 +241,12 @@ fn pass_behind(datagram: &[u8], entries: &mut [u64], front: Front) -> Pass
 
 // Goes on behind the front. The nodes of INTEGRITY messages and the places of their hashes are written to `entries`,
 // scratch of the caller, from its front, as far as the messages were read.
-pub fn rest(datagram: &[u8], entries: &mut [u64; ENTRIES], front: Front) -> Pass
-    requires { ⌜ Fronted (now datagram) front ⌝ }
-    ensures { λ r. ⌜ (checkedOf (r .layout) (now (entries .exit)) ≡ checkSpec (now (entries .entry)) (now (datagram .entry)))
-        × (r .survey ≡ surveySpec (now (datagram .entry))) ⌝ }
+pub fn rest(format: Format, datagram: &[u8], entries: &mut [u64; ENTRIES], front: Front) -> Pass
+    requires { ⌜ Fronted format (now datagram) front ⌝ }
+    ensures { λ r. ⌜ (checkedOf (r .layout) (now (entries .exit)) ≡ checkSpec format (now (entries .entry)) (now (datagram .entry)))
+        × (r .survey ≡ surveySpec format (now (datagram .entry))) ⌝ }
 {
-    pass_behind(datagram, entries, front)
+    pass_behind(format, datagram, entries, front)
 }
 
 // Whether a datagram has a sound size.
@@ -254,13 +263,13 @@ pub fn has_size(datagram: &[u8]) -> bool
 }
 
 // The checks of size and layout, for whoever has a slice for the entries.
-pub fn check(datagram: &[u8], entries: &mut [u64]) -> Layout
+pub fn check(format: Format, datagram: &[u8], entries: &mut [u64]) -> Layout
     requires { ⌜ entryWords ≤ length (now entries) ⌝ }
-    ensures { λ r. ⌜ checkedOf r (now (entries .exit)) ≡ checkSpec (now (entries .entry)) (now (datagram .entry)) ⌝ }
+    ensures { λ r. ⌜ checkedOf r (now (entries .exit)) ≡ checkSpec format (now (entries .entry)) (now (datagram .entry)) ⌝ }
 {
     if !has_size(datagram) {
         return Layout::Fault { number: 1 };
     }
-    let found = pass_behind(datagram, entries, plain_front(datagram));
+    let found = pass_behind(format, datagram, entries, plain_front(format, datagram));
     found.layout
 }

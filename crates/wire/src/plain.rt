@@ -1,13 +1,11 @@
 // Plain messages: those that change what a channel knows of its peer, which are ACK, HAVE, REQUEST, CANCEL, CHOKE and
 // UNCHOKE. A pass over a datagram tells them by their size, without a message value.
 ghost use mathlib.Core.Path.{_≡_};
-ghost use Prim.Native.Nat.{_≤_};
 ghost use lib.ListN.{length};
-ghost use Rattle.wire.specs.Read.{stepAt};
-ghost use Rattle.wire.specs.Steps.{isSingle, isRanged, rangedSize, plainSize, isNode};
+ghost use Rattle.wire.specs.Read.{stepAt, isRanged};
+ghost use Rattle.wire.specs.Steps.{isSingle, rangedSize, ackSize, plainSize, isNode};
 use crate::range;
-use tree::bin;
-use tree::bin::RangeNode;
+use format::Format;
 
 // CHOKE and UNCHOKE: a type alone.
 fn is_single(kind: u8) -> bool
@@ -20,7 +18,7 @@ fn is_single(kind: u8) -> bool
 }
 
 // HAVE, REQUEST and CANCEL: a type and a range.
-fn is_ranged(kind: u8) -> bool
+pub fn is_ranged(kind: u8) -> bool
     ensures { λ r. ⌜ r ≡ isRanged kind ⌝ }
 {
     if kind == 3 {
@@ -32,15 +30,36 @@ fn is_ranged(kind: u8) -> bool
     kind == 9
 }
 
-// `size`, if the message has as many bytes and its range is in order; else 0.
-fn ranged_size(rest: &[u8], size: usize) -> usize
-    requires { ⌜ 9 ≤ size ⌝ }
-    ensures { λ r. ⌜ r ≡ rangedSize size (now (rest .entry)) ⌝ }
+// The size of HAVE, REQUEST or CANCEL, if the message has as many bytes and its chunks are in order, or none; else 0.
+fn ranged_size(format: Format, rest: &[u8]) -> usize
+    ensures { λ r. ⌜ r ≡ rangedSize format (now (rest .entry)) ⌝ }
 {
+    let size = range::named_size(format);
     if rest.len() < size {
         return 0;
     }
-    let chunks = range::read(rest);
+    if range::is_empty(format, rest) {
+        return size;
+    }
+    let chunks = range::read(format, rest);
+    if chunks.last < chunks.first {
+        return 0;
+    }
+    size
+}
+
+// The size of ACK, if the message has as many bytes and its chunks are in order, and neither none nor all; else 0.
+fn ack_size(format: Format, rest: &[u8]) -> usize
+    ensures { λ r. ⌜ r ≡ ackSize format (now (rest .entry)) ⌝ }
+{
+    let size = range::named_size(format) + 8;
+    if rest.len() < size {
+        return 0;
+    }
+    if range::is_special(format, rest) {
+        return 0;
+    }
+    let chunks = range::read(format, rest);
     if chunks.last < chunks.first {
         return 0;
     }
@@ -48,8 +67,8 @@ fn ranged_size(rest: &[u8], size: usize) -> usize
 }
 
 // The size of the plain message at a place of a datagram, 0 where none stands there.
-pub fn size(datagram: &[u8], at: usize) -> usize
-    ensures { λ r. ⌜ r ≡ plainSize (stepAt (now (datagram .entry)) at) ⌝ }
+pub fn size(format: Format, datagram: &[u8], at: usize) -> usize
+    ensures { λ r. ⌜ r ≡ plainSize format (stepAt format (now (datagram .entry)) at) ⌝ }
 {
     if datagram.len() <= at {
         return 0;
@@ -60,17 +79,17 @@ pub fn size(datagram: &[u8], at: usize) -> usize
         return 1;
     }
     if is_ranged(kind) {
-        return ranged_size(rest, 9);
+        return ranged_size(format, rest);
     }
     if kind == 2 {
-        return ranged_size(rest, 17);
+        return ack_size(format, rest);
     }
     0
 }
 
 // Whether an INTEGRITY message stands at a place of a datagram.
-pub(crate) fn is_node(datagram: &[u8], at: usize) -> bool
-    ensures { λ r. ⌜ r ≡ isNode (stepAt (now (datagram .entry)) at) ⌝ }
+pub(crate) fn is_node(format: Format, datagram: &[u8], at: usize) -> bool
+    ensures { λ r. ⌜ r ≡ isNode (stepAt format (now (datagram .entry)) at) ⌝ }
 {
     if datagram.len() <= at {
         return false;
@@ -79,12 +98,8 @@ pub(crate) fn is_node(datagram: &[u8], at: usize) -> bool
     if rest[0] != 4 {
         return false;
     }
-    if rest.len() < 41 {
+    if rest.len() < range::named_size(format) + 32 {
         return false;
     }
-    let chunks = range::read(rest);
-    match bin::node_of_range(chunks.first, chunks.last) {
-        RangeNode::Node(_) => true,
-        RangeNode::NoNode => false,
-    }
+    range::names_node(format, rest)
 }

@@ -1,22 +1,128 @@
-// The chunks that a message names: first and last, both included. Its two numbers are read here alone.
+// The chunks that a message names, first and last, both included. The bytes that name them are read here alone.
 ghost use mathlib.Core.Path.{_≡_};
-ghost use Prim.Native.Nat.{_≤_};
+ghost use Prim.Native.Nat.{_+_, _≤_};
 ghost use lib.ListN.{length};
+ghost use Rattle.wire.specs.Place.{placeSize, namedSize, isEmpty, isSpecial, reach};
+ghost use Rattle.tree.proofs.Promise.{covers};
+ghost use Rattle.wire.specs.Read.{namesNode};
 ghost use Rattle.wire.specs.Steps.{rangeOf};
 use crate::bytes;
+use format::Addressing;
+use format::Format;
+use tree::bin;
+use tree::bin::RangeNode;
 
 pub struct Range {
     pub first: u32,
     pub last: u32,
 }
 
-// The range behind a message's type.
-pub fn read(rest: &[u8]) -> Range
-    requires { ⌜ 9 ≤ length (now rest) ⌝ }
-    ensures { λ r. ⌜ r ≡ rangeOf (now (rest .entry)) ⌝ }
+// The bins that name no chunk and all chunks.
+pub const EMPTY_BIN: u32 = 0xffff_ffff;
+
+pub const EVERYTHING_BIN: u32 = 0x7fff_ffff;
+
+// The bytes that name chunks.
+fn place_size(format: Format) -> usize
+    ensures { λ r. ⌜ (r ≡ placeSize format) × (4 ≤ r) × (r ≤ 8) ⌝ }
 {
-    Range {
-        first: bytes::load32(rest, 1),
-        last: bytes::load32(rest, 5),
+    let addressing = format.addressing;
+    match addressing {
+        Addressing::Bins => 4,
+        Addressing::Ranges => 8,
+    }
+}
+
+// The size of a type and chunks.
+pub fn named_size(format: Format) -> usize
+    ensures { λ r. ⌜ (r ≡ namedSize format) × (5 ≤ r) × (r ≤ 9) ⌝ }
+{
+    1 + place_size(format)
+}
+
+// The chunks behind a message's type.
+pub fn read(format: Format, rest: &[u8]) -> Range
+    requires { ⌜ namedSize format ≤ length (now rest) ⌝ }
+    ensures { λ r. ⌜ r ≡ rangeOf format (now (rest .entry)) ⌝ }
+{
+    let addressing = format.addressing;
+    match addressing {
+        Addressing::Bins => {
+            let b = bytes::load32(rest, 1);
+            Range {
+                first: bin::first(b),
+                last: bin::last(b),
+            }
+        }
+        Addressing::Ranges => Range {
+            first: bytes::load32(rest, 1),
+            last: bytes::load32(rest, 5),
+        },
+    }
+}
+
+// Whether they are none at all.
+pub fn is_empty(format: Format, rest: &[u8]) -> bool
+    requires { ⌜ namedSize format ≤ length (now rest) ⌝ }
+    ensures { λ r. ⌜ r ≡ isEmpty format (now (rest .entry)) ⌝ }
+{
+    let addressing = format.addressing;
+    match addressing {
+        Addressing::Bins => bytes::load32(rest, 1) == EMPTY_BIN,
+        Addressing::Ranges => false,
+    }
+}
+
+// Whether they are none or all, as only HAVE, REQUEST and CANCEL may say.
+pub(crate) fn is_special(format: Format, rest: &[u8]) -> bool
+    requires { ⌜ namedSize format ≤ length (now rest) ⌝ }
+    ensures { λ r. ⌜ r ≡ isSpecial format (now (rest .entry)) ⌝ }
+{
+    let addressing = format.addressing;
+    match addressing {
+        Addressing::Bins => {
+            let b = bytes::load32(rest, 1);
+            if b == EMPTY_BIN {
+                return true;
+            }
+            b == EVERYTHING_BIN
+        }
+        Addressing::Ranges => false,
+    }
+}
+
+// Whether the chunks from first to last are those of a node.
+pub fn is_node(first: u32, last: u32) -> bool
+    ensures { λ r. ⌜ r ≡ covers (first + last) first last ⌝ }
+{
+    match bin::node_of_range(first, last) {
+        RangeNode::Node(_) => true,
+        RangeNode::NoNode => false,
+    }
+}
+
+// Whether they are those of a node. A bin is one, unless it is special.
+pub(crate) fn names_node(format: Format, rest: &[u8]) -> bool
+    requires { ⌜ namedSize format ≤ length (now rest) ⌝ }
+    ensures { λ r. ⌜ r ≡ namesNode format (now (rest .entry)) ⌝ }
+{
+    if is_special(format, rest) {
+        return false;
+    }
+    let addressing = format.addressing;
+    match addressing {
+        Addressing::Bins => true,
+        Addressing::Ranges => is_node(bytes::load32(rest, 1), bytes::load32(rest, 5)),
+    }
+}
+
+// The chunk by which HAVE, REQUEST, CANCEL or ACK is past the pack, if it is.
+pub(crate) fn reach(format: Format, first: u32, last: u32) -> u32
+    ensures { λ r. ⌜ r ≡ reach format first last ⌝ }
+{
+    let addressing = format.addressing;
+    match addressing {
+        Addressing::Bins => first,
+        Addressing::Ranges => last,
     }
 }

@@ -3,9 +3,8 @@ ghost use mathlib.Core.Path.{_≡_};
 ghost use Prim.Native.Nat.{_+_, _≤_, _<_, _^_};
 ghost use lib.ListN.{length};
 ghost use Rattle.wire.specs.Options.{optionsSize};
-ghost use Rattle.wire.specs.Read.{kindOf, handshakeAt, dataAt, integrityAt, ackAt, rangedAt};
+ghost use Rattle.wire.specs.Read.{kindOf, handshakeAt, dataAt, integrityAt, ackAt, named, rangedAt};
 ghost use Rattle.wire.specs.Read.{typed, stepAt};
-ghost use Rattle.wire.specs.Steps.{named};
 use crate::bytes;
 use crate::message::Cursor;
 use crate::message::Message;
@@ -13,27 +12,28 @@ use crate::message::Options;
 use crate::message::Step;
 use crate::options;
 use crate::range;
-use tree::bin;
-use tree::bin::RangeNode;
+use format::Format;
 
 // The kind of the options of sound layout that stand at `at` and have `size` bytes.
-fn kind(rest: &[u8], size: usize, at: usize) -> Options
+fn kind(format: Format, rest: &[u8], size: usize, at: usize) -> Options
     requires { ⌜ size ≡ optionsSize (now rest) ⌝ }
     requires { ⌜ at + length (now rest) < 2 ^ 64 ⌝ }
-    ensures { λ r. ⌜ r ≡ kindOf at (now (rest .entry)) ⌝ }
+    ensures { λ r. ⌜ r ≡ kindOf format at (now (rest .entry)) ⌝ }
 {
     if size == 1 {
         return Options::EndOnly;
     }
-    if options::is_fixed(rest) {
-        return Options::Fixed { root: at + 7 };
+    if options::is_fixed(format, rest) {
+        return Options::Fixed {
+            root: at + options::ROOT_PLACE,
+        };
     }
     Options::Other
 }
 
-fn handshake(rest: &[u8], at: usize) -> Step
+fn handshake(format: Format, rest: &[u8], at: usize) -> Step
     requires { ⌜ at + length (now rest) < 2 ^ 64 ⌝ }
-    ensures { λ r. ⌜ r ≡ handshakeAt at (now (rest .entry)) ⌝ }
+    ensures { λ r. ⌜ r ≡ handshakeAt format at (now (rest .entry)) ⌝ }
 {
     if rest.len() < 5 {
         return Step::Refused;
@@ -45,7 +45,7 @@ fn handshake(rest: &[u8], at: usize) -> Step
     }
     let message = Message::Handshake {
         source: bytes::load32(rest, 1),
-        options: kind(options, size, at + 5),
+        options: kind(format, options, size, at + 5),
     };
     Step::Read {
         message,
@@ -53,23 +53,28 @@ fn handshake(rest: &[u8], at: usize) -> Step
     }
 }
 
-fn chunk(rest: &[u8], at: usize) -> Step
+fn chunk(format: Format, rest: &[u8], at: usize) -> Step
     requires { ⌜ at + length (now rest) < 2 ^ 64 ⌝ }
-    ensures { λ r. ⌜ r ≡ dataAt at (now (rest .entry)) ⌝ }
+    ensures { λ r. ⌜ r ≡ dataAt format at (now (rest .entry)) ⌝ }
 {
-    if rest.len() < 17 {
+    let named = range::named_size(format);
+    let head = named + 8;
+    if rest.len() < head {
         return Step::Refused;
     }
-    let r = range::read(rest);
+    if range::is_special(format, rest) {
+        return Step::Refused;
+    }
+    let r = range::read(format, rest);
     if r.first != r.last {
         return Step::Refused;
     }
     let message = Message::Data {
         first: r.first,
         last: r.last,
-        timestamp: bytes::load64(rest, 9),
-        start: at + 17,
-        len: rest.len() - 17,
+        timestamp: bytes::load64(rest, named),
+        start: at + head,
+        len: rest.len() - head,
     };
     Step::Read {
         message,
@@ -79,49 +84,54 @@ fn chunk(rest: &[u8], at: usize) -> Step
     }
 }
 
-fn integrity(rest: &[u8], at: usize) -> Step
+fn integrity(format: Format, rest: &[u8], at: usize) -> Step
     requires { ⌜ at + length (now rest) < 2 ^ 64 ⌝ }
-    ensures { λ r. ⌜ r ≡ integrityAt at (now (rest .entry)) ⌝ }
+    ensures { λ r. ⌜ r ≡ integrityAt format at (now (rest .entry)) ⌝ }
 {
-    if rest.len() < 41 {
+    let named = range::named_size(format);
+    let size = named + 32;
+    if rest.len() < size {
         return Step::Refused;
     }
-    let r = range::read(rest);
-    match bin::node_of_range(r.first, r.last) {
-        RangeNode::Node(_) => {
-            let message = Message::Integrity {
-                first: r.first,
-                last: r.last,
-                hash: at + 9,
-            };
-            Step::Read {
-                message,
-                next: Cursor { at: at + 41 },
-            }
-        }
-        RangeNode::NoNode => Step::Refused,
+    if !range::names_node(format, rest) {
+        return Step::Refused;
+    }
+    let r = range::read(format, rest);
+    let message = Message::Integrity {
+        first: r.first,
+        last: r.last,
+        hash: at + named,
+    };
+    Step::Read {
+        message,
+        next: Cursor { at: at + size },
     }
 }
 
-fn ack(rest: &[u8], at: usize) -> Step
+fn ack(format: Format, rest: &[u8], at: usize) -> Step
     requires { ⌜ at + length (now rest) < 2 ^ 64 ⌝ }
-    ensures { λ r. ⌜ r ≡ ackAt at (now (rest .entry)) ⌝ }
+    ensures { λ r. ⌜ r ≡ ackAt format at (now (rest .entry)) ⌝ }
 {
-    if rest.len() < 17 {
+    let named = range::named_size(format);
+    let size = named + 8;
+    if rest.len() < size {
         return Step::Refused;
     }
-    let r = range::read(rest);
+    if range::is_special(format, rest) {
+        return Step::Refused;
+    }
+    let r = range::read(format, rest);
     if r.last < r.first {
         return Step::Refused;
     }
     let message = Message::Ack {
         first: r.first,
         last: r.last,
-        delay: bytes::load64(rest, 9),
+        delay: bytes::load64(rest, named),
     };
     Step::Read {
         message,
-        next: Cursor { at: at + 17 },
+        next: Cursor { at: at + size },
     }
 }
 
@@ -136,38 +146,45 @@ fn named(kind: u8, first: u32, last: u32) -> Message
     }
 }
 
-fn ranged(rest: &[u8], kind: u8, at: usize) -> Step
+fn ranged(format: Format, rest: &[u8], kind: u8, at: usize) -> Step
     requires { ⌜ at + length (now rest) < 2 ^ 64 ⌝ }
-    ensures { λ r. ⌜ r ≡ rangedAt (named kind) at (now (rest .entry)) ⌝ }
+    ensures { λ r. ⌜ r ≡ rangedAt format kind at (now (rest .entry)) ⌝ }
 {
-    if rest.len() < 9 {
+    let size = range::named_size(format);
+    if rest.len() < size {
         return Step::Refused;
     }
-    let chunks = range::read(rest);
+    if range::is_empty(format, rest) {
+        return Step::Read {
+            message: Message::Empty { kind },
+            next: Cursor { at: at + size },
+        };
+    }
+    let chunks = range::read(format, rest);
     if chunks.last < chunks.first {
         return Step::Refused;
     }
     Step::Read {
         message: named(kind, chunks.first, chunks.last),
-        next: Cursor { at: at + 9 },
+        next: Cursor { at: at + size },
     }
 }
 
 // The message of a type.
-fn typed(rest: &[u8], kind: u8, at: usize) -> Step
+fn typed(format: Format, rest: &[u8], kind: u8, at: usize) -> Step
     requires { ⌜ 1 ≤ length (now rest) ⌝ }
     requires { ⌜ at + length (now rest) < 2 ^ 64 ⌝ }
-    ensures { λ r. ⌜ r ≡ typed kind at (now (rest .entry)) ⌝ }
+    ensures { λ r. ⌜ r ≡ typed format kind at (now (rest .entry)) ⌝ }
 {
     match kind {
-        0 => handshake(rest, at),
-        1 => chunk(rest, at),
-        2 => ack(rest, at),
-        3 => ranged(rest, 3, at),
-        4 => integrity(rest, at),
+        0 => handshake(format, rest, at),
+        1 => chunk(format, rest, at),
+        2 => ack(format, rest, at),
+        3 => ranged(format, rest, 3, at),
+        4 => integrity(format, rest, at),
         5..=7 => Step::Refused,
-        8 => ranged(rest, 8, at),
-        9 => ranged(rest, 9, at),
+        8 => ranged(format, rest, 8, at),
+        9 => ranged(format, rest, 9, at),
         10 => Step::Read {
             message: Message::Choke,
             next: Cursor { at: at + 1 },
@@ -182,13 +199,13 @@ fn typed(rest: &[u8], kind: u8, at: usize) -> Step
 }
 
 // What stands at a cursor of a datagram: a message and the next cursor, the end, or a refusal.
-pub fn read(datagram: &[u8], cursor: Cursor) -> Step
-    ensures { λ r. ⌜ r ≡ stepAt (now (datagram .entry)) (cursor .at) ⌝ }
+pub fn read(format: Format, datagram: &[u8], cursor: Cursor) -> Step
+    ensures { λ r. ⌜ r ≡ stepAt format (now (datagram .entry)) (cursor .at) ⌝ }
 {
     let at = cursor.at;
     if datagram.len() <= at {
         return Step::End;
     }
     let rest = &datagram[at..];
-    typed(rest, rest[0], at)
+    typed(format, rest, rest[0], at)
 }

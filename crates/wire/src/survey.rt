@@ -4,8 +4,9 @@ ghost use Prim.Native.Nat.{_≤_};
 ghost use lib.ListN.{length};
 ghost use Rattle.wire.specs.Steps.{noSurvey, higher, naming, acting};
 use crate::range;
+use format::Format;
 
-// The highest chunk of their ranges, 0 where none has one, and whether one of them is plain.
+// The highest chunk by which one may be past the pack, 0 where none has one, and whether one of them is plain.
 pub struct Survey {
     pub highest: u32,
     pub effective: bool,
@@ -27,7 +28,7 @@ fn higher(a: u32, b: u32) -> u32
     if a < b { b } else { a }
 }
 
-// A message more whose range ends at chunk `last`, without an effect.
+// A message more that is past the pack by chunk `last`, without an effect.
 pub(crate) fn naming(survey: Survey, last: u32) -> Survey
     ensures { λ r. ⌜ r ≡ naming last survey ⌝ }
 {
@@ -38,19 +39,28 @@ pub(crate) fn naming(survey: Survey, last: u32) -> Survey
 }
 
 // A plain message more, of this size; `rest` begins with it.
-pub(crate) fn acting(survey: Survey, rest: &[u8], size: usize) -> Survey
+pub(crate) fn acting(format: Format, survey: Survey, rest: &[u8], size: usize) -> Survey
     requires { ⌜ size ≤ length (now rest) ⌝ }
-    ensures { λ r. ⌜ r ≡ acting size (now (rest .entry)) survey ⌝ }
+    ensures { λ r. ⌜ r ≡ acting format size (now (rest .entry)) survey ⌝ }
 {
-    if size < 9 {
+    if size < range::named_size(format) {
         return Survey {
             highest: survey.highest,
             effective: true,
         };
     }
-    let chunks = range::read(rest);
+    if range::is_empty(format, rest) {
+        return Survey {
+            highest: survey.highest,
+            effective: true,
+        };
+    }
+    let chunks = range::read(format, rest);
     Survey {
-        highest: higher(survey.highest, chunks.last),
+        highest: higher(
+            survey.highest,
+            range::reach(format, chunks.first, chunks.last),
+        ),
         effective: true,
     }
 }

@@ -6,6 +6,7 @@ use lib.ListN.{length}
 use lib.Dec.{ltb}
 use lib.Seq.{sets}
 use Rattle.base.specs.Pick.{pick}
+use Rattle.format.specs.declared.Format.{Format}
 use Rattle.wire.proofs.Promise.{entryWords, Checked, numberOf, checkSpec}
 use Rattle.wire_c.specs.Words.{layoutWords}
 
@@ -23,8 +24,8 @@ abbrev pub checkedTold : List ℕ → Checked → Laid
 checkedTold out c = laidOf (numberOf (c .layout)) (c .entries) (sets out 0 (layoutWords (c .layout)))
 
 -- Six words are needed, and room for the entries of any datagram.
-unfoldable pub layoutTold : List ℕ → List ℕ → List ℕ → Laid
-layoutTold datagram entries out =
+unfoldable pub layoutTold : Format → List ℕ → List ℕ → List ℕ → Laid
+layoutTold F datagram entries out =
     pick (ltb (length out) 6) (laidOf 11 entries out)
     (pick (ltb (length entries) entryWords) (laidOf 11 entries out)
-    (checkedTold out (checkSpec entries datagram)))
+    (checkedTold out (checkSpec F entries datagram)))

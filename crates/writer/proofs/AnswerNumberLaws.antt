@@ -1,5 +1,5 @@
 -- The numbers that beginning and adding can give. Assumes nothing.
-use Prim.Native.Nat.{ℕ, _+_}
+use Prim.Native.Nat.{ℕ}
 use mathlib.Core.Path.{refl}
 use mathlib.Core.Bool.{not}
 use mathlib.Core.List.{List, [], _∷_, _++_}
@@ -15,6 +15,8 @@ use Rattle.wire.specs.declared.message.Message.{Message}
 use Rattle.wire.proofs.NumberLaws.{layout-one}
 use Rattle.writer.specs.Message.{bytesOf, writable}
 use Rattle.writer.specs.Add.{hasData, addAnswer, beginSpec, addSpec}
+use Rattle.format.specs.declared.Format.{Format}
+use Rattle.tree.proofs.Promise.{last}
 
 pub begin-one : (room : List ℕ) (to : ℕ) → OneOf (0 ∷ 11 ∷ []) (beginSpec room to .answer)
 unfolding beginSpec among
@@ -25,26 +27,26 @@ begin-one room to =
 abbrev addNumbers : List ℕ
 addNumbers = 0 ∷ 1 ∷ 2 ∷ 3 ∷ 11 ∷ []
 
-fault-one : (s : List ℕ) → OneOf addNumbers (numberOf (layoutOf s .layout))
+fault-one : (F : Format) (s : List ℕ) → OneOf addNumbers (numberOf (layoutOf F s .layout))
 unfolding among allAmong
-fault-one s = one-of-more (0 ∷ 1 ∷ 2 ∷ 3 ∷ []) addNumbers (numberOf (layoutOf s .layout)) refl (layout-one s)
+fault-one F s = one-of-more (0 ∷ 1 ∷ 2 ∷ 3 ∷ []) addNumbers (numberOf (layoutOf F s .layout)) refl (layout-one F s)
 
-add-answer-one : (room : List ℕ) (len : ℕ) (m : Message) (source : List ℕ) → OneOf addNumbers (addAnswer room len m source)
+add-answer-one : (F : Format) (room : List ℕ) (len : ℕ) (m : Message) (source : List ℕ) → OneOf addNumbers (addAnswer F room len m source)
 unfolding addAnswer among
-add-answer-one room len m source =
+add-answer-one F room len m source =
     let so-far = take len room in
-    let last : ℕ = pick (hasData (layoutOf so-far .layout)) 2 0 in
-    let longer : ℕ = earlier (numberOf (layoutOf (so-far ++ bytesOf source m) .layout)) last in
-    let can : ℕ = pick (not (writable (length source) m)) 2 longer in
-    let passed : ℕ = earlier (numberOf (layoutOf so-far .layout)) can in
+    let last : ℕ = pick (hasData (layoutOf F so-far .layout)) 2 0 in
+    let longer : ℕ = earlier (numberOf (layoutOf F (so-far ++ bytesOf F source m) .layout)) last in
+    let can : ℕ = pick (not (writable F (length source) m)) 2 longer in
+    let passed : ℕ = earlier (numberOf (layoutOf F so-far .layout)) can in
     pick-one addNumbers (ltb (length room) maxSize) 11 (pick (ltb maxSize len) 1 passed) refl
     (pick-one addNumbers (ltb maxSize len) 1 passed refl
-    (earlier-one addNumbers (numberOf (layoutOf so-far .layout)) can (fault-one so-far)
-    (pick-one addNumbers (not (writable (length source) m)) 2 longer refl
-    (earlier-one addNumbers (numberOf (layoutOf (so-far ++ bytesOf source m) .layout)) last (fault-one (so-far ++ bytesOf source m))
-    (pick-one addNumbers (hasData (layoutOf so-far .layout)) 2 0 refl refl)))))
+    (earlier-one addNumbers (numberOf (layoutOf F so-far .layout)) can (fault-one F so-far)
+    (pick-one addNumbers (not (writable F (length source) m)) 2 longer refl
+    (earlier-one addNumbers (numberOf (layoutOf F (so-far ++ bytesOf F source m) .layout)) last (fault-one F (so-far ++ bytesOf F source m))
+    (pick-one addNumbers (hasData (layoutOf F so-far .layout)) 2 0 refl refl)))))
 
-pub add-one : (room : List ℕ) (len : ℕ) (m : Message) (source : List ℕ) → OneOf (0 ∷ 1 ∷ 2 ∷ 3 ∷ 11 ∷ []) (addSpec room len m source .answer)
+pub add-one : (F : Format) (room : List ℕ) (len : ℕ) (m : Message) (source : List ℕ) → OneOf (0 ∷ 1 ∷ 2 ∷ 3 ∷ 11 ∷ []) (addSpec F room len m source .answer)
 unfolding addSpec among
-add-one room len m source =
-    unless-one addNumbers (addAnswer room len m source) room _ (add-answer-one room len m source) refl
+add-one F room len m source =
+    unless-one addNumbers (addAnswer F room len m source) room _ (add-answer-one F room len m source) refl

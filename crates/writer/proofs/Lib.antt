@@ -3,6 +3,7 @@ pub mod PlaceLaws
 pub mod PutLaws
 pub mod SizeLaws
 pub mod NumberLaws
+pub mod NameLaws
 pub mod BackLaws
 pub mod AddLaws
 pub mod AcceptLaws

@@ -2,12 +2,12 @@
 use Prim.Native.Nat.{ℕ, suc, _+_, _*_, _/_, _%_, _<_, _≤_, _^_}
 use native.Mathlib.Omega.{arith}
 use native.Mathlib.Nat.{div-add-mod'}
-use mathlib.Core.Path.{_≡_, refl, sym, ap, ap₂, _∙_}
+use mathlib.Core.Path.{_≡_, sym, ap, ap₂, _∙_}
 use mathlib.Core.List.{List, [], _∷_, _++_, append-assoc}
 use lib.ListN.{length, getD, drop}
-use lib.Seq.{drop-cons}
-use Rattle.wire.specs.Bytes.{be32, be64}
-use Rattle.writer.specs.Bytes.{bytes32, bytes64, rangeBytes}
+use lib.Seq.{drop-cons, getD-append-add}
+use Rattle.wire.specs.Bytes.{be16, be32, be64}
+use Rattle.writer.specs.Bytes.{bytes32, bytes64}
 use Rattle.writer.specs.Lists.{AreBytes}
 
 digits : (x q₁ q₂ q₃ r₀ r₁ r₂ : ℕ) → q₁ * 256 + r₀ ≡ x → q₂ * 256 + r₁ ≡ q₁ → q₃ * 256 + r₂ ≡ q₂ → (q₃ * 256 + r₂) * 65536 + (r₁ * 256 + r₀) ≡ x
@@ -23,24 +23,35 @@ joined32 x h =
     (digits x (x / 256) (x / 65536) (x / 16777216) (x % 256) (x / 256 % 256) (x / 65536 % 256) (div-add-mod' x 256)
     (rw a at (div-add-mod' (x / 256) 256)) (rw b at (div-add-mod' (x / 65536) 256)))
 
--- the range of a message, and the number behind it
+-- a number behind bytes a
+module _ (a r : List ℕ) where
+  byte-behind : (i j : ℕ) → j ≡ length a + i → getD (a ++ r) j 0 ≡ getD r i 0
+  byte-behind i j e = rw e (getD-append-add a r i 0)
+
+  be16-behind : (i j : ℕ) → j ≡ length a + i → be16 (a ++ r) j ≡ be16 r i
+  be16-behind i j e = ap₂ (λ (x y : ℕ). x * 256 + y) (byte-behind i j e) (byte-behind (i + 1) (j + 1) (omega (arith, e)))
+
+  be32-behind : (i j : ℕ) → j ≡ length a + i → be32 (a ++ r) j ≡ be32 r i
+  be32-behind i j e = ap₂ (λ (x y : ℕ). x * 65536 + y) (be16-behind i j e) (be16-behind (i + 2) (j + 2) (omega (arith, e)))
+
+  pub be64-behind : (i j : ℕ) → j ≡ length a + i → be64 (a ++ r) j ≡ be64 r i
+  be64-behind i j e = ap₂ (λ (x y : ℕ). x * 4294967296 + y) (be32-behind i j e) (be32-behind (i + 4) (j + 4) (omega (arith, e)))
+
+-- a number of eight bytes, in front
+pub time-is : (x : ℕ) (q : List ℕ) → x < 2 ^ 64 → be64 (bytes64 x ++ q) 0 ≡ x
+unfolding bytes32 bytes64
+time-is x q h =
+    ap₂ (λ (a b : ℕ). a * 4294967296 + b) (joined32 (x / 4294967296) (omega arith)) (joined32 (x % 4294967296) (omega arith)) ∙ div-add-mod' x 4294967296
+
+-- a first and a last chunk behind the type
 module _ (k f l : ℕ) (r : List ℕ) where
-  pub range-first : f < 2 ^ 32 → be32 (rangeBytes k f l ++ r) 1 ≡ f
-  unfolding rangeBytes bytes32
+  pub range-first : f < 2 ^ 32 → be32 (k ∷ (bytes32 f ++ bytes32 l) ++ r) 1 ≡ f
+  unfolding bytes32
   range-first h = joined32 f h
 
-  pub range-last : l < 2 ^ 32 → be32 (rangeBytes k f l ++ r) 5 ≡ l
-  unfolding rangeBytes bytes32
+  pub range-last : l < 2 ^ 32 → be32 (k ∷ (bytes32 f ++ bytes32 l) ++ r) 5 ≡ l
+  unfolding bytes32
   range-last h = joined32 l h
-
-  pub range-type : getD (rangeBytes k f l ++ r) 0 0 ≡ k
-  unfolding rangeBytes
-  range-type = refl
-
-  pub range-time : (x : ℕ) (q : List ℕ) → x < 2 ^ 64 → r ≡ bytes64 x ++ q → be64 (rangeBytes k f l ++ r) 9 ≡ x
-  unfolding rangeBytes bytes32 bytes64
-  range-time x q h e =
-      rw e (ap₂ (λ (a b : ℕ). a * 4294967296 + b) (joined32 (x / 4294967296) (omega arith)) (joined32 (x % 4294967296) (omega arith)) ∙ div-add-mod' x 4294967296)
 
 -- a source channel behind the type
 pub source-is : (k x : ℕ) (r : List ℕ) → x < 2 ^ 32 → be32 (k ∷ bytes32 x ++ r) 1 ≡ x
@@ -95,12 +106,3 @@ module _ (t : List ℕ) (small : AreBytes t) where
       rw (hi, lo) (append-assoc (bytes32 (be32 t k)) (bytes32 (be32 t (k + 4))) (drop (k + 8) t)
       ∙ ap (λ (r : List ℕ). bytes32 (be32 t k) ++ r) (rw e at (split-word (k + 4) (omega arith)))
       ∙ split-word k (omega arith))
-
-  -- type and range
-  pub split-range : (k : ℕ) → getD t 0 0 ≡ k → 9 ≤ length t → rangeBytes k (be32 t 1) (be32 t 5) ++ drop 9 t ≡ t
-  unfolding rangeBytes
-  split-range k e h =
-      rw (← e)
-      (ap (λ (r : List ℕ). getD t 0 0 ∷ r) (append-assoc (bytes32 (be32 t 1)) (bytes32 (be32 t 5)) (drop 9 t)
-      ∙ ap (λ (r : List ℕ). bytes32 (be32 t 1) ++ r) (split-word 5 (omega arith)) ∙ split-word 1 (omega arith))
-      ∙ peel 0 (omega arith))

@@ -20,7 +20,7 @@ use Rattle.writer.proofs.ReadBackLaws.{read-over}
 use Rattle.writer.proofs.RoundTrips.{written-reads, read-writes}
 use Rattle.writer.proofs.AnswerNumberLaws as numbers
 use Rattle.writer.proofs.ComposeLaws as compose
-pub use Rattle.writer.specs.Bytes.{bytes64, rangeBytes}
+pub use Rattle.writer.specs.Bytes.{bytes64, nameable, isEverything, nameBytes}
 unfoldable pub use Rattle.writer.specs.Bytes.{bytes32}
 pub use Rattle.writer.specs.Message.{within, bytesOf}
 unfoldable pub use Rattle.writer.specs.Message.{writable, writableOptions}
@@ -28,24 +28,27 @@ pub use Rattle.writer.specs.Add.{addAnswer, addSpec}
 unfoldable pub use Rattle.writer.specs.Add.{beginSpec}
 pub use Rattle.writer.specs.Lists.{Item, itemOf, encode, HasWidths, AllHaveWidths, AreBytes, contentOf, contentsOf, onStep, readAll, Reads, Rewritable, writeAll, datagramOf}
 unfoldable pub use Rattle.writer.specs.Lists.{readFrom}
-unfoldable pub use Rattle.writer.specs.Steps.{sizeOf, optionSpan, faultBehind}
-pub use Rattle.writer.proofs.PlaceLaws.{size32, sizeRange}
+unfoldable pub use Rattle.writer.specs.Steps.{sizeOf, optionSpan}
+pub use Rattle.writer.specs.Steps.{allowed, faultBehind}
+pub use Rattle.writer.proofs.PlaceLaws.{size32, size-name}
 pub use Rattle.writer.proofs.NumberLaws.{be32-fits}
+pub use Rattle.writer.proofs.NameLaws.{node-covers, node-nameable, node-part, chunk-nameable, chunk-part}
 pub use Rattle.writer.proofs.RoundTrips.{Plain, rewritable}
 pub use Rattle.writer.proofs.ComposeLaws.{Joining, notedAll}
+use Rattle.format.specs.declared.Format.{Format}
 
 -- A message that can be written has the size that the table says.
-pub message-size : (s : List ℕ) (m : Message) → writable (length s) m ≡ true → length (bytesOf s m) ≡ sizeOf m
+pub message-size : (F : Format) (s : List ℕ) (m : Message) → writable F (length s) m ≡ true → length (bytesOf F s m) ≡ sizeOf F m
 message-size = bytes-length
 
--- An INTEGRITY message is its type and range, and then its hash.
-pub integrity-bytes : (s : List ℕ) (f l : ℕ) → length s ≡ 32 → bytesOf s (Integrity f l 0) ≡ rangeBytes 4 f l ++ s
+-- An INTEGRITY message is its type and chunks, and then its hash.
+pub integrity-bytes : (F : Format) (s : List ℕ) (f l : ℕ) → length s ≡ 32 → bytesOf F s (Integrity f l 0) ≡ nameBytes F 4 f l ++ s
 unfolding bytesOf
-integrity-bytes s f l e = ap (λ (r : List ℕ). rangeBytes 4 f l ++ r) (ap (λ (n : ℕ). take n s) (sym e) ∙ take-length s)
+integrity-bytes F s f l e = ap (λ (r : List ℕ). nameBytes F 4 f l ++ r) (ap (λ (n : ℕ). take n s) (sym e) ∙ take-length s)
 
 -- A keepalive has no message.
-pub read-none : (s : List ℕ) → length s ≡ minSize → readAll s ≡ []
-read-none s h = read-over (length s) s minSize (omega arith)
+pub read-none : (F : Format) (s : List ℕ) → length s ≡ minSize → readAll F s ≡ []
+read-none F s h = read-over F (length s) s minSize (omega arith)
 
 -- ---- a refused call gives length 0 and leaves the room
 
@@ -53,33 +56,33 @@ pub begin-refused-same : (room : List ℕ) (to : ℕ) → Unaltered room (beginS
 unfolding beginSpec
 begin-refused-same room to = unless-unaltered (pick (ltb (length room) maxSize) 11 0) room _ (done-unaltered room _ minSize)
 
-pub add-refused-same : (room : List ℕ) (len : ℕ) (m : Message) (source : List ℕ) → Unaltered room (addSpec room len m source)
+pub add-refused-same : (F : Format) (room : List ℕ) (len : ℕ) (m : Message) (source : List ℕ) → Unaltered room (addSpec F room len m source)
 unfolding addSpec
-add-refused-same room len m source =
-    unless-unaltered (addAnswer room len m source) room _ (done-unaltered room _ (len + length (bytesOf source m)))
+add-refused-same F room len m source =
+    unless-unaltered (addAnswer F room len m source) room _ (done-unaltered room _ (len + length (bytesOf F source m)))
 
 -- ---- the numbers that a call can give
 
 pub begin-numbered : (room : List ℕ) (to : ℕ) → OneOf (0 ∷ 11 ∷ []) (beginSpec room to .answer)
 begin-numbered = numbers.begin-one
 
-pub add-numbered : (room : List ℕ) (len : ℕ) (m : Message) (source : List ℕ) → OneOf (0 ∷ 1 ∷ 2 ∷ 3 ∷ 11 ∷ []) (addSpec room len m source .answer)
+pub add-numbered : (F : Format) (room : List ℕ) (len : ℕ) (m : Message) (source : List ℕ) → OneOf (0 ∷ 1 ∷ 2 ∷ 3 ∷ 11 ∷ []) (addSpec F room len m source .answer)
 add-numbered = numbers.add-one
 
 -- ---- the round trips
 
 -- Every list of messages that begin and add accepted, whose numbers have their widths, reads back as exactly those messages.
-pub round-trip-written : (room : List ℕ) (to : ℕ) (is : List Item) → to < 2 ^ 32 → AllHaveWidths is → writeAll room to is .answer ≡ 0 → Reads (datagramOf (writeAll room to is)) to is
+pub round-trip-written : (F : Format) (room : List ℕ) (to : ℕ) (is : List Item) → to < 2 ^ 32 → AllHaveWidths is → writeAll F room to is .answer ≡ 0 → Reads F (datagramOf (writeAll F room to is)) to is
 round-trip-written = written-reads
 
 -- Every datagram that passes the checks, with the fixed options or End alone where it is a HANDSHAKE, is byte for byte what
 -- begin and add give for the messages read from it.
-pub round-trip-read : (room s : List ℕ) → AreBytes s → maxSize ≤ length room → numberOf (layoutOf s .layout) ≡ 0 → Rewritable (layoutOf s .layout)
-    → writeAll room (be32 s 0) (readAll s) ≡ outOf 0 (length s) (placed room 0 s)
+pub round-trip-read : (F : Format) (room s : List ℕ) → AreBytes s → maxSize ≤ length room → numberOf (layoutOf F s .layout) ≡ 0 → Rewritable (layoutOf F s .layout)
+    → writeAll F room (be32 s 0) (readAll F s) ≡ outOf 0 (length s) (placed room 0 s)
 round-trip-read = read-writes
 
 -- A datagram put together without adding reads back too: messages that join it, and one more, which may end it.
-pub composed-reads : (to : ℕ) (is : List Item) (i : Item) → to < 2 ^ 32 → AllHaveWidths is → HasWidths (i .message) → Joining to minSize [] is
-    → writable (length (i .source)) (i .message) ≡ true → faultBehind (notedAll minSize [] is) to (minSize + length (encode is)) (i .message) ≡ 0
-    → minSize + length (encode is) + sizeOf (i .message) ≤ maxSize → Reads (bytes32 to ++ encode (is ++ (i ∷ []))) to (is ++ (i ∷ []))
+pub composed-reads : (F : Format) (to : ℕ) (is : List Item) (i : Item) → to < 2 ^ 32 → AllHaveWidths is → HasWidths (i .message) → Joining F to minSize [] is
+    → writable F (length (i .source)) (i .message) ≡ true → faultBehind F (notedAll F minSize [] is) to (minSize + length (encode F is)) (i .message) ≡ 0
+    → minSize + length (encode F is) + sizeOf F (i .message) ≤ maxSize → Reads F (bytes32 to ++ encode F (is ++ (i ∷ []))) to (is ++ (i ∷ []))
 composed-reads = compose.composed-reads

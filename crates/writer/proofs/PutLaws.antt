@@ -6,14 +6,16 @@ use mathlib.Core.List.{List, [], _∷_, _++_, append-assoc}
 use lib.ListN.{length, take, drop, length-append, length-drop}
 use lib.Seq.{length-take-le}
 use Rattle.wire.specs.Bytes.{placed}
-use Rattle.wire.specs.Options.{fixedHead, fixedTail}
+use Rattle.wire.specs.Options.{fixedHead, fixedTail, rootPlace, tailPlace}
 use Rattle.wire.specs.declared.message.Options.{Options}
 use Rattle.wire.specs.declared.message.Options.the-variants.{Fixed}
 use Rattle.wire.specs.declared.message.Message.the-variants.{Handshake, Data, Ack, Integrity}
 use Rattle.wire.proofs.PlacedLaws.{placed-then}
-use Rattle.writer.specs.Bytes.{bytes32, bytes64, rangeBytes}
+use Rattle.writer.specs.Bytes.{bytes32, bytes64, nameBytes}
 use Rattle.writer.specs.Message.{within, optionBytes, bytesOf}
-use Rattle.writer.proofs.PlaceLaws.{size32, size64, sizeRange}
+use Rattle.writer.proofs.PlaceLaws.{size32, size64, size-name}
+use Rattle.format.specs.declared.Format.{Format}
+use Rattle.wire.specs.Place.{namedSize}
 
 -- ---- bytes of the source
 
@@ -28,41 +30,55 @@ module _ (s : List ℕ) (b n : ℕ) where
 
 -- ---- the messages with more parts than one
 
-module _ (s l : List ℕ) (at : ℕ) where
+module _ (F : Format) (s l : List ℕ) (at : ℕ) where
   -- the fixed options: the bytes before the root, the root, the bytes after it
   pub placed-fixed : (root : ℕ) → root + 32 ≤ length s → {o m n : List ℕ}
-      → o ≡ placed l at fixedHead → m ≡ placed o (at + 7) (take (root + 32 - root) (drop root s)) → n ≡ placed m (at + 39) fixedTail → n ≡ placed l at (optionBytes s (Fixed root))
+      → o ≡ placed l at fixedHead → m ≡ placed o (at + rootPlace) (take (root + 32 - root) (drop root s)) → n ≡ placed m (at + tailPlace) (fixedTail F) → n ≡ placed l at (optionBytes F s (Fixed root))
   unfolding optionBytes
   placed-fixed root fits {o} {m} e p q =
       let h = within-length s root 32 fits in
-      let b : m ≡ placed l at (fixedHead ++ within s root 32) = placed-then l at fixedHead (within s root 32) (at + 7) refl e (within-part s root 32 o (at + 7) p) in
-      let g : at + length (fixedHead ++ within s root 32) ≡ at + 39 = omega (arith, h) in
-      rw (← append-assoc fixedHead (within s root 32) fixedTail) (placed-then l at (fixedHead ++ within s root 32) fixedTail (at + 39) g b q)
+      let b : m ≡ placed l at (fixedHead ++ within s root 32) = placed-then l at fixedHead (within s root 32) (at + rootPlace) refl e (within-part s root 32 o (at + rootPlace) p) in
+      let g : at + length (fixedHead ++ within s root 32) ≡ at + tailPlace = omega (arith, h) in
+      rw (← append-assoc fixedHead (within s root 32) (fixedTail F)) (placed-then l at (fixedHead ++ within s root 32) (fixedTail F) (at + tailPlace) g b q)
 
   -- a HANDSHAKE: type, source channel, options
   pub placed-handshake : (a : ℕ) (x : Options) {o m n : List ℕ}
-      → o ≡ placed l at (0 ∷ []) → m ≡ placed o (at + 1) (bytes32 a) → n ≡ placed m (at + 5) (optionBytes s x) → n ≡ placed l at (bytesOf s (Handshake a x))
+      → o ≡ placed l at (0 ∷ []) → m ≡ placed o (at + 1) (bytes32 a) → n ≡ placed m (at + 5) (optionBytes F s x) → n ≡ placed l at (bytesOf F s (Handshake a x))
   unfolding bytesOf
   placed-handshake a x e p q =
-      placed-then l at (0 ∷ bytes32 a) (optionBytes s x) (at + 5) (ap (λ (j : ℕ). at + suc j) (size32 a))
+      placed-then l at (0 ∷ bytes32 a) (optionBytes F s x) (at + 5) (ap (λ (j : ℕ). at + suc j) (size32 a))
       (placed-then l at (0 ∷ []) (bytes32 a) (at + 1) refl e p) q
 
-  -- a DATA message: type and range, time, chunk
-  pub placed-data : (f h t b n : ℕ) {o m r : List ℕ}
-      → o ≡ placed l at (rangeBytes 1 f h) → m ≡ placed o (at + 9) (bytes64 t) → r ≡ placed m (at + 17) (take (b + n - b) (drop b s)) → r ≡ placed l at (bytesOf s (Data f h t b n))
-  unfolding bytesOf
-  placed-data f h t b n {m = m} e p q =
-      let head = rangeBytes 1 f h ++ bytes64 t in
-      let d : m ≡ placed l at head = placed-then l at (rangeBytes 1 f h) (bytes64 t) (at + 9) (rw sizeRange) e p in
-      let g : at + length head ≡ at + 17 = simp (length-append, sizeRange, size64) in
-      rw (← append-assoc (rangeBytes 1 f h) (bytes64 t) (within s b n)) (placed-then l at head (within s b n) (at + 17) g d (within-part s b n m (at + 17) q))
+  -- n is the size of a type and chunks
+  module _ {n : ℕ} (ne : n ≡ namedSize F) (k f h : ℕ) {o : List ℕ} (e : o ≡ placed l at (nameBytes F k f h)) where
+    behind : at + length (nameBytes F k f h) ≡ at + n
+    behind = rw (size-name F k f h, ne)
 
-  -- an ACK: type and range, delay
-  pub placed-ack : (f h d : ℕ) {o m : List ℕ} → o ≡ placed l at (rangeBytes 2 f h) → m ≡ placed o (at + 9) (bytes64 d) → m ≡ placed l at (bytesOf s (Ack f h d))
-  unfolding bytesOf
-  placed-ack f h d e p = placed-then l at (rangeBytes 2 f h) (bytes64 d) (at + 9) (rw sizeRange) e p
+    -- and a number
+    pub placed-timed : (t : ℕ) {m : List ℕ} → m ≡ placed o (at + n) (bytes64 t) → m ≡ placed l at (nameBytes F k f h ++ bytes64 t)
+    placed-timed t p = placed-then l at (nameBytes F k f h) (bytes64 t) (at + n) behind e p
 
-  -- an INTEGRITY message: type and range, hash
-  pub placed-integrity : (f h b : ℕ) {o m : List ℕ} → o ≡ placed l at (rangeBytes 4 f h) → m ≡ placed o (at + 9) (take (b + 32 - b) (drop b s)) → m ≡ placed l at (bytesOf s (Integrity f h b))
-  unfolding bytesOf
-  placed-integrity f h b {o} e p = placed-then l at (rangeBytes 4 f h) (within s b 32) (at + 9) (rw sizeRange) e (within-part s b 32 o (at + 9) p)
+    -- and bytes of the source
+    pub placed-hashed : (b : ℕ) {m : List ℕ} → m ≡ placed o (at + n) (take (b + 32 - b) (drop b s)) → m ≡ placed l at (nameBytes F k f h ++ within s b 32)
+    placed-hashed b p = placed-then l at (nameBytes F k f h) (within s b 32) (at + n) behind e (within-part s b 32 o (at + n) p)
+
+  module _ {n : ℕ} (ne : n ≡ namedSize F) (f h : ℕ) {o : List ℕ} where
+    -- a DATA message: type and chunks, time, chunk
+    pub placed-data : (t b c : ℕ) {m r : List ℕ} → o ≡ placed l at (nameBytes F 1 f h) → m ≡ placed o (at + n) (bytes64 t)
+        → r ≡ placed m (at + (n + 8)) (take (b + c - b) (drop b s)) → r ≡ placed l at (bytesOf F s (Data f h t b c))
+    unfolding bytesOf
+    placed-data t b c {m = m} e p q =
+        let head = nameBytes F 1 f h ++ bytes64 t in
+        let g : at + length head ≡ at + (n + 8) = omega (arith, ne, length-append (nameBytes F 1 f h) (bytes64 t), size-name F 1 f h, size64 t) in
+        rw (← append-assoc (nameBytes F 1 f h) (bytes64 t) (within s b c))
+        (placed-then l at head (within s b c) (at + (n + 8)) g (placed-timed ne 1 f h e t p) (within-part s b c m (at + (n + 8)) q))
+
+    -- an ACK: type and chunks, delay
+    pub placed-ack : (d : ℕ) {m : List ℕ} → o ≡ placed l at (nameBytes F 2 f h) → m ≡ placed o (at + n) (bytes64 d) → m ≡ placed l at (bytesOf F s (Ack f h d))
+    unfolding bytesOf
+    placed-ack d e p = placed-timed ne 2 f h e d p
+
+    -- an INTEGRITY message: type and chunks, hash
+    pub placed-integrity : (b : ℕ) {m : List ℕ} → o ≡ placed l at (nameBytes F 4 f h) → m ≡ placed o (at + n) (take (b + 32 - b) (drop b s)) → m ≡ placed l at (bytesOf F s (Integrity f h b))
+    unfolding bytesOf
+    placed-integrity b e p = placed-hashed ne 4 f h e b p

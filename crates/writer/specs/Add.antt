@@ -7,6 +7,7 @@ use lib.ListN.{length, take}
 use lib.Dec.{ltb}
 use Rattle.base.specs.Pick.{pick, earlier}
 use Rattle.base.specs.Out.{Out, outOf, unless}
+use Rattle.format.specs.declared.Format.{Format}
 use Rattle.wire.specs.Bytes.{placed}
 use Rattle.wire.specs.Limits.{minSize, maxSize}
 use Rattle.wire.specs.Layout.{numberOf, layoutOf}
@@ -26,14 +27,14 @@ hasData (MessagesAndData c x b n k) = true
 -- The number for adding a message to the first len bytes of a room: 11 for a room under the limit; 1 for a length over it;
 -- the reader's number for the datagram so far; 2 for a message that cannot be written; the reader's number for the lengthened
 -- datagram; 2 behind DATA.
-unfoldable pub addAnswer : List ℕ → ℕ → Message → List ℕ → ℕ
-addAnswer room len m bytes =
+unfoldable pub addAnswer : Format → List ℕ → ℕ → Message → List ℕ → ℕ
+addAnswer F room len m bytes =
     pick (ltb (length room) maxSize) 11
     (pick (ltb maxSize len) 1
-    (earlier (numberOf (layoutOf (take len room) .layout))
-    (pick (not (writable (length bytes) m)) 2
-    (earlier (numberOf (layoutOf (take len room ++ bytesOf bytes m) .layout))
-    (pick (hasData (layoutOf (take len room) .layout)) 2
+    (earlier (numberOf (layoutOf F (take len room) .layout))
+    (pick (not (writable F (length bytes) m)) 2
+    (earlier (numberOf (layoutOf F (take len room ++ bytesOf F bytes m) .layout))
+    (pick (hasData (layoutOf F (take len room) .layout)) 2
     0)))))
 
 -- A datagram begins with its destination.
@@ -41,7 +42,7 @@ unfoldable pub beginSpec : List ℕ → ℕ → Out (List ℕ)
 beginSpec room to = unless (pick (ltb (length room) maxSize) 11 0) room (outOf 0 minSize (placed room 0 (bytes32 to)))
 
 -- The message is written behind the datagram so far; what stands past it stays.
-unfoldable pub addSpec : List ℕ → ℕ → Message → List ℕ → Out (List ℕ)
-addSpec room len m bytes =
-    unless (addAnswer room len m bytes) room
-    (outOf 0 (len + length (bytesOf bytes m)) (placed room len (bytesOf bytes m)))
+unfoldable pub addSpec : Format → List ℕ → ℕ → Message → List ℕ → Out (List ℕ)
+addSpec F room len m bytes =
+    unless (addAnswer F room len m bytes) room
+    (outOf 0 (len + length (bytesOf F bytes m)) (placed room len (bytesOf F bytes m)))

@@ -8,13 +8,14 @@ use mathlib.Core.Path.{_≡_}
 use mathlib.Core.Logic.{_≢_}
 use Rattle.base.specs.Pick.{pick}
 use Rattle.base.specs.Out.{Out, outOf}
+use Rattle.format.specs.declared.Format.{Format}
 use Rattle.wire.specs.Bytes.{be32}
 use Rattle.wire.specs.Limits.{minSize}
 use Rattle.wire.specs.Read.{stepAt}
 use Rattle.wire.specs.Layout.{numberOf, layoutOf}
 use Rattle.wire.specs.declared.message.Options.the-variants.{Fixed, EndOnly, Other}
 use Rattle.wire.specs.declared.message.Message.{Message}
-use Rattle.wire.specs.declared.message.Message.the-variants.{Handshake, Data, Ack, Have, Integrity, Request, Cancel, Choke, Unchoke}
+use Rattle.wire.specs.declared.message.Message.the-variants.{Handshake, Data, Ack, Have, Integrity, Request, Cancel, Choke, Unchoke, Empty}
 use Rattle.wire.specs.declared.message.Step.{Step}
 use Rattle.wire.specs.declared.message.Step.the-variants.{Read, End, Refused}
 use Rattle.wire.specs.declared.layout.Layout.{Layout}
@@ -31,9 +32,9 @@ abbrev pub itemOf : List ℕ → Message → Item
 itemOf s m = record { source = s; message = m }
 
 -- The bytes of messages, one after another.
-abbrev pub encode : List Item → List ℕ
-encode [] = []
-encode (i ∷ is) = bytesOf (i .source) (i .message) ++ encode is
+abbrev pub encode : Format → List Item → List ℕ
+encode F [] = []
+encode F (i ∷ is) = bytesOf F (i .source) (i .message) ++ encode F is
 
 -- The numbers of a message have the widths of the table: 32 bits for channels and chunks, 64 for timestamps and delays.
 abbrev pub HasWidths : Message → Type 0
@@ -46,6 +47,7 @@ HasWidths (Request f l) = (f < 2 ^ 32) × (l < 2 ^ 32)
 HasWidths (Cancel f l) = (f < 2 ^ 32) × (l < 2 ^ 32)
 HasWidths Choke = Unit {0}
 HasWidths Unchoke = Unit {0}
+HasWidths (Empty k) = Unit {0}
 
 abbrev pub AllHaveWidths : List Item → Type 0
 AllHaveWidths [] = Unit {0}
@@ -70,6 +72,7 @@ contentOf s (Request f l) = itemOf [] (Request f l)
 contentOf s (Cancel f l) = itemOf [] (Cancel f l)
 contentOf s Choke = itemOf [] Choke
 contentOf s Unchoke = itemOf [] Unchoke
+contentOf s (Empty k) = itemOf [] (Empty k)
 
 abbrev pub contentsOf : List Item → List Item
 contentsOf is = map (λ (i : Item). contentOf (i .source) (i .message)) is
@@ -80,20 +83,20 @@ onStep s (Read m next) rest = itemOf s m ∷ rest (next .at)
 onStep s End rest = []
 onStep s Refused rest = []
 
-unfoldable pub readFrom : ℕ → List ℕ → ℕ → List Item
-readFrom zero s at = []
-readFrom (suc n) s at = onStep s (stepAt s at) (λ next. readFrom n s next)
+unfoldable pub readFrom : Format → ℕ → List ℕ → ℕ → List Item
+readFrom F zero s at = []
+readFrom F (suc n) s at = onStep s (stepAt F s at) (λ next. readFrom F n s next)
 
 -- The messages of a datagram.
-abbrev pub readAll : List ℕ → List Item
-readAll s = readFrom (length s) s minSize
+abbrev pub readAll : Format → List ℕ → List Item
+readAll F s = readFrom F (length s) s minSize
 
 -- What was written is read: the destination and the same messages, their hashes, chunks and roots included; the datagram
 -- passes the checks.
-pub record Reads (d : List ℕ) (to : ℕ) (is : List Item) : Type 0 where
+pub record Reads (F : Format) (d : List ℕ) (to : ℕ) (is : List Item) : Type 0 where
   pub to-channel : be32 d 0 ≡ to
-  pub messages : contentsOf (readAll d) ≡ contentsOf is
-  pub passes : numberOf (layoutOf d .layout) ≡ 0
+  pub messages : contentsOf (readAll F d) ≡ contentsOf is
+  pub passes : numberOf (layoutOf F d .layout) ≡ 0
 
 -- A datagram whose messages can be written: it is no HANDSHAKE with options other than the fixed ones or End alone.
 abbrev pub Rewritable : Layout → Type 0
@@ -104,13 +107,13 @@ abbrev pub andThen : Out (List ℕ) → (List ℕ → ℕ → Out (List ℕ)) �
 andThen r rest = pick (eqb (r .answer) 0) (rest (r .after) (r .len)) r
 
 -- Messages added one after another, up to the first refusal.
-abbrev pub addAll : List ℕ → ℕ → List Item → Out (List ℕ)
-addAll room len [] = outOf 0 len room
-addAll room len (i ∷ is) = andThen (addSpec room len (i .message) (i .source)) (λ room′ len′. addAll room′ len′ is)
+abbrev pub addAll : Format → List ℕ → ℕ → List Item → Out (List ℕ)
+addAll F room len [] = outOf 0 len room
+addAll F room len (i ∷ is) = andThen (addSpec F room len (i .message) (i .source)) (λ room′ len′. addAll F room′ len′ is)
 
 -- A datagram begun, and the messages added to it.
-abbrev pub writeAll : List ℕ → ℕ → List Item → Out (List ℕ)
-writeAll room to is = andThen (beginSpec room to) (λ room′ len′. addAll room′ len′ is)
+abbrev pub writeAll : Format → List ℕ → ℕ → List Item → Out (List ℕ)
+writeAll F room to is = andThen (beginSpec room to) (λ room′ len′. addAll F room′ len′ is)
 
 -- The datagram that a call left.
 abbrev pub datagramOf : Out (List ℕ) → List ℕ

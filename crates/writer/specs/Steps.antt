@@ -1,22 +1,25 @@
 -- Nothing of the papers: a message's size, and what adding computes on its way. Assumes nothing.
 use Prim.Native.Nat.{ℕ, _+_, _≤_}
 use mathlib.Core.Path.{_≡_}
-use mathlib.Core.List.{List, []}
-use mathlib.Core.Bool.{true}
+use mathlib.Core.List.{List}
+use mathlib.Core.Bool.{Bool, true, false, not}
 use lib.Dec.{ltb, eqb}
 use Rattle.base.specs.Pick.{pick, earlier}
-use Rattle.tree.proofs.Promise.{nodeOfRange}
+use Rattle.tree.proofs.Promise.{covers}
 use Rattle.tree.specs.declared.bin.RangeNode.{RangeNode}
 use Rattle.tree.specs.declared.bin.RangeNode.the-variants.{Node, NoNode}
 use Rattle.wire.specs.Limits.{minSize, maxSize}
-use Rattle.wire.specs.Range.{nodeNumber}
+use Rattle.format.specs.declared.Format.{Format}
+use Rattle.wire.specs.Place.{namedSize, timedSize, integritySize}
+use Rattle.wire.specs.Options.{fixedSize}
 use Rattle.wire.specs.Layout.{Checked, numberOf, seen, handshakeFault}
 use Rattle.wire.specs.declared.message.Options.{Options}
 use Rattle.wire.specs.declared.message.Options.the-variants.{Fixed, EndOnly, Other}
 use Rattle.wire.specs.declared.message.Message.{Message}
-use Rattle.wire.specs.declared.message.Message.the-variants.{Handshake, Data, Ack, Have, Integrity, Request, Cancel, Choke, Unchoke}
+use Rattle.wire.specs.declared.message.Message.the-variants.{Handshake, Data, Ack, Have, Integrity, Request, Cancel, Choke, Unchoke, Empty}
 use Rattle.wire.specs.declared.layout.Layout.{Layout}
 use Rattle.wire.specs.declared.layout.Layout.the-variants.{Fault, HandshakeAlone, Messages, MessagesAndData}
+use Rattle.writer.specs.Bytes.{nameable, isEverything}
 use Rattle.writer.specs.Message.{writable}
 use Rattle.writer.specs.declared.add.Before.{Before}
 
@@ -24,46 +27,43 @@ use Rattle.writer.specs.declared.add.Before.{Before}
 
 -- The size of a message that can be written.
 unfoldable pub optionSpan : Options → ℕ
-optionSpan (Fixed root) = 51
+optionSpan (Fixed root) = fixedSize
 optionSpan EndOnly = 1
 optionSpan Other = 0
 
-unfoldable pub sizeOf : Message → ℕ
-sizeOf (Handshake source options) = 5 + optionSpan options
-sizeOf (Data first last time start len) = 17 + len
-sizeOf (Ack first last delay) = 17
-sizeOf (Have first last) = 9
-sizeOf (Integrity first last hash) = 41
-sizeOf (Request first last) = 9
-sizeOf (Cancel first last) = 9
-sizeOf Choke = 1
-sizeOf Unchoke = 1
+unfoldable pub sizeOf : Format → Message → ℕ
+sizeOf F (Handshake source options) = 5 + optionSpan options
+sizeOf F (Data first last time start len) = timedSize F + len
+sizeOf F (Ack first last delay) = timedSize F
+sizeOf F (Have first last) = namedSize F
+sizeOf F (Integrity first last hash) = integritySize F
+sizeOf F (Request first last) = namedSize F
+sizeOf F (Cancel first last) = namedSize F
+sizeOf F Choke = 1
+sizeOf F Unchoke = 1
+sizeOf F (Empty kind) = namedSize F
 
 -- ---- the number for a message
 
--- 2 for a range whose first chunk is above its last.
-abbrev pub rangeFault : ℕ → ℕ → ℕ
-rangeFault f l = pick (ltb l f) 2 0
+-- Whether the chunks f..l can be named so that the test t is reached; and so for messages that may not name everything.
+abbrev pub namedSo : Format → (f l : ℕ) → Bool → Bool
+namedSo F f l t = pick (nameable F f l) t false
 
--- 2 for a range that is not one chunk, as DATA's has to be.
-abbrev pub chunkFault : ℕ → ℕ → ℕ
-chunkFault f l = pick (eqb f l) 0 2
+abbrev pub partSo : Format → (f l : ℕ) → Bool → Bool
+partSo F f l t = namedSo F f l (pick (isEverything F f l) false t)
 
--- 2 for a range that is no node's, or one's that is among the entries.
-abbrev pub nodeFault : List ℕ → ℕ → ℕ → ℕ
-nodeFault es f l = earlier (nodeNumber (nodeOfRange f l)) (pick (seen (f + l) es) 2 0)
-
--- The number for a message behind len bytes of a datagram without HANDSHAKE or DATA, with its destination and entries.
-unfoldable pub faultBehind : List ℕ → ℕ → ℕ → Message → ℕ
-faultBehind es to len (Handshake a o) = pick (eqb len minSize) (handshakeFault to a o) 3
-faultBehind es to len (Data f l x b n) = chunkFault f l
-faultBehind es to len (Ack f l d) = rangeFault f l
-faultBehind es to len (Have f l) = rangeFault f l
-faultBehind es to len (Integrity f l h) = nodeFault es f l
-faultBehind es to len (Request f l) = rangeFault f l
-faultBehind es to len (Cancel f l) = rangeFault f l
-faultBehind es to len Choke = 0
-faultBehind es to len Unchoke = 0
+-- Whether the table allows a message's chunks.
+abbrev pub allowed : Format → Message → Bool
+allowed F (Handshake a o) = true
+allowed F (Data f l x b n) = partSo F f l (eqb f l)
+allowed F (Ack f l d) = partSo F f l (not (ltb l f))
+allowed F (Have f l) = namedSo F f l (not (ltb l f))
+allowed F (Integrity f l h) = partSo F f l (covers (f + l) f l)
+allowed F (Request f l) = namedSo F f l (not (ltb l f))
+allowed F (Cancel f l) = namedSo F f l (not (ltb l f))
+allowed F Choke = true
+allowed F Unchoke = true
+allowed F (Empty k) = true
 
 -- The number that the node of an INTEGRITY has, if its range is one's; no other message has one.
 abbrev pub nodeOf : Message → RangeNode
@@ -76,15 +76,30 @@ nodeOf (Request f l) = NoNode
 nodeOf (Cancel f l) = NoNode
 nodeOf Choke = NoNode
 nodeOf Unchoke = NoNode
-
--- The number for a message by itself: as if no node came before.
-abbrev pub ownFault : ℕ → ℕ → Message → ℕ
-ownFault to len m = faultBehind [] to len m
+nodeOf (Empty k) = NoNode
 
 -- 2 for a node that is among the entries.
 abbrev pub seenFault : List ℕ → RangeNode → ℕ
 seenFault es (Node b) = pick (seen b es) 2 0
 seenFault es NoNode = 0
+
+-- The number for a message by itself, behind len bytes of a datagram without HANDSHAKE or DATA, with its destination: 2 where
+-- the table does not allow it.
+abbrev pub ownFault : Format → (to len : ℕ) → Message → ℕ
+ownFault F to len (Handshake a o) = pick (eqb len minSize) (handshakeFault to a o) 3
+ownFault F to len (Data f l x b n) = pick (allowed F (Data f l x b n)) 0 2
+ownFault F to len (Ack f l d) = pick (allowed F (Ack f l d)) 0 2
+ownFault F to len (Have f l) = pick (allowed F (Have f l)) 0 2
+ownFault F to len (Integrity f l h) = pick (allowed F (Integrity f l h)) 0 2
+ownFault F to len (Request f l) = pick (allowed F (Request f l)) 0 2
+ownFault F to len (Cancel f l) = pick (allowed F (Cancel f l)) 0 2
+ownFault F to len Choke = 0
+ownFault F to len Unchoke = 0
+ownFault F to len (Empty k) = 0
+
+-- The number for it behind such a datagram with these entries.
+abbrev pub faultBehind : Format → List ℕ → (to len : ℕ) → Message → ℕ
+faultBehind F es to len m = earlier (seenFault es (nodeOf m)) (ownFault F to len m)
 
 -- The number for a message behind a datagram of this layout and these entries, by what stands before it.
 abbrev pub behindOf : Layout → List ℕ → RangeNode → ℕ
@@ -100,8 +115,9 @@ beforeNumbers fault behind = record { fault = fault; behind = behind }
 abbrev pub beforeOf : Checked → RangeNode → Before
 beforeOf c r = beforeNumbers (numberOf (c .layout)) (behindOf (c .layout) (c .entries) r)
 
--- What an accepted message has: it fits the room, and its bytes lie in the source.
-pub record Addable (size len : ℕ) (m : Message) (source : ℕ) : Type 0 where
-  pub fits : len + sizeOf m ≤ maxSize
+-- What an accepted message has: it fits the room, its bytes lie in the source, and the table allows it.
+pub record Addable (F : Format) (size len : ℕ) (m : Message) (source : ℕ) : Type 0 where
+  pub fits : len + sizeOf F m ≤ maxSize
   pub room : maxSize ≤ size
-  pub can : writable source m ≡ true
+  pub can : writable F source m ≡ true
+  pub good : allowed F m ≡ true

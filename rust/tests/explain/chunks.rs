@@ -1,7 +1,7 @@
 //! Numbers 8 to 10: chunks of another length, hashes that are missing, and hashes that lead elsewhere.
 
 use crate::support::{refused, run, File, Trace};
-use ppspp::{messages, Message, Store};
+use ppspp::{messages, Addressing, Message, Order, Store};
 use second::hex;
 use second::packets::{data, integrity};
 
@@ -15,14 +15,14 @@ struct Pack {
 impl Pack {
     fn new() -> Pack {
         let content: Vec<u8> = (0..=250).cycle().take(7_162).collect();
-        let store = Store::build(&content).expect("a pack's length");
+        let store = Store::build(Order::to_build(7_162), &content).expect("a pack's length");
         let mut server = store.clone();
         let calling = server.open(5).expect("a free row").to_vec();
         // A HANDSHAKE to channel 5: what the server sent, with its source as destination.
         let answering = [&calling[5..9], &calling[4..]].concat();
         server.take(0, 0, &answering).expect("it opens");
         let datagram = server.write(5, 0, 0).expect("it is held");
-        let found = messages(datagram).flatten();
+        let found = messages(Addressing::Ranges, datagram).flatten();
         let hashes = found.filter_map(|(_, message)| match message {
             Message::Integrity { first, last, hash } => {
                 let hash = hash.try_into().expect("32 bytes");

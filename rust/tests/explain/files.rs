@@ -33,6 +33,10 @@ fn arguments_that_are_not_meant() {
     failed(&of(&["--json"]), "no INPUT is named");
     failed(&of(&["a", "b", "c"]), "two files are the most, 3 are named");
     failed(&of(&["a", "--colour"]), "--colour is no option");
+    let named = "behind --addressing stands bins or ranges";
+    failed(&of(&["a", "--addressing"]), named);
+    failed(&of(&["--addressing", "a"]), named);
+    failed(&of(&["--addressing", "bins"]), "no INPUT is named");
 }
 
 #[test]
@@ -40,7 +44,8 @@ fn help_is_written() {
     let ran = run(&["--help"]);
     assert_eq!((ran.status, &ran.errors[..]), (Some(0), ""));
     assert!(
-        ran.text.starts_with("explain INPUT [OUTPUT] [--json]\n"),
+        ran.text
+            .starts_with("explain INPUT [OUTPUT] [--json] [--addressing bins]\n"),
         "{}",
         ran.text
     );

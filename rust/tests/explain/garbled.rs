@@ -23,7 +23,8 @@ impl Numbers {
 /// Asserts that a run in either form ends as it should.
 fn ends(input: &[u8], output: &[u8]) {
     let files = [File::new(input), File::new(output)];
-    for form in [&["--json"][..], &[]] {
+    let bins = ["--addressing", "bins"];
+    for form in [&["--json"][..], &[], &bins, &["--json", bins[0], bins[1]]] {
         let mut arguments: Vec<_> = files.iter().map(|file| file.as_ref()).collect();
         arguments.extend(form.iter().map(std::ffi::OsStr::new));
         let ran = run(&arguments);

@@ -2,6 +2,7 @@
 //! is worked out by hand from the papers, or comes from the independent second program.
 
 mod agreeing;
+mod bins;
 mod chunks;
 mod differences;
 mod effects;

@@ -1,7 +1,7 @@
 //! Runs of `explain`, and traces for them.
 
 use second::hex;
-use second::packets::{fixed, handshake, to};
+use second::packets::{bins, fixed, handshake, to};
 use std::ffi::OsStr;
 use std::path::{Path, PathBuf};
 use std::process::Command;
@@ -73,6 +73,8 @@ pub fn traces() -> PathBuf {
 #[derive(Clone)]
 pub struct Trace {
     pub lines: Vec<String>,
+    /// Whether its datagrams name chunks by bins.
+    bins: bool,
 }
 
 impl Trace {
@@ -80,6 +82,16 @@ impl Trace {
     pub fn new(root: &str, length: u32) -> Trace {
         Trace {
             lines: vec![format!("{root}{length:08x}")],
+            bins: false,
+        }
+    }
+
+    /// The same under bins.
+    pub fn under_bins(root: &str, length: u32) -> Trace {
+        let ranges = Trace::new(root, length);
+        Trace {
+            bins: true,
+            ..ranges
         }
     }
 
@@ -115,7 +127,12 @@ impl Trace {
         let mut root = Vec::new();
         hex::decode(&self.lines[0].as_bytes()[..64], &mut root).expect("digits");
         let root = root.try_into().expect("32 bytes");
-        let opening = handshake(source, &fixed(&root));
+        let options = if self.bins {
+            bins::fixed(&root)
+        } else {
+            fixed(&root)
+        };
+        let opening = handshake(source, &options);
         self.datagram(&to(0, &[&opening]))
     }
 
@@ -124,9 +141,20 @@ impl Trace {
         (self.lines.join("\n") + "\n").into_bytes()
     }
 
+    /// A run on it, with further arguments.
+    pub fn run(&self, more: &[&OsStr]) -> Ran {
+        let input = File::new(self.input());
+        let mut arguments: Vec<&OsStr> = vec![input.as_ref()];
+        if self.bins {
+            arguments.extend(["--addressing", "bins"].map(OsStr::new));
+        }
+        arguments.extend(more);
+        run(&arguments)
+    }
+
     /// What is told of the last line, as this library answers it: its rows, put together where they were broken.
     pub fn last(&self) -> Vec<String> {
-        let ran = run(&[File::new(self.input())]);
+        let ran = self.run(&[]);
         assert_eq!((ran.status, &ran.errors[..]), (Some(0), ""), "{}", ran.text);
         let start = format!("line {} ", self.lines.len());
         let parts = ran.text.split("\n\n");

@@ -1,8 +1,8 @@
-//! The text, and the numbers in it.
+//! The texts, and the numbers in them.
 
 use super::*;
 use crate::answer::DONE;
-use crate::wire;
+use crate::wire::{self, Addressing};
 
 #[test]
 fn lines_are_parsed() {
@@ -31,14 +31,24 @@ fn lines_that_cannot_be_parsed_are_named() {
 }
 
 /// The number made by hand is the one that the layout checks give.
-#[test]
-fn the_hand_made_datagrams() {
-    let text = include_str!("../../../tests/wire/datagrams.txt");
+fn compare(addressing: Addressing, text: &str, count: usize) {
     let all = parse(text).unwrap();
-    assert_eq!(all.len(), 368);
+    assert_eq!(all.len(), count);
     for hand_made in all {
-        let found = wire::layout(&hand_made.datagram, &mut Vec::new());
+        let found = wire::layout(addressing, &hand_made.datagram, &mut Vec::new());
         let found = found.err().unwrap_or(DONE);
         assert_eq!(found, hand_made.number, "line {}", hand_made.line);
     }
+}
+
+#[test]
+fn the_hand_made_datagrams() {
+    let text = include_str!("../../../tests/wire/datagrams.txt");
+    compare(Addressing::Ranges, text, 368);
+}
+
+#[test]
+fn the_hand_made_datagrams_under_bins() {
+    let text = include_str!("../../../tests/wire/bins.txt");
+    compare(Addressing::Bins, text, 233);
 }

@@ -155,11 +155,13 @@ pub(super) fn set_bit(row: &mut [u32], number: usize) {
 }
 
 /// Sets the bits `first` to `last` of a row, both included.
+#[inline(always)]
 pub(super) fn set_range(row: &mut [u32], first: u32, last: u32) {
     change_range(row, first, last, |word, bits| word | bits);
 }
 
 /// Clears the bits `first` to `last` of a row, both included.
+#[inline(always)]
 pub(super) fn clear_range(row: &mut [u32], first: u32, last: u32) {
     change_range(row, first, last, |word, bits| word & !bits);
 }
@@ -171,7 +173,7 @@ pub(super) fn clear_range(row: &mut [u32], first: u32, last: u32) {
 /// Between the words at both ends it goes over all words, with no bits where none
 /// are meant: a loop over some of them would cost more where ranges cannot be
 /// foreseen.
-#[inline]
+#[inline(always)]
 fn change_range(row: &mut [u32], first: u32, last: u32, change: impl Fn(u32, u32) -> u32) {
     let (low, high) = ((first / BITS) as usize, (last / BITS) as usize);
     let front = u32::MAX << (first % BITS);

@@ -7,6 +7,7 @@ use crate::climb::{self, Hashes};
 use crate::sha256::Digest;
 use crate::store::check_length;
 use crate::tree;
+use crate::wire::Addressing;
 
 /// "Starting clears all bit rows and the channel table, writes the root's hash
 /// and sets its trusted bit, nothing else."
@@ -15,14 +16,16 @@ pub fn start(
     rooms: &mut Rooms,
     root: &Digest,
     length: u32,
+    method: u32,
 ) -> Result<usize, u8> {
     check_length(length)?;
+    let addressing = addressing(method)?;
     let sizes = Sizes::of(length);
     rooms.check(&sizes)?;
     rooms.clear_rows(&sizes);
     let top = tree::root(tree::chunk_count(length));
     rooms.lent_hashes().trust(top, root);
-    *state = with_no_channel(*root, length);
+    *state = with_no_channel(*root, length, addressing);
     Ok(0)
 }
 
@@ -33,9 +36,11 @@ pub fn build(
     state: &mut State,
     rooms: &mut Rooms,
     length: u32,
+    method: u32,
     content: &[u8],
 ) -> Result<usize, u8> {
     check_length(length)?;
+    let addressing = addressing(method)?;
     if content.len() != length as usize {
         return Err(answer::BAD_LENGTH);
     }
@@ -45,15 +50,21 @@ pub fn build(
     rooms.chunks[..content.len()].copy_from_slice(content);
     set_range(rooms.map, 0, tree::chunk_count(length) - 1);
     let root = climb::build(&mut rooms.lent_hashes(), content);
-    *state = with_no_channel(root, length);
+    *state = with_no_channel(root, length, addressing);
     Ok(0)
 }
 
+/// The addressing method of a number.
+fn addressing(method: u32) -> Result<Addressing, u8> {
+    Addressing::of(method).ok_or(answer::BAD_METHOD)
+}
+
 /// An order, and a channel table that is cleared.
-fn with_no_channel(root: Digest, length: u32) -> State {
+fn with_no_channel(root: Digest, length: u32, addressing: Addressing) -> State {
     State {
         root,
         length,
+        addressing,
         ..State::default()
     }
 }

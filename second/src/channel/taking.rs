@@ -7,11 +7,11 @@ use crate::answer;
 use crate::climb::Order;
 use crate::sha256::Digest;
 use crate::tree::{self, CHUNK_SIZE};
-use crate::wire::{self, address, append, kind, Effect, Layout, Message, Nodes, Options};
-use crate::wire::{INTEGRITY_SIZE, MIN_SIZE};
+use crate::wire::MIN_SIZE;
+use crate::wire::{self, address, append, kind, Effect, Layout, Message, Names, Nodes, Options};
 
 /// Takes in a datagram at a clock; `id` is for a channel that it may open.
-pub fn take(
+pub fn take<N: Names>(
     state: &mut State,
     rooms: &mut Rooms,
     clock: u64,
@@ -19,12 +19,12 @@ pub fn take(
     datagram: &[u8],
 ) -> Result<usize, u8> {
     let sizes = state.check(rooms)?;
-    let mut nodes = Nodes::of(datagram);
-    let laid = wire::check(datagram, |node, place| nodes.keep(node, place))?;
+    let mut nodes = Nodes::<N>::of(datagram);
+    let laid = wire::check::<N>(datagram, |node, place| nodes.keep(node, place))?;
     let came = Came {
         datagram,
         nodes: &nodes,
-        last: laid.last,
+        highest: laid.highest,
         has_effects: laid.has_effects,
     };
     match laid.layout {
@@ -36,7 +36,7 @@ pub fn take(
                 peer: source,
                 choked: false,
             };
-            occupy(state, rooms, &sizes, row)
+            occupy::<N>(state, rooms, &sizes, row)
         }
         Layout::HandshakeAlone { source, options } => {
             take_handshake(state, datagram, source, options)
@@ -106,11 +106,11 @@ struct Data<'d> {
 }
 
 /// Takes messages other than HANDSHAKE, none for a keepalive.
-fn take_messages(
+fn take_messages<N: Names>(
     state: &mut State,
     rooms: &mut Rooms,
     sizes: &Sizes,
-    came: &Came,
+    came: &Came<N>,
     data: Option<Data>,
 ) -> Result<usize, u8> {
     let index = state.destination(destination(came.datagram))?;
@@ -123,24 +123,30 @@ fn take_messages(
             Err(answer::MISPLACED)
         };
     }
-    let last = data.as_ref().map_or(0, |data| data.chunk).max(came.last);
-    if last >= tree::chunk_count(state.length) {
+    let highest = data.as_ref().map_or(0, |data| data.chunk).max(came.highest);
+    let count = tree::chunk_count(state.length);
+    if highest >= count {
         return Err(answer::PAST_THE_END);
     }
     let mut length = 0;
     if let Some(data) = data {
         let order = Order::new(&state.root, state.length);
         store(&order, rooms, came, &data)?;
-        length = acknowledge(rooms.reply, row.peer, &data);
+        length = acknowledge::<N>(rooms.reply, row.peer, &data);
     }
     if came.has_effects {
-        apply(came.datagram, row, rooms.channel_rows(index, sizes));
+        apply::<N>(came.datagram, count, row, rooms.channel_rows(index, sizes));
     }
     Ok(length)
 }
 
 /// Checks a chunk, and keeps it if it is not held already.
-fn store(order: &Order, rooms: &mut Rooms, came: &Came, data: &Data) -> Result<(), u8> {
+fn store<N: Names>(
+    order: &Order,
+    rooms: &mut Rooms,
+    came: &Came<N>,
+    data: &Data,
+) -> Result<(), u8> {
     let Data { chunk, bytes, .. } = *data;
     let find = |node| came.nodes.hash(node);
     let proof = order.check(&rooms.lent_hashes(), chunk, bytes, find)?;
@@ -155,27 +161,27 @@ fn store(order: &Order, rooms: &mut Rooms, came: &Came, data: &Data) -> Result<(
 
 /// "One ACK naming that chunk alone, its delay the clock minus the timestamp
 /// modulo 2^64."
-fn acknowledge(reply: &mut [u8], peer: u32, data: &Data) -> usize {
+fn acknowledge<N: Names>(reply: &mut [u8], peer: u32, data: &Data) -> usize {
     let ack = Message::Ack {
         first: data.chunk,
         last: data.chunk,
         delay: data.delay,
     };
     let length = address(reply, peer);
-    append(reply, length, &ack, &[])
+    append::<N>(reply, length, &ack, &[])
 }
 
 /// The effects of the messages of a datagram of sound layout on its channel, in
-/// their order.
-fn apply(datagram: &[u8], row: &mut Row, [has, wants]: [&mut [u32]; 2]) {
+/// their order. The pack has `count` chunks.
+fn apply<N: Names>(datagram: &[u8], count: u32, row: &mut Row, [has, wants]: [&mut [u32]; 2]) {
     let mut at = MIN_SIZE;
-    while let Some((&kind, body)) = datagram[at..].split_first() {
-        let len = match wire::effect(kind, body) {
+    while let Some(&kind) = datagram.get(at) {
+        let len = match wire::effect::<N>(kind, &datagram[at + 1..]) {
             Some((effect, len)) => {
-                apply_one(effect, row, has, wants);
+                apply_one::<N>(effect, count, row, has, wants);
                 len
             }
-            None if kind == kind::INTEGRITY => INTEGRITY_SIZE - 1,
+            None if kind == kind::INTEGRITY => N::WITH_HASH,
             // DATA, to the datagram's end.
             None => return,
         };
@@ -185,10 +191,18 @@ fn apply(datagram: &[u8], row: &mut Row, [has, wants]: [&mut [u32]; 2]) {
 
 /// The effect of a message.
 #[inline(always)]
-fn apply_one(effect: Effect, row: &mut Row, has: &mut [u32], wants: &mut [u32]) {
+fn apply_one<N: Names>(
+    effect: Effect,
+    count: u32,
+    row: &mut Row,
+    has: &mut [u32],
+    wants: &mut [u32],
+) {
     match effect {
         Effect::Marks { choke } => row.choked = choke,
+        Effect::Nothing => {}
         Effect::Range { kind, first, last } => {
+            let last = N::last_inside(last, count);
             if kind == kind::ACK || kind == kind::HAVE {
                 set_range(has, first, last);
             }
@@ -202,12 +216,13 @@ fn apply_one(effect: Effect, row: &mut Row, has: &mut [u32], wants: &mut [u32]) 
 }
 
 /// A datagram of sound layout that is no HANDSHAKE.
-struct Came<'d> {
+struct Came<'d, N> {
     datagram: &'d [u8],
     /// The nodes whose hashes came.
-    nodes: &'d Nodes<'d>,
-    /// The highest last chunk of any range but that of DATA; 0 without one.
-    last: u32,
+    nodes: &'d Nodes<'d, N>,
+    /// The highest chunk that must be in the pack, but that of DATA; 0 without
+    /// one.
+    highest: u32,
     /// Whether there is a message that has an effect without DATA.
     has_effects: bool,
 }

@@ -6,17 +6,20 @@ mod any;
 mod chunks;
 mod handshakes;
 mod layouts;
+mod methods;
 mod opening;
+mod packs;
 mod plain;
 mod ranges;
 mod sessions;
 mod starting;
+mod under_bins;
 mod writing;
 
 use super::*;
 use crate::packets::*;
-use crate::store::plain::hash;
 use crate::tree;
+use packs::Pack;
 
 /// The length of the pack that RFC 7574 draws: seven chunks, the last of 1,018
 /// bytes.
@@ -109,13 +112,23 @@ impl Caller {
         (&mut self.state, rooms)
     }
 
+    /// Under ranges.
     fn start(&mut self, root: &Digest, length: u32) -> u8 {
-        self.call(|state, rooms| start(state, rooms, root, length))
+        self.start_under(2, root, length)
+    }
+
+    fn start_under(&mut self, method: u32, root: &Digest, length: u32) -> u8 {
+        self.call(|state, rooms| start(state, rooms, root, length, method))
             .0
     }
 
+    /// Under ranges.
     fn build(&mut self, length: u32, content: &[u8]) -> u8 {
-        self.call(|state, rooms| build(state, rooms, length, content))
+        self.build_under(2, length, content)
+    }
+
+    fn build_under(&mut self, method: u32, length: u32, content: &[u8]) -> u8 {
+        self.call(|state, rooms| build(state, rooms, length, method, content))
             .0
     }
 
@@ -155,9 +168,9 @@ impl Caller {
 
     /// A peer opens a channel, which is done and answered.
     fn opened_by_peer(&mut self, id: u32, source: u32) {
-        let root = self.state.root;
-        let opening = to(0, &[&handshake(source, &fixed(&root))]);
-        let answer = to(source, &[&handshake(id, &fixed(&root))]);
+        let options = either::fixed(self.state.addressing, &self.state.root);
+        let opening = to(0, &[&handshake(source, &options)]);
+        let answer = to(source, &[&handshake(id, &options)]);
         assert_eq!(answer.len(), 60);
         assert_eq!(self.take(0, id, &opening), (0, answer));
     }
@@ -197,70 +210,4 @@ impl Caller {
 /// Low bit first, 32 bits a word.
 fn is_set(row: &[u32], number: u64) -> bool {
     row[number as usize / 32] & (1 << (number % 32)) != 0
-}
-
-/// A pack.
-struct Pack {
-    content: Vec<u8>,
-}
-
-impl Pack {
-    /// Without a short period.
-    fn new(length: u32) -> Self {
-        let byte = |i| ((i * 131 + i / 251) % 253) as u8;
-        Pack {
-            content: (0..length).map(byte).collect(),
-        }
-    }
-
-    fn length(&self) -> u32 {
-        self.content.len() as u32
-    }
-
-    fn root(&self) -> Digest {
-        self.hash(tree::root(tree::chunk_count(self.length())))
-    }
-
-    /// The right hash of a node.
-    fn hash(&self, node: u64) -> Digest {
-        hash(&self.content, node)
-    }
-
-    fn chunk(&self, number: u32) -> &[u8] {
-        self.content.chunks(1024).nth(number as usize).unwrap()
-    }
-
-    /// A chunk with one bit changed.
-    fn damaged(&self, number: u32) -> Vec<u8> {
-        let mut bytes = self.chunk(number).to_vec();
-        bytes[0] ^= 1;
-        bytes
-    }
-
-    /// The INTEGRITY messages of these nodes with their right hashes.
-    fn hashes(&self, nodes: &[u64]) -> Vec<u8> {
-        let each = nodes.iter().map(|&node| node_hash(node, &self.hash(node)));
-        each.collect::<Vec<_>>().concat()
-    }
-
-    /// DATA with a right chunk and the time 0.
-    fn data(&self, number: u32) -> Vec<u8> {
-        data(number, number, 0, self.chunk(number))
-    }
-
-    /// A store started under the root, with channel 5 open to the peer's 9.
-    fn started(&self) -> Caller {
-        let mut caller = Caller::new(self.length());
-        assert_eq!(caller.start(&self.root(), self.length()), 0);
-        caller.opened_by_peer(5, 9);
-        caller
-    }
-
-    /// The same, built.
-    fn built(&self) -> Caller {
-        let mut caller = Caller::new(self.length());
-        assert_eq!(caller.build(self.length(), &self.content), 0);
-        caller.opened_by_peer(5, 9);
-        caller
-    }
 }

@@ -4,11 +4,11 @@ use super::rooms::{bit, hash_at};
 use super::{Rooms, State};
 use crate::answer;
 use crate::tree::{self, CHUNK_SIZE};
-use crate::wire::{address, append, Message};
+use crate::wire::{address, append, Message, Names};
 
 /// "All peaks and all siblings below its peak, each node once, sorted by height
 /// falling, then by first chunk rising, then DATA with the given clock."
-pub fn write(
+pub fn write<N: Names>(
     state: &State,
     rooms: &mut Rooms,
     id: u32,
@@ -33,7 +33,7 @@ pub fn write(
             hash: 0,
         };
         let hash = hash_at(rooms.hashes, node);
-        append(rooms.reply, length, &integrity, &hash)
+        append::<N>(rooms.reply, length, &integrity, &hash)
     });
     let start = (chunk * CHUNK_SIZE) as usize;
     let len = tree::chunk_size(state.length, chunk) as usize;
@@ -45,5 +45,5 @@ pub fn write(
         len,
     };
     let bytes = &rooms.chunks[start..start + len];
-    Ok(append(rooms.reply, length, &data, bytes))
+    Ok(append::<N>(rooms.reply, length, &data, bytes))
 }

@@ -5,6 +5,7 @@ use crate::answer;
 use crate::channel::{self, Outcome, Phase, Rooms, Sizes, State};
 use crate::hex;
 use crate::tree;
+use crate::wire::Addressing;
 
 /// The longest pack that the program takes.
 pub const MOST_LENGTH: u32 = 32_768;
@@ -45,7 +46,8 @@ impl Session {
         }
         let mut session = Session::with_rooms(Sizes::of(length));
         let (state, mut rooms, _) = session.lend();
-        let outcome = channel::start(state, &mut rooms, root, length);
+        let method = Addressing::Ranges.number();
+        let outcome = channel::start(state, &mut rooms, root, length, method);
         (outcome.number == answer::DONE).then_some(session)
     }
 

@@ -1,14 +1,15 @@
 //! The nodes whose hashes a datagram has.
 
-use super::{INTEGRITY_SIZE, MOST_NODES};
+use super::{Names, MOST_NODES};
 use crate::sha256::Digest;
-use crate::tree;
+use std::marker::PhantomData;
 
 /// The nodes of a datagram, each once, in its order. Most datagrams have none, so
 /// that the list is made with the first one.
-pub(crate) struct Nodes<'d> {
+pub(crate) struct Nodes<'d, N> {
     datagram: &'d [u8],
     list: Option<List>,
+    names: PhantomData<N>,
 }
 
 struct List {
@@ -18,17 +19,18 @@ struct List {
     seen: Seen,
 }
 
-impl<'d> Nodes<'d> {
+impl<'d, N: Names> Nodes<'d, N> {
     /// None yet, of a datagram.
     #[inline]
     pub fn of(datagram: &'d [u8]) -> Self {
         Nodes {
             datagram,
             list: None,
+            names: PhantomData,
         }
     }
 
-    /// Keeps a node whose hash has this place in the datagram, behind its range, and
+    /// Keeps a node whose hash has this place in the datagram, behind its name, and
     /// tells whether it is new.
     #[inline]
     pub fn keep(&mut self, node: u64, place: usize) -> bool {
@@ -39,7 +41,7 @@ impl<'d> Nodes<'d> {
         });
         let places = &list.places[..list.count];
         let perhaps = list.seen.insert(node);
-        if perhaps && find(self.datagram, places, node).is_some() {
+        if perhaps && find::<N>(self.datagram, places, node).is_some() {
             return false;
         }
         list.places[list.count] = place as u16;
@@ -51,23 +53,17 @@ impl<'d> Nodes<'d> {
     #[inline]
     pub fn hash(&self, node: u64) -> Option<&'d Digest> {
         let list = self.list.as_ref()?;
-        find(self.datagram, &list.places[..list.count], node)
+        find::<N>(self.datagram, &list.places[..list.count], node)
     }
 }
 
 /// Of the hashes at these places of a datagram the one of a node.
 #[inline]
-fn find<'d>(datagram: &'d [u8], places: &[u16], node: u64) -> Option<&'d Digest> {
-    let [first, last] = [tree::first_chunk(node), tree::last_chunk(node)];
-    let range = (first << 32 | last).to_be_bytes();
-    let mut messages = places.iter().filter_map(|&place| {
-        let start = usize::from(place).checked_sub(range.len())?;
-        datagram
-            .get(start..)?
-            .first_chunk::<{ INTEGRITY_SIZE - 1 }>()
-    });
-    let found = messages.find(|message| message.starts_with(&range))?;
-    found.last_chunk()
+fn find<'d, N: Names>(datagram: &'d [u8], places: &[u16], node: u64) -> Option<&'d Digest> {
+    let name = Some(N::name_of(node));
+    let mut places = places.iter().map(|&place| usize::from(place));
+    let found = places.find(|&place| N::name_before(datagram, place) == name)?;
+    datagram.get(found..)?.first_chunk()
 }
 
 /// Which nodes came, by ten bits of each: those of a pack differ in their low ten,

@@ -1,18 +1,27 @@
 //! Reading one message.
 
-use super::{kind, Message, Options, Step, BEFORE_ID, BEHIND_ID, END, FIXED_SIZE, HASH_SIZE};
-use crate::tree;
+use super::names::Chunks;
+use super::{behind_id, kind, BEFORE_ID, END, FIXED_SIZE};
+use super::{Addressing, ByBins, ByRanges, Message, Names, Options, Step};
 
 /// What stands at byte `at` of a datagram of any length.
 ///
-/// It is refused exactly where 01 gives 2 for this message by itself. A node
+/// It is refused exactly where the papers give 2 for this message by itself. A node
 /// that comes twice, and all of number 3, are matters of the whole datagram.
 #[inline]
-pub fn step(datagram: &[u8], at: usize) -> Step {
+pub fn step(addressing: Addressing, datagram: &[u8], at: usize) -> Step {
+    match addressing {
+        Addressing::Bins => step_by::<ByBins>(datagram, at),
+        Addressing::Ranges => step_by::<ByRanges>(datagram, at),
+    }
+}
+
+#[inline]
+fn step_by<N: Names>(datagram: &[u8], at: usize) -> Step {
     let Some((&kind, body)) = datagram.get(at..).and_then(<[u8]>::split_first) else {
         return Step::End;
     };
-    match message(kind, body, at + 1) {
+    match message::<N>(kind, body, at + 1) {
         Some((message, len)) => Step::Read {
             message,
             next: at + 1 + len,
@@ -24,49 +33,55 @@ pub fn step(datagram: &[u8], at: usize) -> Step {
 /// The message of a type and the bytes behind its type byte, which begin at
 /// byte `at` of the datagram, and how many of them are its own.
 #[inline]
-fn message(kind: u8, body: &[u8], at: usize) -> Option<(Message, usize)> {
+fn message<N: Names>(kind: u8, body: &[u8], at: usize) -> Option<(Message, usize)> {
     match kind {
         kind::HANDSHAKE => {
-            let (source, options, len) = handshake(body, at)?;
+            let (source, options, len) = handshake::<N>(body, at)?;
             Some((Message::Handshake { source, options }, len))
         }
         kind::DATA => {
-            let (chunk, time) = data(body)?;
+            let (chunk, time) = data::<N>(body)?;
             let data = Message::Data {
                 first: chunk,
                 last: chunk,
                 time,
-                start: at + DATA_FRONT,
-                len: body.len() - DATA_FRONT,
+                start: at + N::WITH_TIME,
+                len: body.len() - N::WITH_TIME,
             };
             Some((data, body.len()))
         }
         kind::ACK => {
-            let (first, last) = range(body)?;
-            let delay = number(&body[8..])?;
-            Some((Message::Ack { first, last, delay }, 16))
+            let (first, last) = N::acked(body)?;
+            let delay = number(&body[N::SIZE..])?;
+            Some((Message::Ack { first, last, delay }, N::WITH_TIME))
         }
-        kind::HAVE => {
-            let (first, last) = range(body)?;
-            Some((Message::Have { first, last }, 8))
-        }
+        kind::HAVE => over::<N>(kind, body, |first, last| Message::Have { first, last }),
         kind::INTEGRITY => {
-            let (first, last) = integrity(body)?;
-            let hash = at + 8;
-            Some((Message::Integrity { first, last, hash }, 8 + HASH_SIZE))
+            let (node, last) = integrity::<N>(body)?;
+            let first = (node - u64::from(last)) as u32;
+            let hash = at + N::SIZE;
+            Some((Message::Integrity { first, last, hash }, N::WITH_HASH))
         }
-        kind::REQUEST => {
-            let (first, last) = range(body)?;
-            Some((Message::Request { first, last }, 8))
-        }
-        kind::CANCEL => {
-            let (first, last) = range(body)?;
-            Some((Message::Cancel { first, last }, 8))
-        }
+        kind::REQUEST => over::<N>(kind, body, |first, last| Message::Request { first, last }),
+        kind::CANCEL => over::<N>(kind, body, |first, last| Message::Cancel { first, last }),
         kind::CHOKE => Some((Message::Choke, 0)),
         kind::UNCHOKE => Some((Message::Unchoke, 0)),
         5..=7 | 12..=255 => None,
     }
+}
+
+/// The HAVE, REQUEST or CANCEL over the chunks named here, or the empty one.
+#[inline]
+fn over<N: Names>(
+    kind: u8,
+    body: &[u8],
+    message: impl FnOnce(u32, u32) -> Message,
+) -> Option<(Message, usize)> {
+    let message = match N::chunks(body)? {
+        Chunks::Range(first, last) => message(first, last),
+        Chunks::Empty => Message::Empty { kind },
+    };
+    Some((message, N::SIZE))
 }
 
 /// A message that has an effect on its channel by itself.
@@ -77,6 +92,8 @@ pub(crate) enum Effect {
         /// Whether it is CHOKE.
         choke: bool,
     },
+    /// HAVE, REQUEST or CANCEL of the empty bin, which does nothing.
+    Nothing,
     /// ACK, HAVE, REQUEST or CANCEL.
     Range {
         /// Its type byte.
@@ -94,7 +111,7 @@ pub(crate) enum Effect {
 /// Types that are read alike are not told apart: in an order that cannot be
 /// foreseen, that would cost more than all else.
 #[inline(always)]
-pub(crate) fn effect(kind: u8, body: &[u8]) -> Option<(Effect, usize)> {
+pub(crate) fn effect<N: Names>(kind: u8, body: &[u8]) -> Option<(Effect, usize)> {
     match kind {
         kind::CHOKE | kind::UNCHOKE => {
             let is_mark = |&&kind: &&u8| kind == kind::CHOKE || kind == kind::UNCHOKE;
@@ -103,10 +120,16 @@ pub(crate) fn effect(kind: u8, body: &[u8]) -> Option<(Effect, usize)> {
             let choke = last == kind::CHOKE;
             Some((Effect::Marks { choke }, more))
         }
-        kind::ACK | kind::HAVE | kind::REQUEST | kind::CANCEL => {
-            let len = if kind == kind::ACK { 16 } else { 8 };
-            let (first, last) = range(body.get(..len)?)?;
-            Some((Effect::Range { kind, first, last }, len))
+        kind::ACK => {
+            let (first, last) = N::acked(body.get(..N::WITH_TIME)?)?;
+            Some((Effect::Range { kind, first, last }, N::WITH_TIME))
+        }
+        kind::HAVE | kind::REQUEST | kind::CANCEL => {
+            let effect = match N::chunks(body)? {
+                Chunks::Range(first, last) => Effect::Range { kind, first, last },
+                Chunks::Empty => Effect::Nothing,
+            };
+            Some((effect, N::SIZE))
         }
         _ => None,
     }
@@ -115,37 +138,24 @@ pub(crate) fn effect(kind: u8, body: &[u8]) -> Option<(Effect, usize)> {
 /// The source and the options of a HANDSHAKE, which begins at byte `at` of the
 /// datagram, and how many of these bytes are its own.
 #[inline]
-pub(super) fn handshake(body: &[u8], at: usize) -> Option<(u32, Options, usize)> {
+pub(super) fn handshake<N: Names>(body: &[u8], at: usize) -> Option<(u32, Options, usize)> {
     let source = u32::from_be_bytes(*body.first_chunk()?);
-    let (options, len) = options(&body[4..], at + 4)?;
+    let (options, len) = options::<N>(&body[4..], at + 4)?;
     Some((source, options, 4 + len))
 }
 
-/// The range of an INTEGRITY with its hash behind it, if it is a node's.
+/// The node of an INTEGRITY with its hash behind it, and the node's last chunk.
 #[inline]
-pub(super) fn integrity(body: &[u8]) -> Option<(u32, u32)> {
-    let (first, last) = range(body.get(..8 + HASH_SIZE)?)?;
-    tree::node_of_range(first, last)?;
-    Some((first, last))
+pub(super) fn integrity<N: Names>(body: &[u8]) -> Option<(u64, u32)> {
+    N::node(body.get(..N::WITH_HASH)?)
 }
 
-/// The bytes of DATA before the chunk.
-pub(super) const DATA_FRONT: usize = 16;
-
-/// The chunk's number and the timestamp of DATA, if its range is one chunk.
+/// The chunk's number and the timestamp of DATA.
 #[inline]
-pub(super) fn data(body: &[u8]) -> Option<(u32, u64)> {
-    let (first, last) = range(body)?;
-    let time = number(&body[8..])?;
-    (first == last).then_some((first, time))
-}
-
-/// The range at the front: its first chunk is not above its last.
-#[inline]
-fn range(bytes: &[u8]) -> Option<(u32, u32)> {
-    let both = number(bytes)?;
-    let (first, last) = ((both >> 32) as u32, both as u32);
-    (first <= last).then_some((first, last))
+pub(super) fn data<N: Names>(body: &[u8]) -> Option<(u32, u64)> {
+    let chunk = N::chunk(body)?;
+    let time = number(&body[N::SIZE..])?;
+    Some((chunk, time))
 }
 
 /// The 64-bit number at the front.
@@ -156,12 +166,12 @@ fn number(bytes: &[u8]) -> Option<u64> {
 
 /// The options at the front of the bytes, which begin at byte `at` of the
 /// datagram, and how many bytes they have, End included.
-fn options(bytes: &[u8], at: usize) -> Option<(Options, usize)> {
+fn options<N: Names>(bytes: &[u8], at: usize) -> Option<(Options, usize)> {
     if *bytes.first()? == END {
         return Some((Options::EndOnly, 1));
     }
     if let Some(fixed) = bytes.first_chunk::<FIXED_SIZE>() {
-        if fixed.starts_with(&BEFORE_ID) && fixed.ends_with(&BEHIND_ID) {
+        if fixed.starts_with(&BEFORE_ID) && fixed.ends_with(&behind_id(N::ADDRESSING)) {
             let root = at + BEFORE_ID.len();
             return Some((Options::Fixed { root }, FIXED_SIZE));
         }

@@ -1,8 +1,11 @@
 //! Reading and writing against 01's words and against the list of traps, whose
 //! numbers the tests give.
 
+mod bins;
+mod bins_written;
 mod data_ranges;
 mod layouts;
+mod many;
 mod reading;
 mod writing;
 
@@ -10,7 +13,8 @@ use super::*;
 
 /// The fixed options around an ID of 32 times the byte 7.
 fn fixed() -> Vec<u8> {
-    [&BEFORE_ID[..], &[7; 32], &BEHIND_ID].concat()
+    let behind = [3, 1, 4, 2, 6, 2, 9, 0, 0, 4, 0, 255];
+    [&BEFORE_ID[..], &[7; 32], &behind].concat()
 }
 
 /// A HANDSHAKE.
@@ -38,9 +42,15 @@ fn to(destination: u32, messages: &[&[u8]]) -> Vec<u8> {
     [&destination.to_be_bytes()[..], &messages.concat()].concat()
 }
 
-/// The number of its layout.
+/// The number of its layout under ranges.
 fn number(datagram: &[u8]) -> u8 {
-    layout(datagram, &mut Vec::new()).err().unwrap_or(0)
+    number_under(Addressing::Ranges, datagram)
+}
+
+/// The same under a method.
+fn number_under(addressing: Addressing, datagram: &[u8]) -> u8 {
+    let layout = layout(addressing, datagram, &mut Vec::new());
+    layout.err().unwrap_or(0)
 }
 
 /// A room of 2,048 bytes with a datagram in it, and the datagram's length.
@@ -50,12 +60,22 @@ fn room(datagram: &[u8]) -> ([u8; 2048], usize) {
     (room, datagram.len())
 }
 
-/// Adds to a datagram: the answer is the lengthened datagram. The bytes behind
-/// it stay, and after a refusal all bytes.
+/// Adds to a datagram under ranges: the answer is the lengthened datagram. The
+/// bytes behind it stay, and after a refusal all bytes.
 fn added(datagram: &[u8], message: Message, source: &[u8]) -> Result<Vec<u8>, u8> {
+    added_under(Addressing::Ranges, datagram, message, source)
+}
+
+/// The same under a method.
+fn added_under(
+    addressing: Addressing,
+    datagram: &[u8],
+    message: Message,
+    source: &[u8],
+) -> Result<Vec<u8>, u8> {
     let (mut room, len) = room(datagram);
     let before = room;
-    match add(&mut room, len, &message, source) {
+    match add(&mut room, addressing, len, &message, source) {
         Ok(lengthened) => {
             assert_eq!(room[lengthened..], before[lengthened..]);
             Ok(room[..lengthened].to_vec())

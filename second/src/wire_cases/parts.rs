@@ -1,7 +1,9 @@
 //! The parts of datagrams, made of random numbers. The bytes are put together
 //! here and not by `wire`, which they are to try.
 
+use super::Cases;
 use crate::random::Random;
+use crate::wire::Addressing;
 
 impl Random {
     /// A chunk or channel number: small, at a border, or any.
@@ -44,6 +46,45 @@ impl Random {
         (chunk & !low, chunk | low)
     }
 
+    /// A bin: over few chunks or below 512 of them, of any height from 0 to 32,
+    /// which has the empty bin and everything, at a border, or any.
+    pub fn bin(&mut self) -> u32 {
+        const BORDERS: [u32; 10] = [
+            0,
+            0x3fff_ffff,
+            0x7fff_fffe,
+            0x7fff_ffff,
+            0x8000_0000,
+            0xbfff_ffff,
+            0xffff_fffc,
+            0xffff_fffd,
+            0xffff_fffe,
+            0xffff_ffff,
+        ];
+        match self.below(8) {
+            0 | 1 => self.below(16) as u32,
+            2 | 3 => self.below(1024) as u32,
+            4 | 5 => {
+                let height = self.below(33);
+                let ones = ((1u64 << height) - 1) as u32;
+                let zero = (1u64 << height) as u32;
+                (self.next() as u32 | ones) & !zero
+            }
+            6 => BORDERS[self.below(BORDERS.len())],
+            _ => self.next() as u32,
+        }
+    }
+
+    /// A bin that is neither empty nor everything.
+    pub fn some_bin(&mut self) -> u32 {
+        loop {
+            let bin = self.bin();
+            if bin != 0x7fff_ffff && bin != 0xffff_ffff {
+                return bin;
+            }
+        }
+    }
+
     /// A chunk's length: none, few, full or any up to the limit.
     pub fn chunk_size(&mut self) -> usize {
         match self.below(8) {
@@ -54,118 +95,105 @@ impl Random {
             _ => self.below(2048),
         }
     }
+}
 
+/// What stands between a type byte and the rest of a message.
+pub type Name = Vec<u8>;
+
+impl Cases {
     /// A message that is neither HANDSHAKE nor DATA. The nodes so far are in
     /// `nodes`: it is none of them, and gets there.
-    pub fn plain_message(&mut self, nodes: &mut Vec<(u32, u32)>) -> Vec<u8> {
-        match self.below(8) {
+    pub fn plain_message(&mut self, nodes: &mut Vec<Name>) -> Vec<u8> {
+        match self.random.below(8) {
             0 => {
-                let mut ack = with_range(2, self.range());
-                ack.extend(self.time().to_be_bytes());
+                let mut ack = with_name(2, &self.acked());
+                ack.extend(self.random.time().to_be_bytes());
                 ack
             }
-            1 => with_range(3, self.range()),
+            1 => with_name(3, &self.chunks()),
             2 | 3 => self.integrity(nodes),
-            4 => with_range(8, self.range()),
-            5 => with_range(9, self.range()),
+            4 => with_name(8, &self.chunks()),
+            5 => with_name(9, &self.chunks()),
             6 => vec![10],
             _ => vec![11],
         }
     }
 
     /// An INTEGRITY of another node than those in `nodes`, where it gets.
-    pub fn integrity(&mut self, nodes: &mut Vec<(u32, u32)>) -> Vec<u8> {
+    pub fn integrity(&mut self, nodes: &mut Vec<Name>) -> Vec<u8> {
         let mut node = self.node();
         while nodes.contains(&node) {
             node = self.node();
         }
+        let mut integrity = with_name(4, &node);
         nodes.push(node);
-        let mut integrity = with_range(4, node);
-        integrity.extend(self.bytes(32));
+        integrity.extend(self.random.bytes(32));
         integrity
     }
 
     pub fn data(&mut self, len: usize) -> Vec<u8> {
-        let chunk = self.number();
-        let mut data = with_range(1, (chunk, chunk));
-        data.extend(self.time().to_be_bytes());
-        data.extend(self.bytes(len));
+        let chunk = self.random.number();
+        let name = match self.addressing {
+            Addressing::Bins => bin(2 * (chunk % (1 << 31))),
+            Addressing::Ranges => range((chunk, chunk)),
+        };
+        let mut data = with_name(1, &name);
+        data.extend(self.random.time().to_be_bytes());
+        data.extend(self.random.bytes(len));
         data
     }
 
-    /// 01's fixed options around a random swarm ID.
-    pub fn fixed_options(&mut self) -> Vec<u8> {
-        let mut options = vec![0, 1, 1, 1, 2, 0, 32];
-        options.extend(self.bytes(32));
-        options.extend([3, 1, 4, 2, 6, 2, 9, 0, 0, 4, 0, 255]);
-        options
+    /// DATA of several chunks, or ACK, INTEGRITY or DATA of the empty bin or of
+    /// everything.
+    pub fn bin_at_fault(&mut self) -> Vec<u8> {
+        let special = 0x7fff_ffff | (self.random.next() as u32) << 31;
+        let (kind, at_fault, behind) = match self.random.below(5) {
+            0 | 1 => (1, self.random.some_bin() | 1, 8 + self.random.below(40)),
+            2 => (1, special, 8 + self.random.below(40)),
+            3 => (2, special, 8),
+            _ => (4, special, 32),
+        };
+        let mut message = with_name(kind, &bin(at_fault));
+        message.extend(self.random.bytes(behind));
+        message
     }
 
-    /// Options of rising codes, any of them, and End.
-    pub fn sound_options(&mut self) -> Vec<u8> {
-        let mut options = Vec::new();
-        for code in 0..10 {
-            if self.below(2) == 0 {
-                options.extend(self.option(code));
-            }
+    /// Any chunks that a HAVE, REQUEST or CANCEL can name.
+    fn chunks(&mut self) -> Name {
+        match self.addressing {
+            Addressing::Bins => bin(self.random.bin()),
+            Addressing::Ranges => range(self.random.range()),
         }
-        options.push(255);
-        options
     }
 
-    /// An option, its value random.
-    fn option(&mut self, code: u8) -> Vec<u8> {
-        let mut option = vec![code];
-        match code {
-            2 => {
-                let len = [0, 1, 20, 31, 32, 33, 256, 288][self.below(8)];
-                option.extend((len as u16).to_be_bytes());
-                option.extend(self.bytes(len));
-            }
-            7 | 9 => option.extend(self.bytes(4)),
-            8 => {
-                let len = [0, 1, 2, 32, 255][self.below(5)];
-                option.push(len as u8);
-                option.extend(self.bytes(len));
-            }
-            _ => option.push(self.next() as u8),
+    /// The same for an ACK.
+    fn acked(&mut self) -> Name {
+        match self.addressing {
+            Addressing::Bins => bin(self.random.some_bin()),
+            Addressing::Ranges => range(self.random.range()),
         }
-        option
     }
 
-    /// Options with a fault: two swapped, one twice, an unknown one, no End, or
-    /// cut short.
-    pub fn faulty_options(&mut self) -> Vec<u8> {
-        let mut list: Vec<_> = (0..10).map(|code| self.option(code)).collect();
-        let at = self.below(9);
-        match self.below(5) {
-            0 => list.swap(at, at + 1),
-            1 => list.insert(at, list[at].clone()),
-            2 => list.insert(at, vec![10 + self.below(245) as u8, 0]),
-            3 => return list.concat(),
-            _ => {
-                let mut options = list.concat();
-                options.truncate(self.below(options.len()));
-                return options;
-            }
+    /// The same for an INTEGRITY.
+    fn node(&mut self) -> Name {
+        match self.addressing {
+            Addressing::Bins => bin(self.random.some_bin()),
+            Addressing::Ranges => range(self.random.node()),
         }
-        list.push(vec![255]);
-        list.concat()
     }
 }
 
-/// A HANDSHAKE.
-pub fn handshake(source: u32, options: &[u8]) -> Vec<u8> {
-    let mut handshake = vec![0];
-    handshake.extend(source.to_be_bytes());
-    handshake.extend(options);
-    handshake
+fn range((first, last): (u32, u32)) -> Name {
+    [first.to_be_bytes(), last.to_be_bytes()].concat()
 }
 
-/// A type byte and a range.
-pub fn with_range(kind: u8, (first, last): (u32, u32)) -> Vec<u8> {
+fn bin(bin: u32) -> Name {
+    bin.to_be_bytes().to_vec()
+}
+
+/// A type byte and a name.
+fn with_name(kind: u8, name: &[u8]) -> Vec<u8> {
     let mut message = vec![kind];
-    message.extend(first.to_be_bytes());
-    message.extend(last.to_be_bytes());
+    message.extend(name);
     message
 }

@@ -1,8 +1,8 @@
 /*
- * How much stack the calls touch: each runs on a thread whose stack was filled with one byte before. A pack of 512
- * chunks is built, and one of its chunks goes from a whole store to an empty one. Prints how many bytes each call
- * touched, those of the thread that stand above it included, and how many of them stand below the frame that made the
- * call; the status is 1 if these are more than the limit.
+ * How much stack the calls touch: each runs on a thread whose stack was filled with one byte before. Under each
+ * addressing a pack of 512 chunks is built, and one of its chunks goes from a whole store to an empty one. Prints how
+ * many bytes each call touched, those of the thread that stand above it included, and how many of them stand below the
+ * frame that made the call; the status is 1 if these are more than the limit.
  */
 #define _POSIX_C_SOURCE 200809L
 
@@ -24,6 +24,7 @@ static uint8_t content[PPSPP_MAX_LENGTH];
 static uint8_t datagram[PPSPP_MAX_DATAGRAM];
 static size_t datagram_n;
 static _Alignas(4096) uint8_t stack[STACK_BYTES];
+static uint32_t addressing;
 static uint32_t answer;
 static size_t frame; /* the place in the stack from which the call was made */
 
@@ -41,14 +42,15 @@ static void nothing(void)
 
 static void build(void)
 {
-    answer = ppspp_store_build(&server, PPSPP_MAX_LENGTH, content, PPSPP_MAX_LENGTH);
+    const struct ppspp_order order = ppspp_order_to_build(PPSPP_MAX_LENGTH, addressing);
+    answer = ppspp_store_build(&server, &order, content, PPSPP_MAX_LENGTH);
 }
 
 static void start(void)
 {
-    uint8_t root[PPSPP_ROOT_BYTES];
-    ppspp_store_root(&server, root);
-    answer = ppspp_store_start(&van, root, PPSPP_MAX_LENGTH);
+    struct ppspp_order order;
+    ppspp_store_order(&server, &order);
+    answer = ppspp_store_start(&van, &order);
 }
 
 static void open_channel(void)
@@ -139,7 +141,8 @@ static size_t lowest(struct call *call)
     return clean;
 }
 
-int main(void)
+/* Makes all calls under the addressing; 1 if one touched more than the limit. */
+static int make_all(void)
 {
     static struct call calls[] = {
         {"nothing", nothing}, {"build", build}, {"start", start}, {"open", open_channel},
@@ -157,4 +160,15 @@ int main(void)
         }
     }
     return status;
+}
+
+int main(void)
+{
+    printf("under bins\n");
+    addressing = PPSPP_BINS;
+    const int by_bins = make_all();
+    printf("under ranges\n");
+    addressing = PPSPP_RANGES;
+    const int by_ranges = make_all();
+    return by_bins | by_ranges;
 }

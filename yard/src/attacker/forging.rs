@@ -5,7 +5,7 @@ use crate::datagram::{Attack, Datagram};
 use crate::radio::flip;
 use crate::rows::handshake;
 use ppspp::sizes::{CHUNK_SIZE, MAX_CHUNKS, REPLY_BYTES};
-use ppspp::{destination, messages, Composer, Message};
+use ppspp::{destination, Addressing, Bin, Composer, EmptyKind, Message};
 
 impl Attacker {
     /// A datagram of a sort. Its envelope is that of the captured one that it is made of.
@@ -27,6 +27,7 @@ impl Attacker {
             Attack::Choke => self.message(Message::Choke),
             Attack::FalseHave => self.false_have(),
             Attack::FalseRequest => self.false_request(),
+            Attack::WrongBin => self.wrong_bin(),
         }
     }
 
@@ -111,7 +112,7 @@ impl Attacker {
             timestamp: now,
             bytes: &bytes,
         };
-        Some(with(datagram, &[peak, data]))
+        Some(self.with(datagram, &[peak, data]))
     }
 
     /// The chunk lacks bytes, or has more than it should.
@@ -141,13 +142,14 @@ impl Attacker {
         let mut datagram = self.captured()?;
         let (source, root) = (self.random.number() as u32 | 1, self.order.root);
         datagram.bytes = vec![0; 4];
-        Some(with(datagram, &[handshake(source, &root)]))
+        Some(self.with(datagram, &[handshake(source, &root)]))
     }
 
     /// A HANDSHAKE to a caller, from a channel that nobody has.
     fn answer(&mut self) -> Option<Datagram> {
         let call = self.random.pick(&self.calls)?;
-        let Some(Ok((_, Message::Handshake { source, .. }))) = messages(&call.bytes).next() else {
+        let first = self.pack.messages(&call.bytes).next();
+        let Some(Ok((_, Message::Handshake { source, .. }))) = first else {
             return None;
         };
         let answer = Datagram {
@@ -157,19 +159,51 @@ impl Attacker {
             origin: call.origin,
         };
         let (source, root) = (self.random.number() as u32 | 1, self.order.root);
-        Some(with(answer, &[handshake(source, &root)]))
+        Some(self.with(answer, &[handshake(source, &root)]))
     }
 
     fn false_have(&mut self) -> Option<Datagram> {
-        let (first, last) = self.range();
-        self.message(Message::Have { first, last })
+        let chunks = self.named();
+        self.message(over(EmptyKind::Have, chunks))
     }
 
     fn false_request(&mut self) -> Option<Datagram> {
-        let (first, last) = self.range();
+        let chunks = self.named();
         match self.random.below(2) {
-            0 => self.message(Message::Request { first, last }),
-            _ => self.message(Message::Cancel { first, last }),
+            0 => self.message(over(EmptyKind::Request, chunks)),
+            _ => self.message(over(EmptyKind::Cancel, chunks)),
+        }
+    }
+
+    /// One bin of a captured datagram is another, perhaps one that such a message may not have.
+    fn wrong_bin(&mut self) -> Option<Datagram> {
+        let mut datagram = self.addressed()?;
+        let found = self.pack.messages(&datagram.bytes).flatten();
+        let places: Vec<usize> = found
+            .filter_map(|(place, message)| message.range().map(|_| place + 1))
+            .collect();
+        let &place = self.random.pick(&places)?;
+        let Bin(number) = self.bin();
+        datagram.bytes[place..place + 4].copy_from_slice(&number.to_be_bytes());
+        Some(datagram)
+    }
+
+    /// The first and the last of some chunks that messages can name; under bins perhaps none.
+    fn named(&mut self) -> Option<(u32, u32)> {
+        match self.addressing() {
+            Addressing::Bins => self.bin().chunks(),
+            _ => Some(self.range()),
+        }
+    }
+
+    /// The empty bin, the one over everything, one in the pack or near its end, or any.
+    fn bin(&mut self) -> Bin {
+        let count = u64::from(self.order.chunk_count());
+        match self.random.below(4) {
+            0 => Bin::EMPTY,
+            1 => Bin::EVERYTHING,
+            2 => Bin(self.random.below(4 * count) as u32),
+            _ => Bin(self.random.number() as u32),
         }
     }
 
@@ -187,18 +221,31 @@ impl Attacker {
     /// A message to a channel in use.
     fn message(&mut self, message: Message<'_>) -> Option<Datagram> {
         let datagram = self.addressed()?;
-        Some(with(datagram, &[message]))
+        Some(self.with(datagram, &[message]))
+    }
+
+    /// A datagram to the channel of another one, with other messages.
+    fn with(&self, mut datagram: Datagram, messages: &[Message<'_>]) -> Datagram {
+        let mut room = [0; REPLY_BYTES];
+        let channel = destination(&datagram.bytes).unwrap_or(0);
+        let composer = Composer::begin(&mut room, self.addressing(), channel);
+        let mut composer = composer.expect("the room is large enough");
+        for &message in messages {
+            composer.add(message).expect("the messages fit");
+        }
+        datagram.bytes = composer.finish().to_vec();
+        datagram
     }
 }
 
-/// A datagram to the channel of another one, with other messages.
-fn with(mut datagram: Datagram, messages: &[Message<'_>]) -> Datagram {
-    let mut room = [0; REPLY_BYTES];
-    let channel = destination(&datagram.bytes).unwrap_or(0);
-    let mut composer = Composer::begin(&mut room, channel).expect("the room is large enough");
-    for &message in messages {
-        composer.add(message).expect("the messages fit");
+/// A HAVE, REQUEST or CANCEL over chunks from a first to a last one, or over none.
+fn over(kind: EmptyKind, chunks: Option<(u32, u32)>) -> Message<'static> {
+    let Some((first, last)) = chunks else {
+        return Message::Empty { kind };
+    };
+    match kind {
+        EmptyKind::Have => Message::Have { first, last },
+        EmptyKind::Request => Message::Request { first, last },
+        EmptyKind::Cancel => Message::Cancel { first, last },
     }
-    datagram.bytes = composer.finish().to_vec();
-    datagram
 }

@@ -10,10 +10,10 @@ use Rattle.effects.proofs.apply.Statement.{statement}
 use Rattle.effects.proofs.apply.Tie as tie
 
 abbrev Inv-loop : tie.InvT-loop
-Inv-loop has₀ wants₀ base choked datagram mark₀ at₀ left₀ has wants mark at left = (length has ≡ length has₀) × (length wants ≡ length wants₀) × (effects base (readFrom left datagram at) (peerOf has wants mark) ≡ effects base (readAll datagram) (peerOf has₀ wants₀ choked))
+Inv-loop has₀ wants₀ format n base choked datagram mark₀ at₀ left₀ has wants mark at left = (length has ≡ length has₀) × (length wants ≡ length wants₀) × (effects n base (readFrom format left datagram at) (peerOf has wants mark) ≡ effects n base (readAll format datagram) (peerOf has₀ wants₀ choked))
 
 abbrev μ-loop : tie.MeasureT-loop
-μ-loop has₀ wants₀ base choked datagram mark₀ at₀ left₀ has wants mark at left = left
+μ-loop has₀ wants₀ format n base choked datagram mark₀ at₀ left₀ has wants mark at left = left
 
 loop-holds : tie.Need-loop-holds Inv-loop μ-loop
 loop-holds c = (refl, refl, refl)
@@ -28,7 +28,7 @@ loop-less : tie.Need-loop-less Inv-loop μ-loop
 loop-less c =
     let l = c .before .before .before .before .before .before .before .before .loop in
     let a = c .before .before .before .before .before .before .before .before .before .before .before .before .args in
-    omega (arith, turn-less (a .base) (peerOf (l .has) (l .wants) (l .mark)) (l .left - 1) (stepAt (a .datagram .now) (l .at)) (c .before .before .before .before .apply-turn .ensures), c .before .before .before .before .before .before .before .loop-test .taken)
+    omega (arith, turn-less (a .n) (a .base) (peerOf (l .has) (l .wants) (l .mark)) (l .left - 1) (stepAt (a .format) (a .datagram .now) (l .at)) (c .before .before .before .before .apply-turn .ensures), c .before .before .before .before .before .before .before .loop-test .taken)
 
 loop-again : tie.Need-loop-again Inv-loop μ-loop
 loop-again c =
@@ -37,7 +37,7 @@ loop-again c =
     let t = c .before .before .before .before .apply-turn in (
       omega (arith, t .kept, l .inv .0),
       omega (arith, t .kept, l .inv .1),
-      turn-effects (a .base) (a .datagram .now) (l .at) (l .left) (peerOf (l .has) (l .wants) (l .mark)) (c .before .before .before .before .before .before .before .loop-test .taken) (t .ensures) ∙ l .inv .2,
+      turn-effects (a .format) (a .n) (a .base) (a .datagram .now) (l .at) (l .left) (peerOf (l .has) (l .wants) (l .mark)) (c .before .before .before .before .before .before .before .loop-test .taken) (t .ensures) ∙ l .inv .2,
     )
 
 same-length : tie.Need-same-length Inv-loop μ-loop
@@ -50,7 +50,7 @@ returns : tie.Need-returns Inv-loop μ-loop
 returns c =
     let l = c .before .loop in
     let a = c .before .before .before .before .before .args in
-    sym (effects-none (a .base) (a .datagram .now) (l .at) (l .left) (peerOf (l .has) (l .wants) (l .mark)) (omega arith)) ∙ l .inv .2
+    sym (effects-none (a .format) (a .n) (a .base) (a .datagram .now) (l .at) (l .left) (peerOf (l .has) (l .wants) (l .mark)) (omega arith)) ∙ l .inv .2
 
 pub apply-spec : {M : Type 1} → statement M
 apply-spec =

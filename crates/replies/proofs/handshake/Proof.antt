@@ -16,7 +16,8 @@ slice-aggregate-put-handshake c = search needs
 put-handshake-requires : tie.Need-put-handshake-requires
 put-handshake-requires c κs =
     let b = c .before .before .before .before in
-    handshake-puts _ _ (omega (arith, b .before .before .before .before .pre, b .begin .kept)) (search needs)
+    let a = b .before .before .before .before in
+    handshake-puts _ _ (omega (arith, a .pre, b .begin .kept)) (search needs)
 
 add-result : tie.Need-add-result
 add-result c = search needs
@@ -29,7 +30,8 @@ returns c =
     let p = c .before .before in
     let b = p .before .before .before .before .before in
     let s = b .before .before in
-    handshake-done _ _ (s .before .before .pre) (b .begin .ensures) _ (s .bytes .ensures) (search needs) (p .put-handshake .ensures)
+    let a = s .before .before in
+    handshake-done _ _ _ (a .pre) (b .begin .ensures) _ (s .bytes .ensures) (search needs) (p .put-handshake .ensures)
 
 pub handshake-spec : {M : Type 1} → statement M
 handshake-spec =

@@ -14,8 +14,8 @@ inside-requires c κs = search needs
 returns : tie.Need-returns
 returns c =
     let i = c .before in
-    let a = i .before .before .before .args in
-    sibling-none (a .n) (a .c) (a .h) (i .inside .ensures) (a .hashes .now) _ _ (not-true _ (c .if1 .taken))
+    let a = i .before .before .before in
+    sibling-none (a .args .n) (a .args .c) (a .args .h) (i .inside .ensures) _ (a .args .hashes .now) _ _ (not-true _ (c .if1 .taken))
 
 sibling-index-requires : tie.Need-sibling-index-requires
 sibling-index-requires c κs = search needs
@@ -24,8 +24,8 @@ put-node-requires : tie.Need-put-node-requires
 put-node-requires c κs =
     let t = c .before .before in
     let i = t .before in
-    let a = i .before .before .before .args in
-    omega (arith, sibling-fits (a .n) (a .c) (a .h) (i .inside .ensures) (not-false _ (t .if1 .left)) _ (c .sibling-index .ensures))
+    let a = i .before .before .before in
+    omega (arith, sibling-fits (a .args .n) (a .args .c) (a .args .h) (i .inside .ensures) (not-false _ (t .if1 .left)) _ (c .sibling-index .ensures))
 
 same-length : tie.Need-same-length
 same-length c = search needs
@@ -35,7 +35,8 @@ returns-2 c =
     let p = c .before .before in
     let s = p .before in
     let t = s .before .before in
-    sibling-put _ _ _ (t .before .inside .ensures) _ _ _ (not-false _ (t .if1 .left)) _ (s .sibling-index .ensures) (p .put-node .ensures)
+    let i = t .before in
+    sibling-put _ _ _ (i .inside .ensures) _ _ _ _ (not-false _ (t .if1 .left)) _ (s .sibling-index .ensures) (p .put-node .ensures)
 
 pub put-sibling-spec : {M : Type 1} → statement M
 put-sibling-spec =

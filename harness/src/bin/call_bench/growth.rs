@@ -1,9 +1,10 @@
-//! How the cost of the calls grows with the number of chunks.
+//! How the cost of the calls grows with the number of chunks, under ranges.
 
 use crate::jobs::{any_order, ask, build, take, write, written, Ready, Task};
 use harness::bench::{self, Job, Unit, NAMES};
 use harness::packs::Pack;
 use harness::random::Random;
+use second::wire::Addressing;
 use std::time::Duration;
 
 /// The numbers of chunks.
@@ -33,10 +34,11 @@ impl OfCount {
         let count = count as u32;
         let pack = Pack::new(&mut Random::new(count), 1_024 * count);
         let order = any_order(&pack);
+        let ranges = Addressing::Ranges;
         OfCount {
-            datagrams: written(&pack, &order),
-            fresh: Ready::new(&pack, false),
-            whole: Ready::new(&pack, true),
+            datagrams: written(ranges, &pack, &order),
+            fresh: Ready::new(ranges, &pack, false),
+            whole: Ready::new(ranges, &pack, true),
             order,
             pack,
         }

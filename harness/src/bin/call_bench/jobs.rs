@@ -8,8 +8,9 @@ use harness::packets::{datagram, fixed, handshake};
 use harness::packs::Pack;
 use harness::random::Random;
 use harness::rooms::Rooms;
-use ppspp::calls;
+use ppspp::{calls, Order};
 use second::channel::{self as channel, State};
+use second::wire::Addressing;
 use std::hint::black_box;
 use std::time::Duration;
 
@@ -33,9 +34,10 @@ pub fn any_order(pack: &Pack) -> Vec<u32> {
     order
 }
 
-/// The datagrams that a whole store writes for the chunks, to our channel.
-pub fn written(pack: &Pack, order: &[u32]) -> Vec<Vec<u8>> {
-    let mut peer = sender(&mut Random::new(0), pack);
+/// The datagrams that a whole store under a method writes for the chunks, to our
+/// channel.
+pub fn written(addressing: Addressing, pack: &Pack, order: &[u32]) -> Vec<Vec<u8>> {
+    let mut peer = sender(addressing, &mut Random::new(0), pack);
     let clocks = 0..;
     let written = order.iter().zip(clocks).map(|(&chunk, clock)| {
         let messages = peer.written("written beforehand", chunk, clock);
@@ -54,17 +56,18 @@ pub struct Ready {
 impl Ready {
     /// Just started or whole, in rooms just large enough. All have been written
     /// to, or the time would be that of the machine that finds the memory.
-    pub fn new(pack: &Pack, whole: bool) -> Self {
+    pub fn new(addressing: Addressing, pack: &Pack, whole: bool) -> Self {
         let (length, root) = (pack.length(), pack.built.root());
+        let method = addressing.number();
         let mut rooms = Rooms::least(length);
         let mut state = State::default();
         let lent = &mut rooms.lend_to_second();
         let begun = if whole {
-            channel::build(&mut state, lent, length, &pack.content)
+            channel::build(&mut state, lent, length, method, &pack.content)
         } else {
-            channel::start(&mut state, lent, root, length)
+            channel::start(&mut state, lent, root, length, method)
         };
-        let opening = datagram(0, &[handshake(9, &fixed(root))]);
+        let opening = datagram(0, &[handshake(9, &fixed(addressing, root))]);
         let opened = channel::take(&mut state, lent, 0, CHANNEL, &opening);
         assert_eq!((begun.number, opened.number), (0, 0));
         Ready { state, rooms }
@@ -87,17 +90,20 @@ fn done(calls: impl FnOnce() -> u32) -> Duration {
 /// The pack built, in the rooms of a store of it.
 pub fn build<'a>(task: Task, ready: &'a Ready, pack: &'a Pack) -> Job<'a> {
     let (times, length) = (task.times, pack.length());
+    let method = ready.state.addressing.number();
+    let order = Order::to_build(length).method(method);
     let content = pack.content.as_slice();
     let proved = move || {
         let (mut state, mut rooms) = ready.in_words();
-        let build = |_| calls::build(rooms.lend(&mut state), length, black_box(content));
+        let build = |_| calls::build(rooms.lend(&mut state), &order, black_box(content));
         done(|| (0..times).map(build).sum())
     };
     let second = move || {
         let mut store = ready.clone();
         let mut lent = store.rooms.lend_to_second();
         let build = |_| {
-            let built = channel::build(&mut store.state, &mut lent, length, black_box(content));
+            let (state, content) = (&mut store.state, black_box(content));
+            let built = channel::build(state, &mut lent, length, method, content);
             u32::from(built.number)
         };
         done(|| (0..times).map(build).sum())

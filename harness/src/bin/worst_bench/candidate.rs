@@ -1,6 +1,6 @@
 //! What the search tries: a datagram, and what it meets.
 
-use crate::scenes::{Scene, CHANNEL, COPIES, UNUSED};
+use crate::scenes::{addressing, Scene, CHANNEL, COPIES, UNUSED};
 use harness::packets::datagram;
 use harness::random::Random;
 use second::wire::{self, Step, MIN_SIZE};
@@ -65,7 +65,7 @@ pub fn pieces(datagram: &[u8]) -> Vec<&[u8]> {
     let mut pieces = Vec::new();
     let mut at = MIN_SIZE;
     while at < datagram.len() {
-        let next = match wire::step(datagram, at) {
+        let next = match wire::step(addressing(), datagram, at) {
             Step::Read { next, .. } => next,
             Step::End | Step::Refused => datagram.len(),
         };

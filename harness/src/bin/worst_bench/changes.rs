@@ -2,10 +2,10 @@
 
 use crate::candidate::{pieces, Candidate};
 use crate::kinds::{of_kind, RANGED};
-use crate::scenes::{Scene, CALLING, CHANNEL, UNUSED};
+use crate::scenes::{addressing, Scene, CALLING, CHANNEL, UNUSED};
 use harness::packets::*;
 use harness::random::Random;
-use second::wire::{MAX_SIZE, MIN_SIZE};
+use second::wire::{Addressing, MAX_SIZE, MIN_SIZE};
 
 impl Candidate {
     /// One like it, with one to three changes; messages of the other one may go
@@ -125,12 +125,22 @@ fn repeat(random: &mut Random, list: &mut Vec<Vec<u8>>, from: usize, to: usize) 
 /// delay besides.
 fn change_each(list: &mut [Vec<u8>], change: impl Fn(u8, u32, u32) -> (u8, u32, u32)) {
     for message in list {
-        let whole = message.len() == 9 || message.len() == 17;
-        if whole && RANGED.contains(&message[0]) {
-            let end = |at: usize| u32::from_be_bytes(std::array::from_fn(|i| message[at + i]));
-            let (kind, first, last) = change(message[0], end(1), end(5));
+        let is_whole =
+            RANGED.contains(&message[0]) && message.len() == of_kind(message[0], 0, 0).len();
+        if is_whole {
+            let (first, last) = ends(message);
+            let (kind, first, last) = change(message[0], first, last);
             *message = of_kind(kind, first, last);
         }
+    }
+}
+
+/// The ends of a message's range; of a bin itself and 0, whose sum it is.
+fn ends(message: &[u8]) -> (u32, u32) {
+    let end = |at: usize| u32::from_be_bytes(std::array::from_fn(|i| message[at + i]));
+    match addressing() {
+        Addressing::Bins => (end(1), 0),
+        Addressing::Ranges => (end(1), end(5)),
     }
 }
 
@@ -154,8 +164,11 @@ fn any_message(random: &mut Random) -> Vec<u8> {
     match random.below(8) {
         0 => vec![CHOKE],
         1 => vec![UNCHOKE],
-        2 | 3 => integrity(random.below(1_023).into(), &random.digest()),
-        4 => data(first, first, 0, &[7; 1_024]),
+        2 | 3 => {
+            let node = random.below(1_023).into();
+            integrity(addressing(), node, &random.digest())
+        }
+        4 => data(addressing(), first, first, 0, &[7; 1_024]),
         _ => of_kind(random.one_of(&RANGED), first, last),
     }
 }

@@ -6,17 +6,18 @@ mod lengths;
 mod plain;
 
 use crate::candidate::Candidate;
-use crate::scenes::{Scene, Stage};
-use harness::packets::{ack, ranged, CANCEL, HAVE, REQUEST};
+use crate::scenes::{addressing, Scene, Stage};
+use harness::packets::{ack, integrity, ranged, ACK, CANCEL, HAVE, REQUEST};
 use harness::random::Random;
 use second::wire::{MAX_SIZE, MIN_SIZE};
 
 /// The messages that are a range, and in ACK a delay.
-pub const ACK: u8 = 2;
 pub const RANGED: [u8; 4] = [ACK, HAVE, REQUEST, CANCEL];
 
 /// The most INTEGRITY that a datagram has room for.
-const MOST_NODES: usize = 49;
+fn most_nodes() -> usize {
+    (MAX_SIZE - MIN_SIZE) / integrity(addressing(), 0, &[7; 32]).len()
+}
 
 /// All of them.
 pub fn all(random: &mut Random, stages: &[Stage; Scene::ALL.len()]) -> Vec<Candidate> {
@@ -38,8 +39,8 @@ pub fn all(random: &mut Random, stages: &[Stage; Scene::ALL.len()]) -> Vec<Candi
 /// A message of a kind with a range.
 pub fn of_kind(kind: u8, first: u32, last: u32) -> Vec<u8> {
     match kind {
-        ACK => ack(first, last, 0),
-        _ => ranged(kind, first, last),
+        ACK => ack(addressing(), first, last, 0),
+        _ => ranged(addressing(), kind, first, last),
     }
 }
 

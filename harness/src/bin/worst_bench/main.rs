@@ -1,5 +1,6 @@
 //! Which datagram costs the most for its bytes: a search over datagrams of every
-//! kind that a sender can make, for a store of 512 chunks.
+//! kind that a sender can make, for a store of 512 chunks under ranges, or under
+//! bins with the argument `bins`.
 //!
 //! The measure is what hashing as many bytes takes the proved SHA-256 here: to
 //! take in a datagram that is refused, or has no DATA, is to take at most twice
@@ -20,9 +21,20 @@ mod search;
 mod table;
 mod told;
 
+use scenes::METHOD;
 use search::Search;
+use second::wire::Addressing;
 
 fn main() {
+    let bins = std::env::args()
+        .nth(1)
+        .is_some_and(|method| method == "bins");
+    let addressing = if bins {
+        Addressing::Bins
+    } else {
+        Addressing::Ranges
+    };
+    METHOD.get_or_init(|| addressing);
     let mut search = Search::new();
     search.begin();
     search.climb();

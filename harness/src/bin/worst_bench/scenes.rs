@@ -11,8 +11,18 @@ use harness::rooms::Rooms;
 use ppspp::calls;
 use second::channel::{self as channel, State, CHANNELS};
 use second::hex;
+use second::wire::Addressing;
 use std::hint::black_box;
+use std::sync::OnceLock;
 use std::time::Duration;
+
+/// The method of all stores and datagrams, which is set once.
+pub static METHOD: OnceLock<Addressing> = OnceLock::new();
+
+/// That method.
+pub fn addressing() -> Addressing {
+    *METHOD.get().unwrap_or(&Addressing::Ranges)
+}
 
 /// The open channel that most datagrams are for, and the source of its peer.
 pub const CHANNEL: u32 = 5;
@@ -70,16 +80,17 @@ struct Store {
 impl Store {
     fn new(scene: Scene, pack: &Pack) -> Self {
         let (length, root) = (pack.length(), pack.built.root());
+        let method = addressing().number();
         let mut rooms = Rooms::least(length);
         let mut state = State::default();
         let lent = &mut rooms.lend_to_second();
         let begun = match scene {
-            Scene::Whole => channel::build(&mut state, lent, length, &pack.content),
-            _ => channel::start(&mut state, lent, root, length),
+            Scene::Whole => channel::build(&mut state, lent, length, method, &pack.content),
+            _ => channel::start(&mut state, lent, root, length, method),
         };
         assert_eq!(begun.number, 0);
         let mut open = |id| {
-            let opening = datagram(0, &[handshake(PEER, &fixed(root))]);
+            let opening = datagram(0, &[handshake(PEER, &fixed(addressing(), root))]);
             let opened = match id {
                 CALLING => channel::open(&mut state, lent, id),
                 _ => channel::take(&mut state, lent, CLOCK, id, &opening),

@@ -2,8 +2,10 @@
 
 use crate::candidate::{Candidate, Run};
 use crate::kinds;
-use crate::scenes::{hashed, Scene, Stage, COPIES};
+use crate::scenes::{addressing, hashed, Scene, Stage, COPIES};
+use harness::packets::ack;
 use harness::random::Random;
+use second::wire::MIN_SIZE;
 use std::collections::BTreeMap;
 use std::time::{Duration, Instant};
 
@@ -18,7 +20,9 @@ const RUNS: [usize; 3] = [2, 8, 30];
 const KEPT: usize = 4;
 
 /// The reply's length where DATA was stored: the destination and an ACK.
-const ACK_SIZE: usize = 21;
+fn ack_size() -> usize {
+    MIN_SIZE + ack(addressing(), 0, 0, 0).len()
+}
 
 /// The answers, each of which has a worst datagram of its own.
 #[derive(Clone, Copy, Debug, PartialEq, Eq, PartialOrd, Ord)]
@@ -40,9 +44,9 @@ impl Class {
     fn of(scene: Scene, (number, length): (u32, usize)) -> Option<Class> {
         match (scene, number) {
             (Scene::Short, 10) => Some(Class::ShortRefused),
-            (Scene::Short, 0) if length == ACK_SIZE => Some(Class::ShortStored),
+            (Scene::Short, 0) if length == ack_size() => Some(Class::ShortStored),
             (Scene::Short, _) => None,
-            (_, 0) if length == ACK_SIZE => Some(Class::Stored),
+            (_, 0) if length == ack_size() => Some(Class::Stored),
             (_, 0) => Some(Class::Plain),
             _ => Some(Class::Refused(number)),
         }

@@ -1,10 +1,11 @@
 //! The worst datagram of every answer, as a table.
 
 use crate::candidate::{Candidate, Run};
-use crate::scenes::hashed;
+use crate::scenes::{addressing, hashed};
 use crate::search::{bar, per_copy, Class, Found, Search};
 use crate::told::told;
 use harness::bench::{self, figure};
+use second::wire::Addressing;
 use std::time::{Duration, Instant};
 
 /// How long the worst ones are measured again.
@@ -104,9 +105,13 @@ pub fn print(mut search: Search) {
     });
     all.dedup_by_key(|measured| measured.class);
     let caption = format!(
-        "The datagrams that cost the most for their bytes, of {} tried on a store of 512 chunks; \
+        "The datagrams that cost the most for their bytes, of {} tried on a store of 512 chunks{}; \
          the bar is twice hashing as many bytes, and 100 ns",
-        search.tried
+        search.tried,
+        match addressing() {
+            Addressing::Bins => " under bins",
+            Addressing::Ranges => "",
+        }
     );
     let names = NAMES.map(str::to_string);
     bench::print(&caption, &names, all.iter().map(Measured::cells));

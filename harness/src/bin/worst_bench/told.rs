@@ -1,7 +1,7 @@
 //! What the search tries, in a few words.
 
 use crate::candidate::{pieces, Candidate};
-use crate::scenes::{Scene, CALLING};
+use crate::scenes::{addressing, Scene, CALLING};
 use second::wire::{self, Message, Step};
 
 /// The messages of a datagram, and what it meets.
@@ -51,7 +51,7 @@ fn groups(datagram: &[u8]) -> Vec<String> {
 
 /// What a piece of a datagram is called, and its range.
 fn kind_of(piece: &[u8]) -> (&'static str, Option<[u32; 2]>) {
-    let Step::Read { message, .. } = wire::step(piece, 0) else {
+    let Step::Read { message, .. } = wire::step(addressing(), piece, 0) else {
         return ("that cannot be read", None);
     };
     match message {
@@ -64,5 +64,6 @@ fn kind_of(piece: &[u8]) -> (&'static str, Option<[u32; 2]>) {
         Message::Cancel { first, last } => ("CANCEL", Some([first, last])),
         Message::Choke => ("CHOKE", None),
         Message::Unchoke => ("UNCHOKE", None),
+        Message::Empty { .. } => ("of no chunk", None),
     }
 }

@@ -6,10 +6,8 @@ use ppspp::{destination, Channel, Message, Store};
 
 /// What the datagram did, in sentences; what its peer had told before is given for a channel that was open.
 pub fn of(datagram: &[u8], known: &Known, told: Option<&Told>, store: &Store) -> Vec<String> {
-    let messages: Vec<Message<'_>> = ppspp::messages(datagram)
-        .flatten()
-        .map(|(_, message)| message)
-        .collect();
+    let read = known.naming().messages(datagram).flatten();
+    let messages: Vec<Message<'_>> = read.map(|(_, message)| message).collect();
     let before = destination(datagram).and_then(|id| known.channel(id));
     let mut effects = match before {
         Some(channel) => on_channel(channel, &messages, known, told, store),

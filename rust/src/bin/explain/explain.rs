@@ -4,21 +4,29 @@ use crate::digits;
 use crate::explained::{Answer, End, First, Form, Held, Line};
 use crate::follow::Follower;
 use crate::frame;
+use crate::naming::Naming;
 use crate::opening;
 use crate::output::{Closing, Output, Said};
 use crate::words::{self, counted, BAD_LINE, BAD_ORDER};
+use ppspp::{Addressing, Order, Store};
 use std::collections::BTreeMap;
 use std::io;
 
 /// What a difference means.
 const MEANING: &str = "the output is not of this input, or of another version";
 
-/// Explains an input, and its output if it is given; tells whether the output agrees with the library.
-pub fn explain(input: &[u8], output: Option<&[u8]>, form: &mut dyn Form) -> io::Result<bool> {
+/// Explains an input, whose datagrams are under an addressing, and its output if it is given; tells whether the output
+/// agrees with the library.
+pub fn explain(
+    input: &[u8],
+    output: Option<&[u8]>,
+    addressing: Addressing,
+    form: &mut dyn Form,
+) -> io::Result<bool> {
     let mut lines = digits::lines(input);
     let mut output = output.map(Output::read);
     let given = output.is_some();
-    let (order, store) = match opening::start(lines.next()) {
+    let (order, store) = match opening::start(lines.next(), addressing) {
         Ok(started) => started,
         Err(reason) => return explain_bad_order(reason, lines.count(), output.as_ref(), form),
     };
@@ -35,11 +43,8 @@ pub fn explain(input: &[u8], output: Option<&[u8]>, form: &mut dyn Form) -> io::
         difference,
     })?;
     let mut run = Run {
-        follower: Follower::new(order, store),
-        output,
-        lines: 0,
-        numbers: BTreeMap::new(),
         agrees: !refused,
+        ..Run::new(order, store, output)
     };
     for line in lines {
         let line = run.line(line);
@@ -92,6 +97,7 @@ fn other_number(number: u8, library: &str) -> String {
 /// An input that is being followed.
 struct Run<'a> {
     follower: Follower,
+    naming: Naming,
     output: Option<Output<'a>>,
     /// The lines so far, behind line one.
     lines: usize,
@@ -99,7 +105,19 @@ struct Run<'a> {
     agrees: bool,
 }
 
-impl Run<'_> {
+impl<'a> Run<'a> {
+    /// One of no line so far, under an order.
+    fn new(order: Order, store: Store, output: Option<Output<'a>>) -> Run<'a> {
+        Run {
+            follower: Follower::new(order, store),
+            naming: Naming::of(&order),
+            output,
+            lines: 0,
+            numbers: BTreeMap::new(),
+            agrees: true,
+        }
+    }
+
     /// Explains the next line.
     fn line(&mut self, digits: &[u8]) -> Line {
         // Line one has been read.
@@ -125,6 +143,7 @@ impl Run<'_> {
         *self.numbers.entry(number).or_default() += 1;
         Line {
             line,
+            naming: self.naming,
             frame,
             channel,
             answer: Answer { number, reason },

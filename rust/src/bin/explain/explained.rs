@@ -1,6 +1,7 @@
 //! What is told: the order, each line, and the end.
 
 use crate::frame::Frame;
+use crate::naming::Naming;
 use crate::words;
 use ppspp::{Channel, Order};
 use std::collections::BTreeMap;
@@ -40,6 +41,8 @@ pub struct First {
 pub struct Line {
     /// Its number, counted from 1.
     pub line: usize,
+    /// How its messages name chunks.
+    pub naming: Naming,
     /// Its clock and datagram, if it is a frame.
     pub frame: Option<Frame>,
     /// The channel that it was for, if there was one.

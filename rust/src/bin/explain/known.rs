@@ -1,5 +1,6 @@
 //! What a store knew before a datagram: enough to say why it was refused, or what it changed.
 
+use crate::naming::Naming;
 use crate::tree::Node;
 use ppspp::{Channel, Order, Store};
 
@@ -48,6 +49,11 @@ impl Known {
             held: (0..n).filter(|&chunk| store.holds(chunk)).collect(),
             trusted: store.view().trusted.to_vec(),
         }
+    }
+
+    /// How its messages name chunks.
+    pub fn naming(&self) -> Naming {
+        Naming::of(&self.order)
     }
 
     /// The channel of an ID of ours.

@@ -2,8 +2,8 @@
 
 use crate::frame::CLOCK_DIGITS;
 use crate::malformed;
-use crate::messages;
-use crate::words::{self, counted};
+use crate::naming::Naming;
+use crate::words::counted;
 use ppspp::{destination, Malformed, Message, Options};
 
 /// The first fault of a datagram's layout.
@@ -32,13 +32,13 @@ impl Fault {
 type Found<'a> = Result<(usize, Message<'a>), Malformed>;
 
 /// The first fault of a datagram's layout.
-pub fn fault(datagram: &[u8]) -> Option<Fault> {
-    let found: Vec<Found<'_>> = ppspp::messages(datagram).collect();
+pub fn fault(naming: Naming, datagram: &[u8]) -> Option<Fault> {
+    let found: Vec<Found<'_>> = naming.messages(datagram).collect();
     (0..found.len()).find_map(|index| {
         let (place, number, words) = match &found[index] {
-            Err(Malformed { place }) => (*place, 2, malformed::rule(datagram, *place)),
+            Err(Malformed { place }) => (*place, 2, malformed::rule(naming, datagram, *place)),
             Ok((place, message)) => {
-                let twice = twice(&found[..index], message).map(|words| (2, words));
+                let twice = twice(naming, &found[..index], message).map(|words| (2, words));
                 let (number, words) =
                     twice.or_else(|| misplaced(datagram, &found, index).map(|w| (3, w)))?;
                 (*place, number, Some(words))
@@ -55,18 +55,16 @@ pub fn fault(datagram: &[u8]) -> Option<Fault> {
 }
 
 /// INTEGRITY for a node that came before.
-fn twice(before: &[Found<'_>], message: &Message<'_>) -> Option<String> {
-    let Message::Integrity { first, last, .. } = *message else {
+fn twice(naming: Naming, before: &[Found<'_>], message: &Message<'_>) -> Option<String> {
+    let Message::Integrity { .. } = message else {
         return None;
     };
     let same = |found: &Found<'_>| match found {
-        Ok((_, before @ Message::Integrity { .. })) => {
-            messages::range(before) == Some((first, last))
-        }
+        Ok((_, before @ Message::Integrity { .. })) => before.range() == message.range(),
         _ => false,
     };
     let earlier = before.iter().position(same)? + 1;
-    let chunks = words::chunks(first, last);
+    let chunks = naming.chunks(message);
     Some(format!(
         "INTEGRITY of {chunks} comes twice, before as message {earlier}"
     ))

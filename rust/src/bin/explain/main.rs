@@ -1,5 +1,5 @@
-//! `explain INPUT [OUTPUT] [--json]`: a replay program's input and output in plain words, for whoever asks why a
-//! datagram was refused.
+//! `explain INPUT [OUTPUT] [--json] [--addressing bins]`: a replay program's input and output in plain words, for
+//! whoever asks why a datagram was refused.
 //!
 //! The output has numbers alone. This program follows the input with a store of its own, compares its answers with the
 //! output's, and works out the reasons from what the store knew before each datagram.
@@ -18,6 +18,7 @@ mod known;
 mod layout;
 mod malformed;
 mod messages;
+mod naming;
 mod object;
 mod opening;
 mod options;
@@ -57,6 +58,7 @@ fn run() -> Result<bool, String> {
         input,
         output,
         json,
+        addressing,
     } = arguments
     else {
         return write(&mut io::stdout(), USAGE);
@@ -69,10 +71,10 @@ fn run() -> Result<bool, String> {
     let mut writer = BufWriter::new(io::stdout().lock());
     let agrees = if json {
         let mut form = object::Json::new(&mut writer);
-        explain::explain(&input, output.as_deref(), &mut form)
+        explain::explain(&input, output.as_deref(), addressing, &mut form)
     } else {
         let mut form = text::Text::new(&mut writer);
-        explain::explain(&input, output.as_deref(), &mut form)
+        explain::explain(&input, output.as_deref(), addressing, &mut form)
     };
     let written = agrees.and_then(|agrees| writer.flush().map(|()| agrees));
     written.map_err(cannot_write)

@@ -1,19 +1,23 @@
 //! Which rule of 01's table a message breaks that cannot be read.
 
+use crate::naming::Naming;
 use crate::options;
 use crate::words::{count, range};
+use ppspp::Bin;
 
 /// The rule that is broken by what stands at a place of a datagram, in words; none if it is none of these.
-pub fn rule(datagram: &[u8], place: usize) -> Option<String> {
+pub fn rule(naming: Naming, datagram: &[u8], place: usize) -> Option<String> {
     let (&kind, body) = datagram.get(place..)?.split_first()?;
+    // The bytes of a bin, or of a range.
+    let named = if naming.is_bins() { 4 } else { 8 };
     let (name, least) = match kind {
         0 => ("HANDSHAKE", 4),
-        1 => ("DATA", 16),
-        2 => ("ACK", 16),
-        3 => ("HAVE", 8),
-        4 => ("INTEGRITY", 40),
-        8 => ("REQUEST", 8),
-        9 => ("CANCEL", 8),
+        1 => ("DATA", named + 8),
+        2 => ("ACK", named + 8),
+        3 => ("HAVE", named),
+        4 => ("INTEGRITY", named + 32),
+        8 => ("REQUEST", named),
+        9 => ("CANCEL", named),
         10 | 11 => return None,
         _ => return Some(format!("type {kind} is unknown")),
     };
@@ -26,8 +30,20 @@ pub fn rule(datagram: &[u8], place: usize) -> Option<String> {
     }
     match kind {
         0 => options::walk(&body[4..]).err(),
+        _ if naming.is_bins() => bin_rule(kind, name, body),
         _ => range_rule(kind, name, body),
     }
+}
+
+/// The rule that is broken by the bin of a message, which is not cut short.
+fn bin_rule(kind: u8, name: &str, body: &[u8]) -> Option<String> {
+    let bin = Bin(u32::from_be_bytes(*body.first_chunk()?));
+    if matches!(kind, 1 | 2 | 4) && [Bin::EMPTY, Bin::EVERYTHING].contains(&bin) {
+        let others = "only HAVE, REQUEST and CANCEL may be";
+        return Some(format!("{name} is of {bin}, as {others}"));
+    }
+    let one = bin.0.is_multiple_of(2);
+    (kind == 1 && !one).then(|| format!("DATA is of {bin}, not of one chunk"))
 }
 
 /// The rule that is broken by the range of a message, which is not cut short.

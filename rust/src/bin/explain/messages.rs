@@ -1,39 +1,12 @@
 //! The messages of a datagram in words.
 
-use crate::words::{self, counted};
+use crate::naming::Naming;
+use crate::words::counted;
 use ppspp::{Message, Options};
 
-/// The name of a message's type.
-pub fn name(message: &Message<'_>) -> &'static str {
-    match message {
-        Message::Handshake { .. } => "HANDSHAKE",
-        Message::Data { .. } => "DATA",
-        Message::Ack { .. } => "ACK",
-        Message::Have { .. } => "HAVE",
-        Message::Integrity { .. } => "INTEGRITY",
-        Message::Request { .. } => "REQUEST",
-        Message::Cancel { .. } => "CANCEL",
-        Message::Choke => "CHOKE",
-        Message::Unchoke => "UNCHOKE",
-    }
-}
-
-/// The range of a message.
-pub fn range(message: &Message<'_>) -> Option<(u32, u32)> {
-    match *message {
-        Message::Data { first, last, .. }
-        | Message::Ack { first, last, .. }
-        | Message::Have { first, last }
-        | Message::Integrity { first, last, .. }
-        | Message::Request { first, last }
-        | Message::Cancel { first, last } => Some((first, last)),
-        Message::Handshake { .. } | Message::Choke | Message::Unchoke => None,
-    }
-}
-
 /// A message in words; hashes and chunk bytes are left out.
-pub fn one(message: &Message<'_>) -> String {
-    let of = range(message).map_or(String::new(), |(first, last)| words::chunks(first, last));
+pub fn one(naming: Naming, message: &Message<'_>) -> String {
+    let (name, of) = (message.name(), naming.chunks(message));
     match *message {
         Message::Handshake { source, options } => handshake(source, &options),
         Message::Data {
@@ -43,8 +16,8 @@ pub fn one(message: &Message<'_>) -> String {
             format!("DATA of {of}, {bytes}, sent at {timestamp}")
         }
         Message::Ack { delay, .. } => format!("ACK of {of}, delay {delay}"),
-        Message::Choke | Message::Unchoke => name(message).to_string(),
-        _ => format!("{} of {of}", name(message)),
+        Message::Choke | Message::Unchoke => name.to_string(),
+        _ => format!("{name} of {of}"),
     }
 }
 
@@ -61,53 +34,53 @@ fn handshake(source: u32, options: &Options<'_>) -> String {
     }
 }
 
-/// Messages side by side that differ in their ranges alone, or not at all.
+/// Messages side by side that differ in what they name alone, or not at all.
 struct Run {
     head: String,
-    ranges: Vec<String>,
+    named: Vec<String>,
     times: usize,
 }
 
 impl Run {
     /// A message by itself.
-    fn of(message: &Message<'_>) -> Run {
+    fn of(naming: Naming, message: &Message<'_>) -> Run {
         let grouped = matches!(
             message,
             Message::Have { .. }
                 | Message::Integrity { .. }
                 | Message::Request { .. }
                 | Message::Cancel { .. }
+                | Message::Empty { .. }
         );
-        let range = range(message).filter(|_| grouped);
-        let head = match range {
-            Some(_) => name(message).to_string(),
-            None => one(message),
+        let (head, named) = if grouped {
+            (message.name().to_string(), vec![naming.in_list(message)])
+        } else {
+            (one(naming, message), Vec::new())
         };
-        let ranges = range.map(|(first, last)| words::range(first, last));
         Run {
             head,
-            ranges: ranges.into_iter().collect(),
+            named,
             times: 1,
         }
     }
 
     /// The run in words.
     fn words(&self) -> String {
-        match (&self.ranges[..], self.times) {
+        match (&self.named[..], self.times) {
             ([], 1) => self.head.clone(),
             ([], times) => format!("{}, {times} times", self.head),
-            (ranges, _) => format!("{} of {}", self.head, ranges.join(", ")),
+            (named, _) => format!("{} of {}", self.head, named.join(", ")),
         }
     }
 }
 
 /// All messages of a datagram in words, those of one kind side by side put together.
-pub fn all(datagram: &[u8]) -> String {
+pub fn all(naming: Naming, datagram: &[u8]) -> String {
     let mut runs: Vec<Run> = Vec::new();
     let mut rest = None;
-    for found in ppspp::messages(datagram) {
+    for found in naming.messages(datagram) {
         let run = match found {
-            Ok((_, message)) => Run::of(&message),
+            Ok((_, message)) => Run::of(naming, &message),
             Err(malformed) => {
                 rest = datagram.len().checked_sub(malformed.place);
                 continue;
@@ -115,7 +88,7 @@ pub fn all(datagram: &[u8]) -> String {
         };
         match runs.last_mut() {
             Some(last) if last.head == run.head => {
-                last.ranges.extend(run.ranges);
+                last.named.extend(run.named);
                 last.times += 1;
             }
             _ => runs.push(run),

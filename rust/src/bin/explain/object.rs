@@ -4,6 +4,7 @@ use crate::digits;
 use crate::explained::{Answer, End, First, Form, Line};
 use crate::json::Value;
 use crate::messages;
+use crate::naming::Naming;
 use crate::words;
 use ppspp::{destination, Message, Options, Order};
 use std::io::{self, Write};
@@ -32,11 +33,15 @@ impl<W: Write> Json<W> {
 
 /// An order.
 fn order(order: &Order) -> Value {
-    Value::Object(vec![
+    let mut fields: Vec<(&'static str, Value)> = vec![
         ("root", digits::encode(&order.root).into()),
         ("length", order.length.into()),
         ("chunks", order.chunk_count().into()),
-    ])
+    ];
+    if Naming::of(order).is_bins() {
+        fields.push(("addressing", "bins".into()));
+    }
+    Value::Object(fields)
 }
 
 /// An answer.
@@ -50,9 +55,9 @@ fn answer(answer: &Answer) -> Value {
 }
 
 /// The messages of a datagram; the last may be one that cannot be read.
-fn all_messages(datagram: &[u8]) -> Value {
-    let each = ppspp::messages(datagram).map(|found| match found {
-        Ok((place, read)) => message(place, &read),
+fn all_messages(naming: Naming, datagram: &[u8]) -> Value {
+    let each = naming.messages(datagram).map(|found| match found {
+        Ok((place, read)) => message(naming, place, &read),
         Err(malformed) => Value::Object(vec![
             ("type", Value::Null),
             ("place", malformed.place.into()),
@@ -63,14 +68,15 @@ fn all_messages(datagram: &[u8]) -> Value {
 }
 
 /// A message.
-fn message(place: usize, message: &Message<'_>) -> Value {
-    let mut fields: Vec<(&'static str, Value)> = vec![
-        ("type", messages::name(message).into()),
-        ("place", place.into()),
-    ];
-    if let Some((first, last)) = messages::range(message) {
+fn message(naming: Naming, place: usize, message: &Message<'_>) -> Value {
+    let mut fields: Vec<(&'static str, Value)> =
+        vec![("type", message.name().into()), ("place", place.into())];
+    if let Some((first, last)) = message.range() {
         fields.push(("first", first.into()));
         fields.push(("last", last.into()));
+    }
+    if let Some(bin) = message.bin().filter(|_| naming.is_bins()) {
+        fields.push(("bin", bin.0.into()));
     }
     match *message {
         Message::Handshake { source, options } => {
@@ -87,7 +93,7 @@ fn message(place: usize, message: &Message<'_>) -> Value {
         Message::Integrity { hash, .. } => fields.push(("hash", digits::encode(hash).into())),
         _ => {}
     }
-    fields.push(("text", messages::one(message).into()));
+    fields.push(("text", messages::one(naming, message).into()));
     Value::Object(fields)
 }
 
@@ -102,14 +108,14 @@ fn options_of(options: &Options<'_>) -> [(&'static str, Value); 2] {
 }
 
 /// A reply; null where there is none.
-fn reply(reply: &[u8]) -> Value {
+fn reply(naming: Naming, reply: &[u8]) -> Value {
     if reply.is_empty() {
         return Value::Null;
     }
     Value::Object(vec![
         ("destination", destination(reply).into()),
-        ("messages", all_messages(reply)),
-        ("text", messages::all(reply).into()),
+        ("messages", all_messages(naming, reply)),
+        ("text", messages::all(naming, reply).into()),
     ])
 }
 
@@ -130,18 +136,16 @@ fn line(line: &Line) -> Value {
         ])
     });
     let to = frame.and_then(|frame| destination(&frame.datagram));
+    let came = frame.map(|frame| all_messages(line.naming, &frame.datagram));
     Value::Object(vec![
         ("line", line.line.into()),
         ("clock", frame.map(|frame| frame.clock).into()),
         ("destination", to.into()),
         ("channel", channel.into()),
-        (
-            "messages",
-            frame.map(|frame| all_messages(&frame.datagram)).into(),
-        ),
+        ("messages", came.into()),
         ("answer", answer(&line.answer)),
         ("effects", line.effects.clone().into()),
-        ("reply", reply(&line.reply)),
+        ("reply", reply(line.naming, &line.reply)),
         ("difference", line.difference.clone().into()),
     ])
 }

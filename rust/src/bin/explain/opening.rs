@@ -2,15 +2,15 @@
 
 use crate::digits;
 use crate::words::{count, counted};
-use ppspp::{Order, Store};
+use ppspp::{Addressing, Order, Store};
 
 /// The digits of line one: a root, then a length.
 const DIGITS: usize = 72;
 /// The longest pack that the replay program takes.
 const MOST_LENGTH: u32 = 32_768;
 
-/// The order of line one and an empty store under it; else why the replay program gives `0c`.
-pub fn start(line: Option<&[u8]>) -> Result<(Order, Store), String> {
+/// The order of line one, under an addressing, and an empty store under it; else why the replay program gives `0c`.
+pub fn start(line: Option<&[u8]>, addressing: Addressing) -> Result<(Order, Store), String> {
     let line = line.ok_or("there is no line at all")?;
     if line.len() != DIGITS {
         let characters = counted(line.len(), "character");
@@ -24,6 +24,7 @@ pub fn start(line: Option<&[u8]>) -> Result<(Order, Store), String> {
         return Err(other);
     }
     let order = order(line).ok_or("its digits are no order")?;
+    let order = order.addressing(addressing);
     if order.length == 0 {
         return Err("the length is 0".to_string());
     }
@@ -42,5 +43,5 @@ fn order(line: &[u8]) -> Option<Order> {
     let bytes = digits::bytes(line)?;
     let (&root, length) = bytes.split_first_chunk()?;
     let length = u32::from_be_bytes(*length.first_chunk()?);
-    Some(Order { root, length })
+    Some(Order::new(root, length))
 }

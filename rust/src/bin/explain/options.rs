@@ -2,11 +2,14 @@
 
 use crate::digits;
 use crate::words::{count, counted};
+use ppspp::{Addressing, Order};
 
 /// The code that ends the options.
 const END: u8 = 255;
 /// The code of the swarm ID.
 const SWARM_ID: u8 = 2;
+/// The code of the addressing.
+const ADDRESSING: u8 = 6;
 
 /// The options in code order.
 const NAMES: [&str; 10] = [
@@ -83,20 +86,21 @@ fn value(code: u8, bytes: &[u8]) -> Option<(&[u8], &[u8])> {
     }
 }
 
-/// What the profile has for a code; none for one that its HANDSHAKE is without.
-fn wanted(code: u8, root: &[u8]) -> Option<&[u8]> {
+/// What the profile has for a code under an order; none for one that its HANDSHAKE is without.
+fn wanted(code: u8, order: &Order) -> Option<&[u8]> {
     match code {
         0 | 1 | 3 => Some(&[1]),
-        SWARM_ID => Some(root),
-        4 | 6 => Some(&[2]),
+        SWARM_ID => Some(&order.root),
+        ADDRESSING if order.known_addressing() == Some(Addressing::Bins) => Some(&[0]),
+        4 | ADDRESSING => Some(&[2]),
         9 => Some(&[0, 0, 4, 0]),
         _ => None,
     }
 }
 
-/// In what the options at the front of the bytes differ from the profile's around a root; none where they do not, or
+/// In what the options at the front of the bytes differ from the profile's under an order; none where they do not, or
 /// are of no sound layout.
-pub fn difference(bytes: &[u8], root: &[u8]) -> Option<String> {
+pub fn difference(bytes: &[u8], order: &Order) -> Option<String> {
     let given = walk(bytes).ok()?;
     if given.is_empty() {
         return Some("no option came, the profile's seven are expected".to_string());
@@ -105,7 +109,7 @@ pub fn difference(bytes: &[u8], root: &[u8]) -> Option<String> {
     let codes = (0..).take(NAMES.len());
     let differences = codes.filter_map(|code| {
         let came = of(code).map(|given| given.value);
-        one_difference(code, came, wanted(code, root))
+        one_difference(code, came, wanted(code, order))
     });
     let differences: Vec<String> = differences.collect();
     (!differences.is_empty()).then(|| differences.join("; "))

@@ -2,7 +2,7 @@
 
 use crate::known::Known;
 use crate::tree::{self, Node};
-use ppspp::{Message, Store};
+use ppspp::{Message, Order, Store};
 
 /// A hash.
 type Hash = [u8; 32];
@@ -31,7 +31,7 @@ impl<'a> Proof<'a> {
     pub fn of(known: &'a Known, hashes: &'a [u32], datagram: &'a [u8]) -> Option<Proof<'a>> {
         let mut came = Vec::new();
         let mut data = None;
-        for (_, message) in ppspp::messages(datagram).flatten() {
+        for (_, message) in known.naming().messages(datagram).flatten() {
             match message {
                 Message::Integrity { first, last, hash } => {
                     came.push((Node::over(first, last), *hash.first_chunk()?));
@@ -177,6 +177,8 @@ fn sha256(bytes: &[u8]) -> Option<Hash> {
     if bytes.len() > ppspp::sizes::CHUNK_SIZE as usize {
         return None;
     }
-    let order = Store::build(bytes).ok()?.order()?;
-    Some(order.root)
+    // At most 1,024.
+    let order = Order::to_build(bytes.len() as u32);
+    let built = Store::build(order, bytes).ok()?.order()?;
+    Some(built.root)
 }

@@ -2,10 +2,9 @@
 
 use crate::known::Known;
 use crate::layout;
-use crate::messages;
 use crate::options;
 use crate::proof::Proof;
-use crate::words::{self, count, counted};
+use crate::words::{count, counted};
 use ppspp::sizes::{CHANNELS, MAX_DATAGRAM, MIN_DATAGRAM};
 use ppspp::{destination, Message};
 use std::collections::BTreeMap;
@@ -32,7 +31,7 @@ impl Case<'_> {
         if !(MIN_DATAGRAM..=MAX_DATAGRAM).contains(&length) {
             return (number == 1).then(|| format!("it has {}", counted(length, "byte")));
         }
-        if let Some(fault) = layout::fault(self.datagram) {
+        if let Some(fault) = layout::fault(self.known.naming(), self.datagram) {
             return (fault.number == number).then(|| fault.sentence());
         }
         match number {
@@ -53,7 +52,7 @@ impl Case<'_> {
 
     /// The messages.
     fn messages(&self) -> impl Iterator<Item = Message<'_>> {
-        let read = ppspp::messages(self.datagram).flatten();
+        let read = self.known.naming().messages(self.datagram).flatten();
         read.map(|(_, message)| message)
     }
 
@@ -80,7 +79,7 @@ impl Case<'_> {
     /// 4: options that are missing or others.
     fn other_options(&self) -> Option<String> {
         self.source().filter(|&source| source != 0)?;
-        options::difference(self.datagram.get(OPTIONS..)?, &self.known.order.root)
+        options::difference(self.datagram.get(OPTIONS..)?, &self.known.order)
     }
 
     /// 5: a destination that is no channel of ours.
@@ -122,17 +121,15 @@ impl Case<'_> {
         })
     }
 
-    /// 7: the first range past the pack.
+    /// 7: the first message past the pack.
     fn range_past(&self) -> Option<String> {
-        let n = self.known.n;
-        let past = self
-            .messages()
-            .find(|message| messages::range(message).is_some_and(|(_, last)| last >= n))?;
-        let (first, last) = messages::range(&past)?;
-        let (name, chunks) = (messages::name(&past), words::chunks(first, last));
+        let naming = self.known.naming();
+        let past = |message| Some((naming.past(&message)?, message));
+        let (past, message) = self.messages().find_map(past)?;
+        let (name, chunks) = (message.name(), naming.chunks(&message));
+        let last = self.known.n - 1;
         Some(format!(
-            "{name} of {chunks} runs past the pack, whose last chunk is {}",
-            n - 1
+            "{name} of {chunks} {past}, whose last chunk is {last}"
         ))
     }
 

@@ -2,6 +2,7 @@
 
 use crate::explained::{End, First, Form, Line};
 use crate::messages;
+use crate::naming::Naming;
 use crate::words::{self, count, counted};
 use ppspp::{destination, Order};
 use std::io::{self, Write};
@@ -53,12 +54,12 @@ impl<W: Write> Text<W> {
     }
 
     /// Writes a reply, or that its bytes are none.
-    fn reply(&mut self, reply: &[u8]) -> io::Result<()> {
+    fn reply(&mut self, naming: Naming, reply: &[u8]) -> io::Result<()> {
         if reply.is_empty() {
             return Ok(());
         }
         let text = match destination(reply) {
-            Some(to) => format!("to channel {to}: {}", messages::all(reply)),
+            Some(to) => format!("to channel {to}: {}", messages::all(naming, reply)),
             None => format!("{}, no datagram", counted(reply.len(), "byte")),
         };
         self.row("reply", &text)
@@ -88,7 +89,12 @@ fn order(order: &Order) -> String {
         counted(last as usize, "byte"),
     );
     let chunks = counted(n as usize, "chunk");
-    format!("the order: {length} in {chunks}, the last of {last}")
+    let bins = if Naming::of(order).is_bins() {
+        "; messages name them by bins"
+    } else {
+        ""
+    };
+    format!("the order: {length} in {chunks}, the last of {last}{bins}")
 }
 
 /// Where and when a line's datagram came.
@@ -132,7 +138,7 @@ impl<W: Write> Form for Text<W> {
     fn line(&mut self, line: &Line) -> io::Result<()> {
         self.row(&format!("line {}", line.line), &place(line))?;
         if let Some(frame) = &line.frame {
-            self.row("messages", &messages::all(&frame.datagram))?;
+            self.row("messages", &messages::all(line.naming, &frame.datagram))?;
         }
         let answer = &line.answer;
         self.row("answer", &format!("{} {}", answer.code(), answer.text()))?;
@@ -140,7 +146,7 @@ impl<W: Write> Form for Text<W> {
         if !line.effects.is_empty() {
             self.row("effect", &line.effects.join("; "))?;
         }
-        self.reply(&line.reply)?;
+        self.reply(line.naming, &line.reply)?;
         self.row_if("DIFFERENT", line.difference.as_deref())?;
         self.gap()
     }

@@ -26,7 +26,7 @@ fn added(so_far: &[u8], message: Message, source: &[u8]) -> (u8, Vec<u8>) {
     let mut room = [0xee; 2048];
     room[..so_far.len()].copy_from_slice(so_far);
     let before = room;
-    let Outcome { number, length } = add(&mut room, so_far.len(), &message, source);
+    let Outcome { number, length } = add(&mut room, 2, so_far.len(), &message, source);
     assert!(room[length..] == before[length..]);
     (number, room[..length].to_vec())
 }
@@ -89,7 +89,7 @@ fn traps_122_to_124_nothing_later_is_checked() {
     ] {
         assert_eq!(added(&so_far, HAVE, &[]), (number, vec![]));
     }
-    assert_eq!(add(&mut [0; 2047], 4, &HAVE, &[]), outcome(11, 0));
+    assert_eq!(add(&mut [0; 2047], 2, 4, &HAVE, &[]), outcome(11, 0));
 }
 
 /// A datagram made message by message in the reply room of a running store,
@@ -105,7 +105,7 @@ fn made_in_the_reply_room_and_taken() {
             Message::Have { .. } => Message::Have { first: 0, last: 6 },
             other => other,
         };
-        length = add(&mut sender.reply, length, &message, &[]).length;
+        length = add(&mut sender.reply, 2, length, &message, &[]).length;
     }
     let datagram = sender.reply[..length].to_vec();
     assert_eq!(datagram, to(5, &[&have(0, 6), &CHOKE, &UNCHOKE]));

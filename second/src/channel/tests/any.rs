@@ -17,6 +17,8 @@ struct Scene {
     random: Random,
     pack: Pack,
     hashes: Vec<Digest>,
+    /// The method that most datagrams are made for.
+    addressing: Addressing,
     /// Datagrams of any layout.
     any: Vec<Vec<u8>>,
     /// How often each number was given.
@@ -24,13 +26,14 @@ struct Scene {
 }
 
 impl Scene {
-    fn new(seed: u64, length: u32) -> Self {
+    fn new(addressing: Addressing, seed: u64, length: u32) -> Self {
         let pack = Pack::new(length);
         let top = tree::root(tree::chunk_count(length));
         Scene {
             random: Random::new(seed),
             hashes: (0..=2 * top).map(|node| pack.hash(node)).collect(),
-            any: datagrams(seed, 200).collect(),
+            addressing,
+            any: datagrams(addressing, seed, 200).collect(),
             seen: [0; 15],
             pack,
         }
@@ -85,8 +88,12 @@ impl Scene {
         let mut state = State {
             root: self.pack.root(),
             length: self.pack.length(),
+            addressing: self.addressing,
             ..State::default()
         };
+        if self.chance(20) {
+            state.addressing = [Addressing::Bins, Addressing::Ranges][self.random.below(2)];
+        }
         if self.chance(10) {
             state.length = [0, 524_288, 524_289, u32::MAX][self.random.below(4)];
         }
@@ -140,15 +147,15 @@ impl Scene {
         let before = caller.clone();
         let (got, wanted) = match self.random.below(40) {
             0 => {
-                let (root, length) = (self.pack.root(), self.length());
-                let got = (caller.start(&root, length), vec![]);
-                (got, plain::start(&before, &root, length))
+                let (root, length, method) = (self.pack.root(), self.length(), self.method());
+                let got = (caller.start_under(method, &root, length), vec![]);
+                (got, plain::start(&before, &root, length, method))
             }
             1 => {
-                let length = self.length();
+                let (length, method) = (self.length(), self.method());
                 let content = &self.pack.content;
-                let got = (caller.build(length, content), vec![]);
-                (got, plain::build(&before, length, content))
+                let got = (caller.build_under(method, length, content), vec![]);
+                (got, plain::build(&before, length, method, content))
             }
             2..5 => {
                 let id = self.random.below(40) as u32;
@@ -177,6 +184,15 @@ impl Scene {
         assert_eq!(caller.ask(), plain::ask(caller));
     }
 
+    /// The scene's method, at times another one.
+    fn method(&mut self) -> u32 {
+        match self.random.below(8) {
+            0 => [1, 3, 4, 256, 258, u32::MAX][self.random.below(6)],
+            1 => 2 * self.random.below(2) as u32,
+            _ => self.addressing.number(),
+        }
+    }
+
     /// The pack's length, at times another one.
     fn length(&mut self) -> u32 {
         match self.random.below(8) {
@@ -190,9 +206,18 @@ impl Scene {
 /// From a state that no call wrote, and on from what the calls make of it.
 #[test]
 fn calls_from_any_state() {
+    from_any_state(Addressing::Ranges);
+}
+
+#[test]
+fn calls_from_any_state_under_bins() {
+    from_any_state(Addressing::Bins);
+}
+
+fn from_any_state(addressing: Addressing) {
     let mut seen = [0; 15];
     for (seed, length) in (0..).zip(LENGTHS) {
-        let mut scene = Scene::new(seed, length);
+        let mut scene = Scene::new(addressing, seed, length);
         for _ in 0..150 {
             let mut caller = scene.caller();
             for _ in 0..40 {
@@ -209,12 +234,22 @@ fn calls_from_any_state() {
 /// From a fresh store: lists of calls as demand 3 has them.
 #[test]
 fn calls_from_a_fresh_store() {
+    from_a_fresh_store(Addressing::Ranges);
+}
+
+#[test]
+fn calls_from_a_fresh_store_under_bins() {
+    from_a_fresh_store(Addressing::Bins);
+}
+
+fn from_a_fresh_store(addressing: Addressing) {
     let mut whole = 0;
     for (seed, length) in (100..).zip(LENGTHS) {
-        let mut scene = Scene::new(seed, length);
+        let mut scene = Scene::new(addressing, seed, length);
         for _ in 0..30 {
             let mut caller = Caller::new(length);
-            assert_eq!(caller.start(&scene.pack.root(), length), 0);
+            let (method, root) = (addressing.number(), scene.pack.root());
+            assert_eq!(caller.start_under(method, &root, length), 0);
             caller.opened_by_peer(1, 2);
             for _ in 0..200 {
                 scene.step(&mut caller);

@@ -11,6 +11,7 @@ use crate::channel::{Phase, Row, State};
 use crate::packets::*;
 use crate::sha256::Digest;
 use crate::store::plain;
+use crate::wire::Addressing;
 
 /// What is refused, or how things are afterwards and what is replied.
 pub type Done = Result<(Caller, Vec<u8>), u8>;
@@ -52,7 +53,17 @@ fn done(mut after: Caller, reply: Vec<u8>) -> Done {
     Ok((after, reply))
 }
 
-pub fn start(before: &Caller, root: &Digest, length: u32) -> Done {
+/// The order's addressing method, or 12.
+fn method(number: u32) -> Result<Addressing, u8> {
+    match number {
+        0 => Ok(Addressing::Bins),
+        2 => Ok(Addressing::Ranges),
+        _ => Err(12),
+    }
+}
+
+pub fn start(before: &Caller, root: &Digest, length: u32, number: u32) -> Done {
+    let addressing = method(number)?;
     check(before, length)?;
     let mut after = before.clone();
     let (count, places) = counts(length);
@@ -64,19 +75,21 @@ pub fn start(before: &Caller, root: &Digest, length: u32) -> Done {
     after.state = State {
         root: *root,
         length,
+        addressing,
         rows: [Row::default(); 16],
     };
     done(after, vec![])
 }
 
-pub fn build(before: &Caller, length: u32, content: &[u8]) -> Done {
+pub fn build(before: &Caller, length: u32, number: u32, content: &[u8]) -> Done {
+    method(number)?;
     if content.len() != length as usize {
         return Err(12);
     }
     check(before, length)?;
     let (count, places) = counts(length);
     let root = plain::hash(content, places as u64 - 1);
-    let (mut after, _) = start(before, &root, length)?;
+    let (mut after, _) = start(before, &root, length, number)?;
     after.chunks[..content.len()].copy_from_slice(content);
     for chunk in 0..count {
         after.map[chunk / 32] |= 1 << (chunk % 32);
@@ -135,12 +148,17 @@ fn occupy(before: &Caller, id: u32, peer: u32, phase: Phase) -> Done {
         after.has[word] = 0;
         after.wants[word] = 0;
     }
-    let reply = to(peer, &[&handshake(id, &fixed(&before.state.root))]);
-    done(after, reply)
+    let options = either::fixed(before.state.addressing, &before.state.root);
+    done(after, to(peer, &[&handshake(id, &options)]))
 }
 
 pub fn write(before: &Caller, id: u32, chunk: u32, clock: u64) -> Done {
-    let State { length, rows, .. } = &before.state;
+    let State {
+        length,
+        addressing,
+        rows,
+        ..
+    } = &before.state;
     check(before, *length)?;
     // Not `row_of`: a row that is not open does not count.
     let open = (0..16).find(|&i| rows[i].id == id && rows[i].phase == Phase::Open);
@@ -155,10 +173,11 @@ pub fn write(before: &Caller, id: u32, chunk: u32, clock: u64) -> Done {
     }
     let hashes = sent_with(number, count, places)
         .into_iter()
-        .map(|node| node_hash(node, &before.hash(node)));
+        .map(|node| either::integrity(*addressing, node, &before.hash(node)));
     let hashes = hashes.collect::<Vec<_>>().concat();
     let end = (1024 * (number + 1)).min(*length as usize);
-    let data = data(chunk, chunk, clock, &before.chunks[1024 * number..end]);
+    let bytes = &before.chunks[1024 * number..end];
+    let data = either::data(*addressing, 2 * u64::from(chunk), clock, bytes);
     done(before.clone(), to(row.peer, &[&hashes, &data]))
 }
 

@@ -129,7 +129,7 @@ fn trap_113_what_starting_changes() {
     wanted.state = State {
         root: ROOT,
         length: SEVEN,
-        rows: [Row::default(); 16],
+        ..State::default()
     };
     wanted.map[0] = 0;
     wanted.trusted[0] = 1 << 7;

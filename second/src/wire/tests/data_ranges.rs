@@ -21,6 +21,8 @@ const NOT_ONE: [(u32, u32); 14] = [
     (u32::MAX, u32::MAX - 1),
 ];
 
+const RANGES: Addressing = Addressing::Ranges;
+
 /// The bytes that chunks are taken from.
 const SOURCE: [u8; 2100] = [7; 2100];
 
@@ -169,9 +171,15 @@ fn rooms_and_lengths() {
     for range in NOT_ONE {
         let message = over(range, 3);
         let mut room = [10; 2100];
-        assert_eq!(add(&mut room[..2047], 4, &message, &SOURCE), Err(11));
-        assert_eq!(add(&mut room, 2049, &message, &SOURCE), Err(1));
-        assert_eq!(add(&mut room, usize::MAX, &message, &SOURCE), Err(1));
+        assert_eq!(
+            add(&mut room[..2047], RANGES, 4, &message, &SOURCE),
+            Err(11)
+        );
+        assert_eq!(add(&mut room, RANGES, 2049, &message, &SOURCE), Err(1));
+        assert_eq!(
+            add(&mut room, RANGES, usize::MAX, &message, &SOURCE),
+            Err(1)
+        );
         assert_eq!(room, [10; 2100]);
     }
 }
@@ -214,7 +222,7 @@ fn every_pair_of_numbers() {
         for range in pair {
             for (so_far, len) in so_far.iter().flat_map(|one| [(one, 0), (one, 12)]) {
                 let message = over(range, len);
-                let expected = plain::add(so_far, &message, &SOURCE);
+                let expected = plain::add(RANGES, so_far, &message, &SOURCE);
                 assert_eq!(added(so_far, message, &SOURCE), expected, "{range:?}");
             }
             let taken = added(&so_far[0], over(range, 1), &SOURCE).is_ok();

@@ -3,7 +3,7 @@ use super::*;
 /// The layout of a datagram and the nodes found.
 fn found(datagram: &[u8]) -> (Result<Layout, u8>, Vec<(u64, usize)>) {
     let mut nodes = vec![(77, 77)];
-    let layout = layout(datagram, &mut nodes);
+    let layout = layout(Addressing::Ranges, datagram, &mut nodes);
     (layout, nodes)
 }
 

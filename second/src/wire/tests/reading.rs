@@ -2,7 +2,7 @@ use super::*;
 
 /// What stands behind the destination of a datagram with this message alone.
 fn alone(message: &[u8]) -> Step {
-    step(&to(5, &[message]), 4)
+    step(Addressing::Ranges, &to(5, &[message]), 4)
 }
 
 fn read(message: Message, next: usize) -> Step {
@@ -231,13 +231,13 @@ fn refused_options() {
 #[test]
 fn places_in_the_middle() {
     let datagram = to(5, &[&[10], &integrity(0, 1), &data(0, 0, 0, b"abc")]);
-    let Step::Read { message, next } = step(&datagram, 5) else {
+    let Step::Read { message, next } = step(Addressing::Ranges, &datagram, 5) else {
         panic!("an INTEGRITY");
     };
     let (first, last, hash) = (0, 1, 14);
     assert_eq!(message, Message::Integrity { first, last, hash });
     assert_eq!(datagram[hash..hash + 32], [9; 32]);
-    let Step::Read { message, next } = step(&datagram, next) else {
+    let Step::Read { message, next } = step(Addressing::Ranges, &datagram, next) else {
         panic!("DATA");
     };
     assert!(matches!(
@@ -250,6 +250,6 @@ fn places_in_the_middle() {
     ));
     assert_eq!(next, datagram.len());
     for past in [next, next + 1, usize::MAX] {
-        assert_eq!(step(&datagram, past), Step::End);
+        assert_eq!(step(Addressing::Ranges, &datagram, past), Step::End);
     }
 }

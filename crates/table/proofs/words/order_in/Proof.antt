@@ -9,8 +9,11 @@ root-in-requires c κs = search needs
 length-in-requires : tie.Need-length-in-requires
 length-in-requires c κs = search needs
 
+method-in-requires : tie.Need-method-in-requires
+method-in-requires c κs = search needs
+
 returns : tie.Need-returns
-returns c = order-read _ (c .before .root-in .ensures) (c .length-in .ensures)
+returns c = order-read _ (c .before .before .root-in .ensures) (c .before .length-in .ensures) (c .method-in .ensures)
 
 pub order-in-spec : {M : Type 1} → statement M
-order-in-spec = tie.close (tie.spec root-in-requires length-in-requires returns)
+order-in-spec = tie.close (tie.spec root-in-requires length-in-requires method-in-requires returns)

@@ -60,6 +60,9 @@ slice-write-words-9 c = simp length-set (omega arith)
 slice-write-words-10 : tie.Need-slice-write-words-10
 slice-write-words-10 c = simp length-set (omega arith)
 
+slice-write-words-11 : tie.Need-slice-write-words-11
+slice-write-words-11 c = simp length-set (omega arith)
+
 same-length : tie.Need-same-length
 same-length c = simp length-set
 
@@ -67,7 +70,7 @@ returns : tie.Need-returns
 returns c =
     let a = c .before .before .before .before .before .before .before .before .before .args in
     let eight : length (a .order .root .words) ≡ 8 = search needs in
-    order-stored (a .words .now) (a .order .root .words) (a .order .length) eight
+    order-stored (a .words .now) (a .order .root .words) (a .order .length) (a .order .method) eight
 
 pub put-order-spec : {M : Type 1} → statement M
 put-order-spec =
@@ -91,5 +94,6 @@ put-order-spec =
     element-copy-out-words-8
     slice-write-words-9
     slice-write-words-10
+    slice-write-words-11
     same-length
     returns)

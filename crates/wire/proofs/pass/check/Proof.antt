@@ -9,7 +9,7 @@ has-size-requires : tie.Need-has-size-requires
 has-size-requires c κs = search needs
 
 returns : tie.Need-returns
-returns c = check-unsized _ _ (sym (c .before .has-size .ensures) ∙ not-true _ (c .if1 .taken))
+returns c = check-unsized _ _ _ (sym (c .before .has-size .ensures) ∙ not-true _ (c .if1 .taken))
 
 plain-front-requires : tie.Need-plain-front-requires
 plain-front-requires c κs = sized _ (sym (c .before .before .has-size .ensures) ∙ not-false _ (c .before .if1 .left))

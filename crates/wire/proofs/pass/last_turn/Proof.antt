@@ -6,7 +6,7 @@ use Rattle.wire.proofs.pass.last_turn.Statement.{statement}
 use Rattle.wire.proofs.pass.last_turn.Tie as tie
 
 returns : tie.Need-returns
-returns c = last-end _ _ _ _ (past-end _ _ (c .if1 .taken))
+returns c = last-end _ _ _ _ (past-end _ _ _ (c .if1 .taken))
 
 read-requires : tie.Need-read-requires
 read-requires c κs = search needs

@@ -9,16 +9,16 @@ use Rattle.wire.proofs.pass.plain_front.Statement.{statement}
 use Rattle.wire.proofs.pass.plain_front.Tie as tie
 
 abbrev Inv-loop : tie.InvT-loop
-Inv-loop datagram at₀ left₀ survey₀ at left survey = Fronted datagram (frontOf at left survey)
+Inv-loop format datagram at₀ left₀ survey₀ at left survey = Fronted format datagram (frontOf at left survey)
 
 abbrev μ-loop : tie.MeasureT-loop
-μ-loop datagram at₀ left₀ survey₀ at left survey = left
+μ-loop format datagram at₀ left₀ survey₀ at left survey = left
 
 no-survey-requires : tie.Need-no-survey-requires Inv-loop μ-loop
 no-survey-requires c κs = search needs
 
 loop-holds : tie.Need-loop-holds Inv-loop μ-loop
-loop-holds c = front-start _ (c .before .before .pre .0) (c .before .before .pre .1) (c .no-survey .ensures)
+loop-holds c = front-start _ _ (c .before .before .pre .0) (c .before .before .pre .1) (c .no-survey .ensures)
 
 size-requires : tie.Need-size-requires Inv-loop μ-loop
 size-requires c κs = search needs
@@ -27,19 +27,19 @@ returns : tie.Need-returns Inv-loop μ-loop
 returns c = c .before .before .before .loop .inv
 
 sub-acting : tie.Need-sub-acting Inv-loop μ-loop
-sub-acting c = omega (arith, size-inside _ _ (c .before .size .ensures) (c .if1 .left))
+sub-acting c = omega (arith, size-inside _ _ _ (c .before .size .ensures) (c .if1 .left))
 
 part-acting-start : tie.Need-part-acting-start Inv-loop μ-loop
-part-acting-start c = omega (arith, size-inside _ _ (c .before .size .ensures) (c .if1 .left))
+part-acting-start c = omega (arith, size-inside _ _ _ (c .before .size .ensures) (c .if1 .left))
 
 part-acting-end : tie.Need-part-acting-end Inv-loop μ-loop
 part-acting-end c = search needs
 
 acting-requires : tie.Need-acting-requires Inv-loop μ-loop
-acting-requires c κs = simp (part, length-drop) (omega (arith, size-inside _ _ (c .before .before .size .ensures) (c .before .if1 .left)))
+acting-requires c κs = simp (part, length-drop) (omega (arith, size-inside _ _ _ (c .before .before .size .ensures) (c .before .if1 .left)))
 
 add-at : tie.Need-add-at Inv-loop μ-loop
-add-at c = omega (arith, size-inside _ _ (c .before .before .before .size .ensures) (c .before .before .if1 .left))
+add-at c = omega (arith, size-inside _ _ _ (c .before .before .before .size .ensures) (c .before .before .if1 .left))
 
 sub-left : tie.Need-sub-left Inv-loop μ-loop
 sub-left c = search needs
@@ -48,7 +48,7 @@ loop-less : tie.Need-loop-less Inv-loop μ-loop
 loop-less c = search needs
 
 loop-again : tie.Need-loop-again Inv-loop μ-loop
-loop-again c = front-on _ _ _ _ (c .before .before .before .before .before .loop .inv) (omega arith) (c .before .before .before .size .ensures) (c .before .before .if1 .left) (rw part at (c .acting .ensures))
+loop-again c = front-on _ _ _ _ _ (c .before .before .before .before .before .loop .inv) (omega arith) (c .before .before .before .size .ensures) (c .before .before .if1 .left) (rw part at (c .acting .ensures))
 
 returns-2 : tie.Need-returns-2 Inv-loop μ-loop
 returns-2 c = c .before .loop .inv

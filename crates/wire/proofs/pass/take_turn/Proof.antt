@@ -2,92 +2,135 @@ use native.Mathlib.Omega.{arith}
 use lib.ListN.{length-drop}
 use Rattle.wire.proofs.BytesLaws.{part}
 use Rattle.wire.proofs.PlainLaws.{size-inside, node-inside}
+use Rattle.wire.proofs.PlaceLaws.{place-least}
 use Rattle.wire.proofs.TurnLaws.{turn-plain, turn-node, turn-last, note-room}
 use borrow.Author.Needs.{needs}
 use Rattle.wire.proofs.pass.take_turn.Statement.{statement}
 use Rattle.wire.proofs.pass.take_turn.Tie as tie
+use Rattle.wire.proofs.pass.take_turn.Reads as reads
+use Rattle.wire.proofs.pass.take_turn.Lts as lts
+use Rattle.wire.proofs.pass.last_turn.Reads as last-turn-reads
+use Rattle.wire.proofs.pass.note.Reads as note-reads
+use Rattle.wire.proofs.plain.is_node.Reads as is-node-reads
+use Rattle.wire.proofs.plain.size.Reads as size-reads
+use Rattle.wire.proofs.range.named_size.Reads as named-size-reads
+use Rattle.wire.proofs.range.read.Reads as read-reads
+use Rattle.wire.proofs.survey.acting.Reads as acting-reads
+use Rattle.wire.proofs.survey.naming.Reads as naming-reads
 
+-- src/pass.rt:182:9
 size-requires : tie.Need-size-requires
 size-requires c κs = search needs
 
-add-t10 : tie.Need-add-t10
-add-t10 c = omega (arith, c .before .before .before .before .pre .high, size-inside _ _ (c .before .size .ensures) (c .if1 .taken))
+-- src/pass.rt:185:17
+add-t12 : tie.Need-add-t12
+add-t12 c = omega (arith, c .before .before .before .before .pre .high, size-inside _ _ _ (c .before .size .ensures) (c .if1 .taken))
 
+-- src/pass.rt:187:52
 sub-acting : tie.Need-sub-acting
-sub-acting c = omega (arith, size-inside _ _ (c .before .size .ensures) (c .if1 .taken))
+sub-acting c = omega (arith, size-inside _ _ _ (c .before .size .ensures) (c .if1 .taken))
 
+-- src/pass.rt:187:52
 part-acting-start : tie.Need-part-acting-start
-part-acting-start c = omega (arith, size-inside _ _ (c .before .size .ensures) (c .if1 .taken))
+part-acting-start c = omega (arith, size-inside _ _ _ (c .before .size .ensures) (c .if1 .taken))
 
+-- src/pass.rt:187:52
 part-acting-end : tie.Need-part-acting-end
 part-acting-end c = search needs
 
+-- src/pass.rt:187:21
 acting-requires : tie.Need-acting-requires
-acting-requires c κs = simp (part, length-drop) (omega (arith, size-inside _ _ (c .before .before .size .ensures) (c .before .if1 .taken)))
+acting-requires c κs = simp (part, length-drop) (omega (arith, size-inside _ _ _ (c .before .before .size .ensures) (c .before .if1 .taken)))
 
+-- src/pass.rt:184:9
 returns : tie.Need-returns
-returns c = turn-plain _ _ _ _ _ (c .before .before .before .size .ensures) (c .before .before .if1 .taken) (rw part at (c .acting .ensures))
+returns c = turn-plain _ _ _ _ _ _ (c .before .before .before .size .ensures) (c .before .before .if1 .taken) (rw part at (c .acting .ensures))
 
+-- src/pass.rt:190:8
 is-node-requires : tie.Need-is-node-requires
 is-node-requires c κs = search needs
 
+-- src/pass.rt:191:13
+named-size-requires : tie.Need-named-size-requires
+named-size-requires c κs = search needs
+
+-- src/pass.rt:192:42
 sub-read : tie.Need-sub-read
-sub-read c = omega (arith, node-inside _ _ (c .before .is-node .ensures) (c .if2 .taken))
+sub-read c = omega (arith, node-inside _ _ _ (c .before .before .is-node .ensures) (c .before .if2 .taken))
 
+-- src/pass.rt:192:42
 part-read-start : tie.Need-part-read-start
-part-read-start c = omega (arith, node-inside _ _ (c .before .is-node .ensures) (c .if2 .taken))
+part-read-start c = omega (arith, node-inside _ _ _ (c .before .before .is-node .ensures) (c .before .if2 .taken))
 
+-- src/pass.rt:192:42
 part-read-end : tie.Need-part-read-end
 part-read-end c = search needs
 
+-- src/pass.rt:192:13
 read-requires : tie.Need-read-requires
-read-requires c κs = simp (part, length-drop) (omega (arith, node-inside _ _ (c .before .before .is-node .ensures) (c .before .if2 .taken)))
+read-requires c κs = simp (part, length-drop) (omega (arith, node-inside _ _ _ (c .before .before .before .is-node .ensures) (c .before .before .if2 .taken)))
 
+-- src/pass.rt:193:20
 cast-node : tie.Need-cast-node
 cast-node c = search needs
 
+-- src/pass.rt:193:42
 cast-node-2 : tie.Need-cast-node-2
 cast-node-2 c = search needs
 
+-- src/pass.rt:193:20
 add-node : tie.Need-add-node
 add-node c = search needs
 
+-- src/pass.rt:197:13
 naming-requires : tie.Need-naming-requires
 naming-requires c κs = search needs
 
+-- src/pass.rt:199:13
 add-note : tie.Need-add-note
-add-note c = omega (arith, c .before .before .before .before .before .before .before .before .before .before .before .before .pre .high, node-inside _ _ (c .before .before .before .before .before .before .before .is-node .ensures) (c .before .before .before .before .before .before .if2 .taken))
+add-note c = omega (arith, c .before .before .before .before .before .before .before .before .before .before .before .before .before .pre .high, c .before .before .before .before .before .before .named-size .ensures .0, node-inside _ _ _ (c .before .before .before .before .before .before .before .before .is-node .ensures) (c .before .before .before .before .before .before .before .if2 .taken))
 
+-- src/pass.rt:200:19
 add-note-2 : tie.Need-add-note-2
-add-note-2 c = omega (arith, c .before .before .before .before .before .before .before .before .before .before .before .before .pre .high, node-inside _ _ (c .before .before .before .before .before .before .before .is-node .ensures) (c .before .before .before .before .before .before .if2 .taken))
+add-note-2 c = search needs
 
+-- src/pass.rt:200:13
+add-note-3 : tie.Need-add-note-3
+add-note-3 c = omega (arith, c .before .before .before .before .before .before .before .before .before .before .before .before .before .pre .high, c .before .before .before .before .before .before .named-size .ensures .0, node-inside _ _ _ (c .before .before .before .before .before .before .before .before .is-node .ensures) (c .before .before .before .before .before .before .before .if2 .taken))
+
+-- src/pass.rt:194:9
 note-requires : tie.Need-note-requires
-note-requires c κs = note-room _ _ _ _ (c .before .before .before .before .before .before .before .before .before .before .before .before .pre) (simp length-drop (omega (arith, node-inside _ _ (c .before .before .before .before .before .before .before .is-node .ensures) (c .before .before .before .before .before .before .if2 .taken))))
+note-requires c κs = note-room _ _ _ _ (c .before .before .before .before .before .before .before .before .before .before .before .before .before .pre) (simp length-drop (omega (arith, place-least (c .before .before .before .before .before .before .before .before .before .before .before .before .before .args .format), node-inside _ _ _ (c .before .before .before .before .before .before .before .before .is-node .ensures) (c .before .before .before .before .before .before .before .if2 .taken))))
 
+-- src/pass.rt:194:9
 same-length : tie.Need-same-length
 same-length c = search needs
 
+-- src/pass.rt:194:9
 returns-2 : tie.Need-returns-2
-returns-2 c = turn-node _ _ _ _ _ (c .before .before .before .before .before .before .before .before .before .before .is-node .ensures) (c .before .before .before .before .before .before .before .before .before .if2 .taken) _ (c .before .before .before .before .before .before .before .read .ensures) (c .before .before .before .naming .ensures) (c .before .before .note .ensures)
+returns-2 c = turn-node _ _ _ _ _ _ (c .before .before .before .before .before .before .before .before .before .before .before .is-node .ensures) (c .before .before .before .before .before .before .before .before .before .before .if2 .taken) _ (c .before .before .before .before .before .before .before .read .ensures) (c .before .before .before .naming .ensures) (c .before .before .before .before .before .before .before .before .before .named-size .ensures .0) (c .before .before .note .ensures)
 
+-- src/pass.rt:204:15
 last-turn-requires : tie.Need-last-turn-requires
 last-turn-requires c κs = search needs
 
+-- src/pass.rt:170:1
 returns-3 : tie.Need-returns-3
-returns-3 c = turn-last _ _ _ _ _ (c .before .before .before .before .size .ensures) (omega (arith, c .before .before .before .if1 .left)) (c .before .before .is-node .ensures) (c .before .if2 .left) (c .last-turn .ensures)
+returns-3 c = turn-last _ _ _ _ _ _ (c .before .before .before .before .size .ensures) (omega (arith, c .before .before .before .if1 .left)) (c .before .before .is-node .ensures) (c .before .if2 .left) (c .last-turn .ensures)
 
 pub take-turn-spec : {M : Type 1} → statement M
 take-turn-spec =
     tie.close
     (tie.spec
     size-requires
-    add-t10
+    add-t12
     sub-acting
     part-acting-start
     part-acting-end
     acting-requires
     returns
     is-node-requires
+    named-size-requires
     sub-read
     part-read-start
     part-read-end
@@ -98,6 +141,7 @@ take-turn-spec =
     naming-requires
     add-note
     add-note-2
+    add-note-3
     note-requires
     same-length
     returns-2

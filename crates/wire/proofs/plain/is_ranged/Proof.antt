@@ -1,4 +1,4 @@
-use Rattle.wire.specs.Steps.{isRanged}
+use Rattle.wire.specs.Read.{isRanged}
 use Rattle.wire.proofs.OptionsLaws.{tests}
 use Rattle.wire.proofs.plain.is_ranged.Statement.{statement}
 use Rattle.wire.proofs.plain.is_ranged.Tie as tie

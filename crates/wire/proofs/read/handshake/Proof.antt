@@ -4,7 +4,7 @@ use Rattle.wire.proofs.read.handshake.Statement.{statement}
 use Rattle.wire.proofs.read.handshake.Tie as tie
 
 returns : tie.Need-returns
-returns c = handshake-cut _ _ (c .if1 .taken)
+returns c = handshake-cut _ _ _ (c .if1 .taken)
 
 sub-options : tie.Need-sub-options
 sub-options c = search needs
@@ -19,7 +19,7 @@ options-size-requires : tie.Need-options-size-requires
 options-size-requires c κs = search needs
 
 returns-2 : tie.Need-returns-2
-returns-2 c = handshake-bad _ _ (c .before .before .before .if1 .left) _ (c .before .options-size .ensures .0) (c .if2 .taken)
+returns-2 c = handshake-bad _ _ _ (c .before .before .before .if1 .left) _ (c .before .options-size .ensures .0) (c .if2 .taken)
 
 load32-requires : tie.Need-load32-requires
 load32-requires c κs = search needs
@@ -30,14 +30,14 @@ add-kind c = search needs
 kind-requires : tie.Need-kind-requires
 kind-requires c κs = search needs
 
-add-t6 : tie.Need-add-t6
-add-t6 c = search needs
+add-t7 : tie.Need-add-t7
+add-t7 c = search needs
 
-add-t12 : tie.Need-add-t12
-add-t12 c = search needs
+add-t13 : tie.Need-add-t13
+add-t13 c = search needs
 
 returns-3 : tie.Need-returns-3
-returns-3 c = handshake-good _ _ (c .before .before .before .before .before .if1 .left) _ (c .before .before .before .options-size .ensures .0) (c .before .before .if2 .left) (c .before .load32 .ensures) (c .kind .ensures)
+returns-3 c = handshake-good _ _ _ (c .before .before .before .before .before .if1 .left) _ (c .before .before .before .options-size .ensures .0) (c .before .before .if2 .left) (c .before .load32 .ensures) (c .kind .ensures)
 
 pub handshake-spec : {M : Type 1} → statement M
 handshake-spec =
@@ -52,6 +52,6 @@ handshake-spec =
     load32-requires
     add-kind
     kind-requires
-    add-t6
-    add-t12
+    add-t7
+    add-t13
     returns-3)

@@ -4,7 +4,7 @@ use Rattle.wire.proofs.read.read.Statement.{statement}
 use Rattle.wire.proofs.read.read.Tie as tie
 
 returns : tie.Need-returns
-returns c = step-end _ _ (c .if1 .taken)
+returns c = step-end _ _ _ (c .if1 .taken)
 
 sub-rest : tie.Need-sub-rest
 sub-rest c = search needs
@@ -22,7 +22,7 @@ typed-requires : tie.Need-typed-requires
 typed-requires c κs = search needs
 
 returns-2 : tie.Need-returns-2
-returns-2 c = step-typed _ _ (c .before .before .before .if1 .left) (c .typed .ensures)
+returns-2 c = step-typed _ _ _ (c .before .before .before .if1 .left) (c .typed .ensures)
 
 pub read-spec : {M : Type 1} → statement M
 read-spec =

@@ -25,47 +25,47 @@ ranged-requires-2 c κs = search needs
 ranged-requires-3 : tie.Need-ranged-requires-3
 ranged-requires-3 c κs = search needs
 
-add-t6 : tie.Need-add-t6
-add-t6 c = search needs
+add-t7 : tie.Need-add-t7
+add-t7 c = search needs
 
-add-t9 : tie.Need-add-t9
-add-t9 c = search needs
+add-t10 : tie.Need-add-t10
+add-t10 c = search needs
 
 returns : tie.Need-returns
-returns c = c .handshake .ensures ∙ row-handshake _ _ _ (c .before .match .keys1)
+returns c = c .handshake .ensures ∙ row-handshake _ _ _ _ (c .before .match .keys1)
 
 returns-2 : tie.Need-returns-2
-returns-2 c = c .chunk .ensures ∙ row-data _ _ _ (c .before .match .keys2)
+returns-2 c = c .chunk .ensures ∙ row-data _ _ _ _ (c .before .match .keys2)
 
 returns-3 : tie.Need-returns-3
-returns-3 c = c .ack .ensures ∙ row-ack _ _ _ (c .before .match .keys3)
+returns-3 c = c .ack .ensures ∙ row-ack _ _ _ _ (c .before .match .keys3)
 
 returns-4 : tie.Need-returns-4
-returns-4 c = c .ranged .ensures ∙ row-have _ _ _ (c .before .match .keys4)
+returns-4 c = c .ranged .ensures ∙ row-have _ _ _ _ (c .before .match .keys4)
 
 returns-5 : tie.Need-returns-5
-returns-5 c = c .integrity .ensures ∙ row-integrity _ _ _ (c .before .match .keys5)
+returns-5 c = c .integrity .ensures ∙ row-integrity _ _ _ _ (c .before .match .keys5)
 
 returns-6 : tie.Need-returns-6
-returns-6 c = c .ranged2 .ensures ∙ row-request _ _ _ (c .before .match .keys6)
+returns-6 c = c .ranged2 .ensures ∙ row-request _ _ _ _ (c .before .match .keys6)
 
 returns-7 : tie.Need-returns-7
-returns-7 c = c .ranged3 .ensures ∙ row-cancel _ _ _ (c .before .match .keys7)
+returns-7 c = c .ranged3 .ensures ∙ row-cancel _ _ _ _ (c .before .match .keys7)
 
 returns-8 : tie.Need-returns-8
-returns-8 c = row-choke _ _ _ (c .match .keys8)
+returns-8 c = row-choke _ _ _ _ (c .match .keys8)
 
 returns-9 : tie.Need-returns-9
-returns-9 c = row-unchoke _ _ _ (c .match .keys9)
+returns-9 c = row-unchoke _ _ _ _ (c .match .keys9)
 
 returns-10 : tie.Need-returns-10
-returns-10 c = row-reserved _ _ _ (c .match .keys10)
+returns-10 c = row-reserved _ _ _ _ (c .match .keys10)
 
 returns-11 : tie.Need-returns-11
-returns-11 c = no-row _ _ _ (c .before .match .rest .0 .0 .0 .0 .0 .0 .0 .0 .0 .1) (c .before .match .rest .0 .0 .0 .0 .0 .0 .0 .0 .1) (c .before .match .rest .0 .0 .0 .0 .0 .0 .0 .1) (c .before .match .rest .0 .0 .0 .0 .0 .0 .1) (c .before .match .rest .0 .0 .0 .0 .0 .1) (c .before .match .rest .0 .0 .0 .0 .1) (c .before .match .rest .0 .0 .0 .1) (c .before .match .rest .0 .0 .1) (c .before .match .rest .0 .1)
+returns-11 c = no-row _ _ _ _ (c .before .match .rest .0 .0 .0 .0 .0 .0 .0 .0 .0 .1) (c .before .match .rest .0 .0 .0 .0 .0 .0 .0 .0 .1) (c .before .match .rest .0 .0 .0 .0 .0 .0 .0 .1) (c .before .match .rest .0 .0 .0 .0 .0 .0 .1) (c .before .match .rest .0 .0 .0 .0 .0 .1) (c .before .match .rest .0 .0 .0 .0 .1) (c .before .match .rest .0 .0 .0 .1) (c .before .match .rest .0 .0 .1) (c .before .match .rest .0 .1)
 
 returns-12 : tie.Need-returns-12
-returns-12 c = no-row _ _ _ (c .before .match .rest .0 .0 .0 .0 .0 .0 .0 .0 .0 .1) (c .before .match .rest .0 .0 .0 .0 .0 .0 .0 .0 .1) (c .before .match .rest .0 .0 .0 .0 .0 .0 .0 .1) (c .before .match .rest .0 .0 .0 .0 .0 .0 .1) (c .before .match .rest .0 .0 .0 .0 .0 .1) (c .before .match .rest .0 .0 .0 .0 .1) (c .before .match .rest .0 .0 .0 .1) (c .before .match .rest .0 .0 .1) (c .before .match .rest .0 .1)
+returns-12 c = no-row _ _ _ _ (c .before .match .rest .0 .0 .0 .0 .0 .0 .0 .0 .0 .1) (c .before .match .rest .0 .0 .0 .0 .0 .0 .0 .0 .1) (c .before .match .rest .0 .0 .0 .0 .0 .0 .0 .1) (c .before .match .rest .0 .0 .0 .0 .0 .0 .1) (c .before .match .rest .0 .0 .0 .0 .0 .1) (c .before .match .rest .0 .0 .0 .0 .1) (c .before .match .rest .0 .0 .0 .1) (c .before .match .rest .0 .0 .1) (c .before .match .rest .0 .1)
 
 pub typed-spec : {M : Type 1} → statement M
 typed-spec =
@@ -78,8 +78,8 @@ typed-spec =
     integrity-requires
     ranged-requires-2
     ranged-requires-3
-    add-t6
-    add-t9
+    add-t7
+    add-t10
     returns
     returns-2
     returns-3

@@ -11,16 +11,16 @@ same-length : tie.Need-same-length
 same-length c = search needs
 
 returns : tie.Need-returns
-returns c = add-refused (c .before .before .before .before .before .args .room .now) (c .before .before .before .before .before .args .len) (c .before .before .before .before .before .args .message) (c .before .before .before .before .before .args .bytes .now) (c .before .add-answer .ensures .0) (c .if1 .taken)
+returns c = add-refused _ (c .before .before .before .before .before .args .room .now) (c .before .before .before .before .before .args .len) (c .before .before .before .before .before .args .message) (c .before .before .before .before .before .args .bytes .now) (c .before .add-answer .ensures .0) (c .if1 .taken)
 
 put-requires : tie.Need-put-requires
-put-requires c κs = let x = c .before .before .add-answer .ensures .1 (c .before .if1 .left) in (omega (arith, x .fits, x .room), x .can)
+put-requires c κs = let x = c .before .before .add-answer .ensures .1 (c .before .if1 .left) in (omega (arith, x .fits, x .room), (x .can, x .good))
 
 size-of-requires : tie.Need-size-of-requires
 size-of-requires c κs = let x = c .before .before .before .before .before .add-answer .ensures .1 (c .before .before .before .before .if1 .left) in x .can
 
-add-t13 : tie.Need-add-t13
-add-t13 c = let x = c .before .before .before .before .before .before .add-answer .ensures .1 (c .before .before .before .before .before .if1 .left) in let n = c .size-of .ensures .0 in omega (arith, x .fits, n)
+add-t14 : tie.Need-add-t14
+add-t14 c = let x = c .before .before .before .before .before .before .add-answer .ensures .1 (c .before .before .before .before .before .if1 .left) in let n = c .size-of .ensures .0 in omega (arith, x .fits, n)
 
 same-length-2 : tie.Need-same-length-2
 same-length-2 c = search needs
@@ -28,7 +28,7 @@ same-length-2 c = search needs
 returns-2 : tie.Need-returns-2
 returns-2 c =
     let x = c .before .before .before .before .before .before .add-answer .ensures .1 (c .before .before .before .before .before .if1 .left) in
-    add-done (c .before .before .before .before .before .before .before .before .before .before .args .room .now) (c .before .before .before .before .before .before .before .before .before .before .args .len) (c .before .before .before .before .before .before .before .before .before .before .args .message) (c .before .before .before .before .before .before .before .before .before .before .args .bytes .now) (c .before .before .before .before .before .before .add-answer .ensures .0) (c .before .before .before .before .before .if1 .left) (x .can) (c .size-of .ensures .0) (c .before .before .before .put .ensures)
+    add-done _ (c .before .before .before .before .before .before .before .before .before .before .args .room .now) (c .before .before .before .before .before .before .before .before .before .before .args .len) (c .before .before .before .before .before .before .before .before .before .before .args .message) (c .before .before .before .before .before .before .before .before .before .before .args .bytes .now) (c .before .before .before .before .before .before .add-answer .ensures .0) (c .before .before .before .before .before .if1 .left) (x .can) (c .size-of .ensures .0) (c .before .before .before .put .ensures)
 
 pub add-spec : {M : Type 1} → statement M
 add-spec =
@@ -39,6 +39,6 @@ add-spec =
     returns
     put-requires
     size-of-requires
-    add-t13
+    add-t14
     same-length-2
     returns-2)

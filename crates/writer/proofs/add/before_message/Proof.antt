@@ -10,13 +10,13 @@ has-size-requires : tie.Need-has-size-requires
 has-size-requires c κs = search needs
 
 returns : tie.Need-returns
-returns c = before-unsized _ _ (c .before .has-size .ensures) (c .if1 .taken)
+returns c = before-unsized _ _ _ (c .before .has-size .ensures) (c .if1 .taken)
 
 plain-front-requires : tie.Need-plain-front-requires
 plain-front-requires c κs = sized _ (sym (c .before .has-size .ensures) ∙ not-false _ (c .if1 .left))
 
 returns-2 : tie.Need-returns-2
-returns-2 c = before-plain _ _ _ (c .before .before .plain-front .ensures) (c .if2 .taken)
+returns-2 c = before-plain _ _ _ _ (c .before .before .plain-front .ensures) (c .if2 .taken)
 
 before-others-requires : tie.Need-before-others-requires
 before-others-requires c κs = search needs

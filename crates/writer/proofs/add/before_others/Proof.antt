@@ -22,7 +22,7 @@ part-seen-fault-start : tie.Need-part-seen-fault-start
 part-seen-fault-start c = search needs
 
 part-seen-fault-end : tie.Need-part-seen-fault-end
-part-seen-fault-end c = before-few _ _ (c .before .before .before .before .before .before .before .args .node) (c .before .before .before .before .rest .ensures .0) (c .before .before .found2 .given .1) (search needs)
+part-seen-fault-end c = before-few _ _ _ (c .before .before .before .before .before .before .before .args .node) (c .before .before .before .before .rest .ensures .0) (c .before .before .found2 .given .1) (search needs)
 
 seen-fault-requires : tie.Need-seen-fault-requires
 seen-fault-requires c κs = search needs
@@ -31,16 +31,16 @@ enum-told-2 : tie.Need-enum-told-2
 enum-told-2 c = search needs
 
 returns : tie.Need-returns
-returns c = before-fault _ _ _ (c .before .before .before .rest .ensures .0) (c .before .found .given .1)
+returns c = before-fault _ _ _ _ (c .before .before .before .rest .ensures .0) (c .before .found .given .1)
 
 returns-2 : tie.Need-returns-2
-returns-2 c = before-handshake _ _ _ (c .before .before .rest .ensures .0) (c .enum-told .given .1)
+returns-2 c = before-handshake _ _ _ _ (c .before .before .rest .ensures .0) (c .enum-told .given .1)
 
 returns-3 : tie.Need-returns-3
-returns-3 c = before-messages _ _ _ (c .before .before .before .before .before .before .rest .ensures .0) (c .before .before .before .before .found2 .given .1) (search needs) (c .seen-fault .ensures)
+returns-3 c = before-messages _ _ _ _ (c .before .before .before .before .before .before .rest .ensures .0) (c .before .before .before .before .found2 .given .1) (search needs) (c .seen-fault .ensures)
 
 returns-4 : tie.Need-returns-4
-returns-4 c = before-data _ _ _ (c .before .before .rest .ensures .0) (c .enum-told2 .given .1)
+returns-4 c = before-data _ _ _ _ (c .before .before .rest .ensures .0) (c .enum-told2 .given .1)
 
 pub before-others-spec : {M : Type 1} → statement M
 before-others-spec =

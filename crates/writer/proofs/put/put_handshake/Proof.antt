@@ -22,7 +22,7 @@ same-length : tie.Need-same-length
 same-length c = search needs
 
 returns : tie.Need-returns
-returns c = placed-handshake _ _ _ _ _ (c .before .before .before .before .before .before .before .before .before .before .place8 .ensures) (c .before .before .before .before .before .before .place32 .ensures) (c .before .before .put-options .ensures)
+returns c = placed-handshake _ _ _ _ _ _ (c .before .before .before .before .before .before .before .before .before .before .place8 .ensures) (c .before .before .before .before .before .before .place32 .ensures) (c .before .before .put-options .ensures)
 
 pub put-handshake-spec : {M : Type 1} → statement M
 put-handshake-spec =

@@ -1,9 +1,9 @@
 //! DATA: right, wrong, without a hash, of another length, and behind messages that
 //! it does not need.
 
-use super::{fitting, MOST_NODES};
+use super::{fitting, most_nodes};
 use crate::candidate::Candidate;
-use crate::scenes::Scene;
+use crate::scenes::{addressing, Scene};
 use harness::packets::{data, integrity, is_integrity, node_of, CHOKE, UNCHOKE};
 use harness::packs::Pack;
 use harness::random::Random;
@@ -30,8 +30,8 @@ pub fn of_pack(random: &mut Random, pack: &Pack, scene: Scene) -> Vec<Candidate>
 /// byte too few in the chunk; and without one of the hashes.
 fn lists(random: &mut Random, pack: &Pack, chunk: u32) -> [Vec<Vec<u8>>; 5] {
     let nodes = tree::sending_order(pack.count(), chunk).into_iter();
-    let hashes = nodes.map(|node| integrity(node, pack.built.hash(node)));
-    let data = data(chunk, chunk, 0, pack.chunk(chunk));
+    let hashes = nodes.map(|node| integrity(addressing(), node, pack.built.hash(node)));
+    let data = data(addressing(), chunk, chunk, 0, pack.chunk(chunk));
     let good: Vec<Vec<u8>> = hashes.chain([data]).collect();
     let (hash, chunk) = (random.place(good.len() - 1), good.len() - 1);
     let size = good[chunk].len();
@@ -59,10 +59,12 @@ fn behind(padding: &[Vec<u8>], messages: &[Vec<u8>]) -> Vec<Vec<u8>> {
 /// INTEGRITY of nodes that the messages lack.
 fn padding(random: &mut Random, messages: &[Vec<u8>]) -> Vec<Vec<u8>> {
     let hashes = messages.iter().filter(|message| is_integrity(message));
-    let known: Vec<u64> = hashes.map(|message| node_of(message)).collect();
+    let known: Vec<u64> = hashes
+        .map(|message| node_of(addressing(), message))
+        .collect();
     let others = (0..1_023).rev().filter(|node| !known.contains(node));
-    let others = others.map(|node| integrity(node, &random.digest()));
-    others.take(MOST_NODES).collect()
+    let others = others.map(|node| integrity(addressing(), node, &random.digest()));
+    others.take(most_nodes()).collect()
 }
 
 /// CHOKE and UNCHOKE in any order.

@@ -2,7 +2,7 @@
 //! every kind.
 
 use crate::candidate::Candidate;
-use crate::scenes::{Scene, CALLING, CHANNEL, PEER, UNUSED};
+use crate::scenes::{addressing, Scene, CALLING, CHANNEL, PEER, UNUSED};
 use harness::packets::{fixed, handshake, CHOKE, END_ONLY};
 use second::sha256::Digest;
 
@@ -39,7 +39,7 @@ fn met(source: u32, options: &[u8]) -> [Candidate; 8] {
 /// The fixed options and End alone; options that are others, cut, too many, or out
 /// of order; and long ones.
 fn options(root: &Digest) -> Vec<Vec<u8>> {
-    let ours = fixed(root);
+    let ours = fixed(addressing(), root);
     let (_, endless) = ours.split_last().expect("End");
     let mut other_root = ours.clone();
     other_root[20] ^= 1;

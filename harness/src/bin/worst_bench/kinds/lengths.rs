@@ -1,8 +1,8 @@
 //! Datagrams that are cut anywhere, of every length, and too long ones.
 
-use super::{fitting, of_kind, ACK};
+use super::{fitting, of_kind};
 use crate::candidate::Candidate;
-use crate::scenes::CHANNEL;
+use crate::scenes::{addressing, CHANNEL};
 use harness::packets::*;
 use harness::random::Random;
 use second::sha256::Digest;
@@ -18,13 +18,13 @@ const TOO_LONG: [usize; 3] = [MAX_SIZE + 1, 4_096, 65_507];
 /// there is room for.
 pub fn cuts(root: &Digest) -> Vec<Candidate> {
     let messages = [
-        handshake(9, &fixed(root)),
+        handshake(9, &fixed(addressing(), root)),
         of_kind(ACK, 0, 511),
         of_kind(HAVE, 0, 511),
         of_kind(REQUEST, 0, 511),
         of_kind(CANCEL, 0, 511),
-        integrity(511, &[7; 32]),
-        data(0, 0, 0, &[7; 24]),
+        integrity(addressing(), 511, &[7; 32]),
+        data(addressing(), 0, 0, 0, &[7; 24]),
     ];
     let cut = messages.iter().flat_map(|message| {
         let cut = |size| message[..size].to_vec();

@@ -1,9 +1,9 @@
 //! Datagrams without HANDSHAKE and DATA: the same messages again and again, and
 //! any messages, taken and refused.
 
-use super::{fitting, of_kind, ACK, MOST_NODES, RANGED};
+use super::{fitting, most_nodes, of_kind, RANGED};
 use crate::candidate::Candidate;
-use crate::scenes::{CALLING, UNUSED};
+use crate::scenes::{addressing, CALLING, UNUSED};
 use harness::packets::*;
 use harness::random::Random;
 use second::tree;
@@ -85,12 +85,14 @@ fn nodes(random: &mut Random) -> Vec<Candidate> {
     random.shuffle(&mut any);
     let leaves = (0..512).map(tree::leaf).collect();
     let lists = [any, leaves].map(|nodes: Vec<u64>| {
-        let hashes = nodes.iter().map(|&node| integrity(node, &random.digest()));
-        hashes.take(MOST_NODES).collect::<Vec<_>>()
+        let hashes = nodes
+            .iter()
+            .map(|&node| integrity(addressing(), node, &random.digest()));
+        hashes.take(most_nodes()).collect::<Vec<_>>()
     });
     let lists = lists
         .iter()
-        .flat_map(|list| (1..=MOST_NODES).map(move |count| &list[..count]));
+        .flat_map(|list| (1..=most_nodes()).map(move |count| &list[..count]));
     let more = [of_kind(HAVE, 0, 511), of_kind(REQUEST, 1, 510)];
     let both = lists.flat_map(|list| {
         let full = fitting(list.iter().chain(more.iter().cycle()), 0);
@@ -102,12 +104,13 @@ fn nodes(random: &mut Random) -> Vec<Candidate> {
 /// A datagram that is taken, so that it is refused at its very end, or for its
 /// channel; and taken with its messages in any order.
 fn refused(taken: &Candidate) -> Vec<Candidate> {
-    let list = messages(&taken.datagram);
+    let list = messages(addressing(), &taken.datagram);
     let ends = [
         vec![255],
         vec![INTEGRITY],
         of_kind(HAVE, 5, 4),
         of_kind(HAVE, 511, 512),
+        of_kind(HAVE, 512, 512),
         handshake(0, &END_ONLY),
         // Twice, if it is INTEGRITY.
         list[0].clone(),

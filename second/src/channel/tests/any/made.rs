@@ -46,10 +46,12 @@ impl Scene {
         };
         let options = match self.random.below(8) {
             0 => vec![0, 1, 255],
-            1 => fixed(&[1; 32]),
-            2 | 3 => vec![255],
+            1 => either::fixed(state.addressing, &[1; 32]),
+            2 if self.chance(2) => vec![255],
+            2 => either::fixed(other(state.addressing), &state.root),
+            3 => vec![255],
             _ if source == 0 => vec![255],
-            _ => fixed(&state.root),
+            _ => either::fixed(state.addressing, &state.root),
         };
         to(destination, &[&handshake(source, &options)])
     }
@@ -58,18 +60,54 @@ impl Scene {
     fn messages(&mut self) -> Vec<u8> {
         let mut messages = Vec::new();
         for _ in 0..self.random.below(4) {
-            let (a, b) = (self.chunk(), self.chunk());
-            let (first, last) = (a.min(b), a.max(b));
-            messages.extend(match self.random.below(7) {
-                0 => have(first, last),
-                1 => ack(first, last, self.random.time()),
-                2 | 3 => request(first, last),
-                4 => cancel(first, last),
-                5 => CHOKE.to_vec(),
-                _ => UNCHOKE.to_vec(),
+            messages.extend(match self.addressing {
+                Addressing::Bins => self.message_over_bin(),
+                Addressing::Ranges => self.message_over_range(),
             });
         }
         messages
+    }
+
+    fn message_over_range(&mut self) -> Vec<u8> {
+        let (a, b) = (self.chunk(), self.chunk());
+        let (first, last) = (a.min(b), a.max(b));
+        match self.random.below(7) {
+            0 => have(first, last),
+            1 => ack(first, last, self.random.time()),
+            2 | 3 => request(first, last),
+            4 => cancel(first, last),
+            5 => CHOKE.to_vec(),
+            _ => UNCHOKE.to_vec(),
+        }
+    }
+
+    fn message_over_bin(&mut self) -> Vec<u8> {
+        let bin = self.bin();
+        match self.random.below(7) {
+            0 => bins::have(bin),
+            1 => bins::ack(bin, self.random.time()),
+            2 | 3 => bins::request(bin),
+            4 => bins::cancel(bin),
+            5 => CHOKE.to_vec(),
+            _ => UNCHOKE.to_vec(),
+        }
+    }
+
+    /// A bin over a chunk of the pack, inside it or past its end in part; at times
+    /// any, the empty one and everything with them.
+    fn bin(&mut self) -> u32 {
+        match self.random.below(16) {
+            0 => self.random.bin(),
+            1 => bins::EVERYTHING,
+            2 => bins::EMPTY,
+            _ => {
+                let height = match self.random.below(4) {
+                    0 => self.random.below(31),
+                    _ => self.random.below(7),
+                };
+                tree::over(self.chunk() % (1 << 31), height as u32) as u32
+            }
+        }
     }
 
     /// DATA with the hashes of its sending order, some left out or wrong.
@@ -90,7 +128,7 @@ impl Scene {
             if faulty && self.chance(4) {
                 hash[self.random.below(32)] ^= 1;
             }
-            messages.extend(node_hash(node, &hash));
+            messages.extend(either::integrity(self.addressing, node, &hash));
         }
         let mut bytes = self.pack.chunk(chunk.min(count - 1)).to_vec();
         match self.random.below(16) {
@@ -98,7 +136,16 @@ impl Scene {
             1 => bytes.truncate(self.random.below(1024)),
             _ => {}
         }
-        let data = data(chunk, chunk, self.random.time(), &bytes);
+        let leaf = tree::leaf(chunk % (1 << 31));
+        let data = either::data(self.addressing, leaf, self.random.time(), &bytes);
         to(destination, &[&messages, &data])
+    }
+}
+
+/// The other method.
+fn other(addressing: Addressing) -> Addressing {
+    match addressing {
+        Addressing::Bins => Addressing::Ranges,
+        Addressing::Ranges => Addressing::Bins,
     }
 }

@@ -11,7 +11,7 @@ type Hashes = BTreeMap<u64, Digest>;
 pub fn take(before: &Caller, clock: u64, id: u32, datagram: &[u8]) -> Done {
     let State { root, length, .. } = &before.state;
     check(before, *length)?;
-    let layout = layout(datagram, &mut Vec::new())?;
+    let layout = layout(before.state.addressing, datagram, &mut Vec::new())?;
     let destination = u32::from_be_bytes(datagram[..4].try_into().unwrap());
     let row = match destination {
         0 => None,
@@ -52,7 +52,7 @@ fn take_handshake(before: &Caller, row: usize, source: u32, good: bool) -> Done 
 fn take_messages(before: &Caller, clock: u64, row: usize, datagram: &[u8]) -> Done {
     let mut messages = Vec::new();
     let mut at = 4;
-    while let Step::Read { message, next } = step(datagram, at) {
+    while let Step::Read { message, next } = step(before.state.addressing, datagram, at) {
         messages.push(message);
         at = next;
     }
@@ -61,7 +61,9 @@ fn take_messages(before: &Caller, clock: u64, row: usize, datagram: &[u8]) -> Do
         return Err(3);
     }
     let (count, _) = counts(before.state.length);
-    if messages.iter().any(|message| last(message) >= count as u64) {
+    let bins = before.state.addressing == Addressing::Bins;
+    let past = |message| needed(bins, message) >= count as u64;
+    if messages.iter().any(past) {
         return Err(7);
     }
     let mut after = before.clone();
@@ -81,7 +83,8 @@ fn take_messages(before: &Caller, clock: u64, row: usize, datagram: &[u8]) -> Do
             } => {
                 take_chunk(&mut after, chunk as usize, &datagram[start..], &came)?;
                 let delay = clock.wrapping_sub(time);
-                reply = to(record.peer, &[&ack(chunk, chunk, delay)]);
+                let ack = either::ack(before.state.addressing, 2 * u64::from(chunk), delay);
+                reply = to(record.peer, &[&ack]);
             }
             message => apply(&mut after, row, message),
         }
@@ -89,9 +92,19 @@ fn take_messages(before: &Caller, clock: u64, row: usize, datagram: &[u8]) -> Do
     done(after, reply)
 }
 
-/// The last chunk of a message, if any.
-fn last(message: &Message) -> u64 {
+/// The chunk of a message, if any, that must be in the pack: the last one, but
+/// "in HAVE, REQUEST, CANCEL and ACK a bin that runs past the last chunk means its
+/// part inside the pack; wholly past is 7".
+fn needed(bins: bool, message: &Message) -> u64 {
     match *message {
+        Message::Ack { first, .. }
+        | Message::Have { first, .. }
+        | Message::Request { first, .. }
+        | Message::Cancel { first, .. }
+            if bins =>
+        {
+            first.into()
+        }
         Message::Data { last, .. }
         | Message::Ack { last, .. }
         | Message::Have { last, .. }
@@ -104,16 +117,21 @@ fn last(message: &Message) -> u64 {
 
 /// The effects of the other messages.
 fn apply(after: &mut Caller, row: usize, message: Message) {
-    let start = row * words(counts(after.state.length).0);
+    let (count, _) = counts(after.state.length);
+    let start = row * words(count);
     let has = &mut after.has[start..];
     let wants = &mut after.wants[start..];
+    // The chunks inside the pack.
+    let mark = |row: &mut [u32], first, last: u32, value| {
+        set(row, first, last.min(count as u32 - 1), value);
+    };
     match message {
         Message::Ack { first, last, .. } | Message::Have { first, last } => {
-            set(has, first, last, true);
-            set(wants, first, last, false);
+            mark(has, first, last, true);
+            mark(wants, first, last, false);
         }
-        Message::Request { first, last } => set(wants, first, last, true),
-        Message::Cancel { first, last } => set(wants, first, last, false),
+        Message::Request { first, last } => mark(wants, first, last, true),
+        Message::Cancel { first, last } => mark(wants, first, last, false),
         Message::Choke => after.state.rows[row].choked = true,
         Message::Unchoke => after.state.rows[row].choked = false,
         _ => {}
