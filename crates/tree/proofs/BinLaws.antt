@@ -149,6 +149,11 @@ first-plus-last b =
     let e : first b ≡ n .0 * 2 ^ height b = ap first (n .1) ∙ first-bin (height b) (n .0) in
     omega (arith, e, n .1, pow-pos (height b))
 
+-- its first chunk is not behind its last
+pub first-to-last : (b : ℕ) → first b ≤ last b
+unfolding last
+first-to-last b = omega (arith, pow-pos (height b))
+
 -- every number is the node of its height and first chunk, and that chunk is a multiple
 pub bin-of : (b : ℕ) → bin (height b) (first b) ≡ b
 bin-of b =

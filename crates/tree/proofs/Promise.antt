@@ -36,6 +36,9 @@ first-chunk = nodes.first-bin
 pub first-plus-last : (b : ℕ) → first b + last b ≡ b
 first-plus-last = nodes.first-plus-last
 
+pub first-to-last : (b : ℕ) → first b ≤ last b
+first-to-last = nodes.first-to-last
+
 -- The node of the chunks that a node covers is that node.
 pub node-range : (b : ℕ) → nodeOfRange (first b) (last b) ≡ NodeOf b
 node-range b = range-is (first b) (last b) b refl refl

@@ -3,21 +3,29 @@ use Prim.Native.Nat.{ℕ, _+_, _-_, _≤_}
 use native.Mathlib.Omega.{arith}
 use mathlib.Core.Path.{_≡_, refl, sym, ap, _∙_}
 use mathlib.Core.List.{List}
-use mathlib.Core.Bool.{Bool, true, false}
-use borrow.Author.Tests.{eq-eqb, ne-eqb}
+use mathlib.Core.Bool.{Bool, true, false, not, true≢false}
+use borrow.Author.Tests.{eq-eqb, ne-eqb, eqb-true, le-ltb, le-leb, lt-leb, ltb-false, ltb-true}
 use Rattle.base.specs.Pick.{pick}
-use Rattle.tree.proofs.Promise.{covers, nodeOfRange, first, first-plus-last, last}
+use Rattle.tree.proofs.Promise.{covers, nodeOfRange, first, first-chunk, first-plus-last, first-to-last, last}
 use Rattle.tree.specs.declared.bin.RangeNode.{RangeNode}
 use Rattle.tree.specs.declared.bin.RangeNode.the-variants.{Node, NoNode}
 use Rattle.wire.specs.Bytes.{be32}
-use Rattle.wire.specs.Place.{firstOf, lastOf, emptyBin, everythingBin, isEmpty, isSpecial, placeBy, placeSize, reach, emptyBy, specialBy}
+use Rattle.wire.specs.Place.{firstOf, lastOf, emptyBin, everythingBin, isEmpty, isSpecial, placeBy, placeSize, reach, reachBy, firstBy, lastBy, emptyBy, specialBy}
 use Rattle.wire.specs.Read.{namesNode}
 use Rattle.wire.specs.Steps.{rangeOf}
 use Rattle.wire.specs.declared.range.Range.{Range}
 use Rattle.format.specs.declared.Addressing.{Addressing}
 use Rattle.format.specs.declared.Addressing.the-variants.{Bins, Ranges}
 use Rattle.format.specs.declared.Format.{Format}
-use lib.Dec.{eqb}
+use lib.Dec.{eqb, leb, ltb}
+
+-- the code's test of two numbers in order
+pub order-test : (f l : ℕ) → leb f l ≡ not (ltb l f)
+order-test f l = by (ltb l f) refl
+  where
+    by : (b : Bool) → ltb l f ≡ b → leb f l ≡ not b
+    by true e = lt-leb f l (ltb-true l f e)
+    by false e = le-leb f l (ltb-false l f e)
 
 -- 4 or 8 bytes name them
 pub place-least : (F : Format) → 4 ≤ placeSize F
@@ -88,14 +96,72 @@ module _ (F : Format) (t : List ℕ) where
   unfolding namesNode firstOf lastOf
   node-ranges e p h fe le g = rw (← e, p, h, ← fe, ← le) g
 
-module _ (F : Format) (f l : ℕ) where
-  pub reach-bins : F .addressing ≡ Bins → f ≡ reach F f l
-  unfolding reach
-  reach-bins h = rw h
+  -- in order
+  pub order-bins : F .addressing ≡ Bins → true ≡ not (ltb (lastOf F t) (firstOf F t))
+  unfolding firstOf lastOf
+  order-bins h = rw (h, le-ltb (last (be32 t 1)) (first (be32 t 1)) (first-to-last (be32 t 1)))
 
-  pub reach-ranges : F .addressing ≡ Ranges → l ≡ reach F f l
-  unfolding reach
-  reach-ranges h = rw h
+  pub order-ranges : F .addressing ≡ Ranges → {f l : ℕ} → f ≡ be32 t 1 → l ≡ be32 t 5 → leb f l ≡ not (ltb (lastOf F t) (firstOf F t))
+  unfolding firstOf lastOf
+  order-ranges h {f} {l} fe le = order-test f l ∙ rw (h, fe, le)
+
+  -- in order, and neither none nor all
+  pub part-none : F .addressing ≡ Bins → {b : ℕ} → b ≡ be32 t 1 → b ≡ emptyBin → false ≡ pick (isSpecial F t) false (not (ltb (lastOf F t) (firstOf F t)))
+  part-none h e p = rw (← special-none h e p)
+
+  pub part-bins : F .addressing ≡ Bins → {b : ℕ} → b ≡ be32 t 1 → (b ≡ emptyBin → ⊥)
+      → not (eqb b everythingBin) ≡ pick (isSpecial F t) false (not (ltb (lastOf F t) (firstOf F t)))
+  part-bins h {b} e p = rw (← special-all h e p, ← order-bins h) (by (eqb b everythingBin))
+    where
+      by : (x : Bool) → not x ≡ pick x false true
+      by true = refl
+      by false = refl
+
+  pub part-ranges : F .addressing ≡ Ranges → {f l : ℕ} → f ≡ be32 t 1 → l ≡ be32 t 5 → leb f l ≡ pick (isSpecial F t) false (not (ltb (lastOf F t) (firstOf F t)))
+  part-ranges h fe le = rw (← special-ranges h) (order-ranges h fe le)
+
+  -- the last, and the node's number
+  pub last-bins : F .addressing ≡ Bins → {b : ℕ} → b ≡ be32 t 1 → {l : ℕ} → l ≡ last b → l ≡ lastOf F t
+  unfolding lastOf
+  last-bins h e p = rw (h, ← e) p
+
+  pub last-ranges : F .addressing ≡ Ranges → {l : ℕ} → l ≡ be32 t 5 → l ≡ lastOf F t
+  unfolding lastOf
+  last-ranges h p = rw h p
+
+  pub number-bins : F .addressing ≡ Bins → {b : ℕ} → b ≡ be32 t 1 → b ≡ firstOf F t + lastOf F t
+  unfolding firstOf lastOf
+  number-bins h e = rw h (e ∙ sym (first-plus-last (be32 t 1)))
+
+  pub number-ranges : F .addressing ≡ Ranges → {f l : ℕ} → f ≡ be32 t 1 → l ≡ be32 t 5 → f + l ≡ firstOf F t + lastOf F t
+  unfolding firstOf lastOf
+  number-ranges h fe le = rw (h, fe, le)
+
+  -- the chunk by which they are past the pack
+  pub reach-bins : F .addressing ≡ Bins → {b : ℕ} → b ≡ be32 t 1 → {f : ℕ} → f ≡ first b → f ≡ reach F (firstOf F t) (lastOf F t)
+  unfolding reach firstOf
+  reach-bins h e p = rw (h, ← e) p
+
+  pub reach-ranges : F .addressing ≡ Ranges → {l : ℕ} → l ≡ be32 t 5 → l ≡ reach F (firstOf F t) (lastOf F t)
+  unfolding reach lastOf
+  reach-ranges h p = rw h p
+
+-- no chunk is in order, and past no pack
+pub none-order : (F : Format) (t : List ℕ) → isEmpty F t ≡ true → ltb (lastOf F t) (firstOf F t) ≡ false
+unfolding isEmpty firstOf lastOf
+none-order F t = by (F .addressing)
+  where
+    by : (a : Addressing) → emptyBy a t ≡ true → ltb (lastBy a t) (firstBy a t) ≡ false
+    by Bins e = le-ltb (last (be32 t 1)) (first (be32 t 1)) (first-to-last (be32 t 1))
+    by Ranges e = absurd (true≢false (sym e))
+
+pub none-reach : (F : Format) (t : List ℕ) → isEmpty F t ≡ true → reach F (firstOf F t) (lastOf F t) ≡ 0
+unfolding isEmpty firstOf lastOf reach
+none-reach F t = by (F .addressing)
+  where
+    by : (a : Addressing) → emptyBy a t ≡ true → reachBy a (firstBy a t) (lastBy a t) ≡ 0
+    by Bins e = ap first (eqb-true (be32 t 1) emptyBin e) ∙ first-chunk 32 0
+    by Ranges e = absurd (true≢false (sym e))
 
 -- neither none nor all
 pub not-none : (F : Format) (t : List ℕ) → isSpecial F t ≡ false → isEmpty F t ≡ false

@@ -8,7 +8,7 @@ use mathlib.Core.List.{List}
 use mathlib.Core.Bool.{Bool, true, false, not, true≢false}
 use lib.ListN.{length, getD, take, drop, length-drop}
 use lib.Dec.{ltb, eqb}
-use borrow.Author.Tests.{lt-ltb, le-ltb, eqb-true}
+use borrow.Author.Tests.{lt-ltb, le-ltb, eqb-true, not-true, not-false}
 use Rattle.base.specs.Pick.{pick}
 use Rattle.wire.specs.Bytes.{be64}
 use Rattle.wire.specs.Place.{firstOf, lastOf, integritySize, isEmpty, isSpecial, namedSize, timedSize}
@@ -20,7 +20,7 @@ use Rattle.wire.specs.declared.message.Message.the-variants.{Ack, Integr
 use Rattle.wire.specs.declared.message.Step.{Step}
 use Rattle.wire.specs.declared.message.Step.the-variants.{Read, Refused}
 use Rattle.wire.proofs.BytesLaws.{part}
-use Rattle.wire.proofs.PlaceLaws.{not-none, first-is, last-is}
+use Rattle.wire.proofs.PlaceLaws.{not-none, none-order}
 use Rattle.wire.proofs.ViewLaws.{View, the-end, refused, a-handshake, a-data, an-ack, a-have, an-integrity, a-request, a-cancel, a-choke, an-unchoke, view, an-empty, ranged-types}
 use Rattle.wire.proofs.ViewLaws.{refusing, typed-is, end-is, choke-is, unchoke-is, integrity-is}
 use Rattle.format.specs.declared.Format.{Format}
@@ -50,45 +50,46 @@ module _ (F : Format) (t : List ℕ) {n : ℕ} (ne : n ≡ namedSize F) where
   unfolding rangedSize
   ranged-cut h = simp (lt-ltb (length t) (namedSize F) (omega (arith, ne, h)))
 
-  module _ (h : n ≤ length t) {b : Bool} (be : b ≡ isEmpty F t) where
-    pub ranged-empty : b ≡ true → n ≡ rangedSize F t
+  -- by the order of the chunks, in which none are
+  module _ (h : n ≤ length t) {o : Bool} (oe : o ≡ not (ltb (lastOf F t) (firstOf F t))) where
+    ranged-by : (none bad : Bool) → (none ≡ true → bad ≡ false) → pick (not bad) (namedSize F) 0 ≡ pick none (namedSize F) (pick bad 0 (namedSize F))
+    ranged-by true true g = absurd (true≢false (g refl))
+    ranged-by true false g = refl
+    ranged-by false true g = refl
+    ranged-by false false g = refl
+
+    ranged-is : pick o (namedSize F) 0 ≡ rangedSize F t
     unfolding rangedSize
-    ranged-empty p = rw ne (simp (le-ltb (length t) (namedSize F) (omega (arith, ne, h)), ← be, p))
+    ranged-is =
+        rw (oe, le-ltb (length t) (namedSize F) (omega (arith, ne, h)))
+        (ranged-by (isEmpty F t) (ltb (lastOf F t) (firstOf F t)) (none-order F t))
 
-    module _ (z : b ≡ false) (r : Range) (e : r ≡ rangeOf F t) where
-      pub ranged-order : r .last < r .first → 0 ≡ rangedSize F t
-      unfolding rangedSize
-      ranged-order o =
-          let f = first-is F t e in let l = last-is F t e in
-          simp (le-ltb (length t) (namedSize F) (omega (arith, ne, h)), ← be, z, ← f, ← l, lt-ltb (r .last) (r .first) o)
+    pub ranged-order : not o ≡ true → 0 ≡ rangedSize F t
+    ranged-order p = rw (not-true o p) at ranged-is
 
-      pub ranged-good : r .first ≤ r .last → n ≡ rangedSize F t
-      unfolding rangedSize
-      ranged-good o =
-          let f = first-is F t e in let l = last-is F t e in
-          rw ne (simp (le-ltb (length t) (namedSize F) (omega (arith, ne, h)), ← be, z, ← f, ← l, le-ltb (r .last) (r .first) o))
+    pub ranged-good : not o ≡ false → n ≡ rangedSize F t
+    ranged-good p = ne ∙ rw (not-false o p) at ranged-is
 
   pub ack-cut : length t < n + 8 → 0 ≡ ackSize F t
   unfolding ackSize
   ack-cut h = simp (lt-ltb (length t) (timedSize F) (omega (arith, ne, h)))
 
-  module _ (h : n + 8 ≤ length t) {b : Bool} (be : b ≡ isSpecial F t) where
-    pub ack-special : b ≡ true → 0 ≡ ackSize F t
+  module _ (h : n + 8 ≤ length t) {o : Bool} (oe : o ≡ pick (isSpecial F t) false (not (ltb (lastOf F t) (firstOf F t)))) where
+    ack-by : (special bad : Bool) → pick (pick special false (not bad)) (timedSize F) 0 ≡ pick special 0 (pick bad 0 (timedSize F))
+    ack-by true bad = refl
+    ack-by false true = refl
+    ack-by false false = refl
+
+    ack-is : pick o (timedSize F) 0 ≡ ackSize F t
     unfolding ackSize
-    ack-special p = simp (le-ltb (length t) (timedSize F) (omega (arith, ne, h)), ← be, p)
+    ack-is =
+        rw (oe, le-ltb (length t) (timedSize F) (omega (arith, ne, h))) (ack-by (isSpecial F t) (ltb (lastOf F t) (firstOf F t)))
 
-    module _ (z : b ≡ false) (r : Range) (e : r ≡ rangeOf F t) where
-      pub ack-order : r .last < r .first → 0 ≡ ackSize F t
-      unfolding ackSize
-      ack-order o =
-          let f = first-is F t e in let l = last-is F t e in
-          simp (le-ltb (length t) (timedSize F) (omega (arith, ne, h)), ← be, z, ← f, ← l, lt-ltb (r .last) (r .first) o)
+    pub ack-part : not o ≡ true → 0 ≡ ackSize F t
+    ack-part p = rw (not-true o p) at ack-is
 
-      pub ack-good : r .first ≤ r .last → n + 8 ≡ ackSize F t
-      unfolding ackSize
-      ack-good o =
-          let f = first-is F t e in let l = last-is F t e in
-          rw ne (simp (le-ltb (length t) (timedSize F) (omega (arith, ne, h)), ← be, z, ← f, ← l, le-ltb (r .last) (r .first) o))
+    pub ack-good : not o ≡ false → n + 8 ≡ ackSize F t
+    ack-good p = ap (λ (x : ℕ). x + 8) ne ∙ rw (not-false o p) at ack-is
 
 -- ---- the size of a plain message
 

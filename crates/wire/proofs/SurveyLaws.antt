@@ -16,7 +16,7 @@ use Rattle.wire.specs.declared.message.Step.the-variants.{End, Read}
 use Rattle.wire.specs.declared.layout.Layout.the-variants.{Messages}
 use Rattle.wire.specs.declared.survey.Survey.{Survey}
 use Rattle.wire.specs.declared.pass.Front.{Front}
-use Rattle.wire.proofs.PlaceLaws.{last-is, first-is, place-least, not-none}
+use Rattle.wire.proofs.PlaceLaws.{place-least, not-none, none-reach}
 use Rattle.wire.proofs.LayoutLaws.{layout-sized}
 use Rattle.wire.proofs.ViewLaws.{View, the-end, refused, a-handshake, a-data, an-ack, a-have, an-integrity, a-request, a-cancel, a-choke, an-unchoke, view, end-is, an-empty}
 use Rattle.wire.specs.declared.message.Cursor.{Cursor}
@@ -68,18 +68,15 @@ module _ (F : Format) (size : ℕ) (t : List ℕ) (v : Survey) where
     unfolding acting
     acting-single h = simp (lt-ltb size (namedSize F) (omega (arith, ne, h)))
 
-    module _ (h : n ≤ size) {b : Bool} (be : b ≡ isEmpty F t) where
-      -- over no chunk
-      pub acting-empty : b ≡ true → surveyOf (v .highest) true ≡ acting F size t v
-      unfolding acting
-      acting-empty p = simp (le-ltb size (namedSize F) (omega (arith, ne, h)), ← be, p)
-
-      pub acting-range : b ≡ false → (r : Range) → r ≡ rangeOf F t → {x : ℕ} → x ≡ reach F (r .first) (r .last) → {y : ℕ} → y ≡ higher (v .highest) x
-          → surveyOf y true ≡ acting F size t v
-      unfolding acting
-      acting-range p r e xe ye =
-          let f = first-is F t e in let l = last-is F t e in
-          rw (ye, xe) (simp (le-ltb size (namedSize F) (omega (arith, ne, h)), ← be, p, ← f, ← l))
+    -- by its chunks, also where they are none
+    pub acting-range : n ≤ size → {x : ℕ} → x ≡ reach F (firstOf F t) (lastOf F t) → {y : ℕ} → y ≡ higher (v .highest) x → surveyOf y true ≡ acting F size t v
+    unfolding acting
+    acting-range h xe ye = rw (ye, xe, le-ltb size (namedSize F) (omega (arith, ne, h))) (ap (λ (z : ℕ). surveyOf z true) (by (isEmpty F t) refl))
+      where
+        by : (none : Bool) → isEmpty F t ≡ none
+            → higher (v .highest) (reach F (firstOf F t) (lastOf F t)) ≡ pick none (v .highest) (higher (v .highest) (reach F (firstOf F t) (lastOf F t)))
+        by true e = rw (none-reach F t e, le-ltb (v .highest) 0 (omega arith))
+        by false e = refl
 
 -- what a plain message that names chunks adds
 acting-is : (F : Format) (size : ℕ) (t : List ℕ) (v : Survey) → namedSize F ≤ size → isEmpty F t ≡ false

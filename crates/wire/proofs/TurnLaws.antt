@@ -12,9 +12,8 @@ use Rattle.wire.specs.Bytes.{placed}
 use Rattle.wire.specs.Place.{firstOf, lastOf, integritySize, namedSize}
 use Rattle.wire.specs.Read.{stepAt, whole}
 use Rattle.wire.specs.Layout.{Checked, checkedOf, seen, handshakeLayout, layoutStep}
-use Rattle.wire.specs.Steps.{rangeOf, plainSize, isNode, noSurvey, naming, acting, surveyed, leastIntegrity}
+use Rattle.wire.specs.Steps.{plainSize, isNode, noSurvey, naming, acting, surveyed, leastIntegrity}
 use Rattle.wire.specs.Steps.{entryWords, Turned, turnedOf, passOf, over, noted, turnAt, lastOn, lastAt, Standing}
-use Rattle.wire.specs.declared.range.Range.{Range}
 use Rattle.wire.specs.declared.message.Options.{Options}
 use Rattle.wire.specs.declared.message.Message.{Message}
 use Rattle.wire.specs.declared.message.Message.the-variants.{Handshake, Data, Ack, Have, Integrity, Request, Cancel, Choke, Unchoke, Empty}
@@ -28,7 +27,6 @@ use Rattle.wire.specs.declared.pass.Pass.{Pass}
 use Rattle.wire.specs.declared.pass.Turn.{Turn}
 use Rattle.wire.specs.declared.pass.Turn.the-variants.{On, Over}
 use Rattle.wire.proofs.BytesLaws.{part}
-use Rattle.wire.proofs.PlaceLaws.{first-is, last-is}
 use Rattle.wire.proofs.ViewLaws.{View, the-end, refused, a-handshake, a-data, an-ack, a-have, an-integrity, a-request, a-cancel, a-choke, an-unchoke, view, an-empty}
 use Rattle.wire.proofs.SpanLaws.{Reaches}
 use Rattle.format.specs.declared.Format.{Format}
@@ -90,11 +88,13 @@ module _ (F : Format) (s room : List ℕ) (used at : ℕ) (v : Survey) where
   turn-plain e h p = rw (p, e) (by-plain F s room used at v (view F at (drop at s)) (λ q. h (e ∙ q)))
 
   -- INTEGRITY
-  pub turn-node : {b : Bool} → b ≡ isNode (stepAt F s at) → b ≡ true → (r : Range) → r ≡ rangeOf F (take (length s - at) (drop at s)) → {w : Survey} → w ≡ naming (r .last) v
-      → {n : ℕ} → n ≡ namedSize F → {t : Turned} → t ≡ noted room used w (r .first + r .last) (at + n) (at + (n + 32)) → t ≡ turnAt F s room used at v (stepAt F s at)
-  turn-node e h r g ew ne et =
-      let q : r ≡ rangeOf F (drop at s) = rw part at g in
-      et ∙ rw (ne, ew, first-is F (drop at s) q, last-is F (drop at s) q) (by-node F s room used at v (view F at (drop at s)) (sym e ∙ h))
+  pub turn-node : {b : Bool} → b ≡ isNode (stepAt F s at) → b ≡ true → {l : ℕ} → l ≡ lastOf F (take (length s - at) (drop at s))
+      → {x : ℕ} → x ≡ firstOf F (take (length s - at) (drop at s)) + lastOf F (take (length s - at) (drop at s)) → {w : Survey} → w ≡ naming l v
+      → {n : ℕ} → n ≡ namedSize F → {t : Turned} → t ≡ noted room used w x (at + n) (at + (n + 32)) → t ≡ turnAt F s room used at v (stepAt F s at)
+  turn-node e h {l} le {x} xe ew ne et =
+      let p : l ≡ lastOf F (drop at s) = rw part at le in
+      let q : x ≡ firstOf F (drop at s) + lastOf F (drop at s) = rw part at xe in
+      et ∙ rw (ne, ew, p, q) (by-node F s room used at v (view F at (drop at s)) (sym e ∙ h))
 
   -- anything else
   pub turn-last : {n : ℕ} → n ≡ plainSize F (stepAt F s at) → n ≡ 0 → {b : Bool} → b ≡ isNode (stepAt F s at) → b ≡ false → {p : Pass} → p ≡ lastAt s used at v (stepAt F s at)

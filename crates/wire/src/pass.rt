@@ -189,13 +189,12 @@ fn take_turn(
     }
     if plain::is_node(format, datagram, at) {
         let named = range::named_size(format);
-        let chunks = range::read(format, &datagram[at..]);
-        let node = chunks.first as u64 + chunks.last as u64;
+        let rest = &datagram[at..];
         return note(
             entries,
             used,
-            survey::naming(survey, chunks.last),
-            node,
+            survey::naming(survey, range::last(format, rest)),
+            range::node(format, rest),
             at + named,
             at + (named + 32),
         );

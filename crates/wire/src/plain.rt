@@ -38,11 +38,7 @@ fn ranged_size(format: Format, rest: &[u8]) -> usize
     if rest.len() < size {
         return 0;
     }
-    if range::is_empty(format, rest) {
-        return size;
-    }
-    let chunks = range::read(format, rest);
-    if chunks.last < chunks.first {
+    if !range::in_order(format, rest) {
         return 0;
     }
     size
@@ -56,11 +52,7 @@ fn ack_size(format: Format, rest: &[u8]) -> usize
     if rest.len() < size {
         return 0;
     }
-    if range::is_special(format, rest) {
-        return 0;
-    }
-    let chunks = range::read(format, rest);
-    if chunks.last < chunks.first {
+    if !range::is_part(format, rest) {
         return 0;
     }
     size

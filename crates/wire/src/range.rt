@@ -2,7 +2,10 @@
 ghost use mathlib.Core.Path.{_≡_};
 ghost use Prim.Native.Nat.{_+_, _≤_};
 ghost use lib.ListN.{length};
-ghost use Rattle.wire.specs.Place.{placeSize, namedSize, isEmpty, isSpecial, reach};
+ghost use mathlib.Core.Bool.{false, not};
+ghost use Rattle.base.specs.Pick.{pick};
+ghost use lib.Dec.{ltb};
+ghost use Rattle.wire.specs.Place.{placeSize, namedSize, firstOf, lastOf, isEmpty, isSpecial, reach};
 ghost use Rattle.tree.proofs.Promise.{covers};
 ghost use Rattle.wire.specs.Read.{namesNode};
 ghost use Rattle.wire.specs.Steps.{rangeOf};
@@ -116,13 +119,72 @@ pub(crate) fn names_node(format: Format, rest: &[u8]) -> bool
     }
 }
 
-// The chunk by which HAVE, REQUEST, CANCEL or ACK is past the pack, if it is.
-pub(crate) fn reach(format: Format, first: u32, last: u32) -> u32
-    ensures { λ r. ⌜ r ≡ reach format first last ⌝ }
+// Whether they are in order, as those of a bin are.
+pub(crate) fn in_order(format: Format, rest: &[u8]) -> bool
+    requires { ⌜ namedSize format ≤ length (now rest) ⌝ }
+    ensures { λ r. ⌜ r ≡ not (ltb (lastOf format (now (rest .entry))) (firstOf format (now (rest .entry)))) ⌝ }
 {
     let addressing = format.addressing;
     match addressing {
-        Addressing::Bins => first,
-        Addressing::Ranges => last,
+        Addressing::Bins => true,
+        Addressing::Ranges => bytes::load32(rest, 1) <= bytes::load32(rest, 5),
+    }
+}
+
+// Whether an ACK may name them: in order, and neither none nor all.
+pub(crate) fn is_part(format: Format, rest: &[u8]) -> bool
+    requires { ⌜ namedSize format ≤ length (now rest) ⌝ }
+    ensures { λ r. ⌜ r ≡ pick (isSpecial format (now (rest .entry))) false
+        (not (ltb (lastOf format (now (rest .entry))) (firstOf format (now (rest .entry))))) ⌝ }
+{
+    let addressing = format.addressing;
+    match addressing {
+        Addressing::Bins => {
+            let b = bytes::load32(rest, 1);
+            if b == EMPTY_BIN {
+                return false;
+            }
+            b != EVERYTHING_BIN
+        }
+        Addressing::Ranges => {
+            let end = bytes::load32(rest, 5);
+            bytes::load32(rest, 1) <= end
+        }
+    }
+}
+
+// The last of them.
+pub(crate) fn last(format: Format, rest: &[u8]) -> u32
+    requires { ⌜ namedSize format ≤ length (now rest) ⌝ }
+    ensures { λ r. ⌜ r ≡ lastOf format (now (rest .entry)) ⌝ }
+{
+    let addressing = format.addressing;
+    match addressing {
+        Addressing::Bins => bin::last(bytes::load32(rest, 1)),
+        Addressing::Ranges => bytes::load32(rest, 5),
+    }
+}
+
+// The number of their node, if they are those of one.
+pub(crate) fn node(format: Format, rest: &[u8]) -> u64
+    requires { ⌜ namedSize format ≤ length (now rest) ⌝ }
+    ensures { λ r. ⌜ r ≡ firstOf format (now (rest .entry)) + lastOf format (now (rest .entry)) ⌝ }
+{
+    let addressing = format.addressing;
+    match addressing {
+        Addressing::Bins => bytes::load32(rest, 1) as u64,
+        Addressing::Ranges => bytes::load32(rest, 1) as u64 + bytes::load32(rest, 5) as u64,
+    }
+}
+
+// The chunk by which HAVE, REQUEST, CANCEL or ACK is past the pack, if it is; 0 where they are none.
+pub(crate) fn reach(format: Format, rest: &[u8]) -> u32
+    requires { ⌜ namedSize format ≤ length (now rest) ⌝ }
+    ensures { λ r. ⌜ r ≡ reach format (firstOf format (now (rest .entry))) (lastOf format (now (rest .entry))) ⌝ }
+{
+    let addressing = format.addressing;
+    match addressing {
+        Addressing::Bins => bin::first(bytes::load32(rest, 1)),
+        Addressing::Ranges => bytes::load32(rest, 5),
     }
 }

@@ -49,18 +49,9 @@ pub(crate) fn acting(format: Format, survey: Survey, rest: &[u8], size: usize) -
             effective: true,
         };
     }
-    if range::is_empty(format, rest) {
-        return Survey {
-            highest: survey.highest,
-            effective: true,
-        };
-    }
-    let chunks = range::read(format, rest);
+    let reached = range::reach(format, rest);
     Survey {
-        highest: higher(
-            survey.highest,
-            range::reach(format, chunks.first, chunks.last),
-        ),
+        highest: higher(survey.highest, reached),
         effective: true,
     }
 }

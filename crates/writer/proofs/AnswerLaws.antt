@@ -42,6 +42,7 @@ use Rattle.writer.proofs.AcceptLaws.{size-some, own-good}
 use Rattle.writer.proofs.AddLaws.{joined, behind-number}
 use Rattle.format.specs.declared.Format.{Format}
 use lib.Dec.{leb, ltb}
+use Rattle.wire.proofs.PlaceLaws.{order-test}
 
 -- ---- the number behind the datagram so far, by its layout
 
@@ -263,13 +264,6 @@ pub told-of : (F : Format) (s : List ℕ) (m : Message) {x : Before} {r : RangeN
 told-of F s m e p = e ∙ ap (beforeOf (layoutOf F s)) p
 
 -- ---- whether the table allows chunks, as the code tests it
-
-order-test : (f l : ℕ) → leb f l ≡ not (ltb l f)
-order-test f l = by (ltb l f) refl
-  where
-    by : (b : Bool) → ltb l f ≡ b → leb f l ≡ not b
-    by true e = lt-leb f l (ltb-true l f e)
-    by false e = le-leb f l (ltb-false l f e)
 
 module _ (F : Format) (f l : ℕ) where
   module _ {b : Bool} (be : b ≡ nameable F f l) where

@@ -13,8 +13,9 @@ use Rattle.wire.proofs.pass.last_turn.Reads as last-turn-reads
 use Rattle.wire.proofs.pass.note.Reads as note-reads
 use Rattle.wire.proofs.plain.is_node.Reads as is-node-reads
 use Rattle.wire.proofs.plain.size.Reads as size-reads
+use Rattle.wire.proofs.range.last.Reads as last-reads
 use Rattle.wire.proofs.range.named_size.Reads as named-size-reads
-use Rattle.wire.proofs.range.read.Reads as read-reads
+use Rattle.wire.proofs.range.node.Reads as node-reads
 use Rattle.wire.proofs.survey.acting.Reads as acting-reads
 use Rattle.wire.proofs.survey.naming.Reads as naming-reads
 
@@ -23,8 +24,8 @@ size-requires : tie.Need-size-requires
 size-requires c κs = search needs
 
 -- src/pass.rt:185:17
-add-t12 : tie.Need-add-t12
-add-t12 c = omega (arith, c .before .before .before .before .pre .high, size-inside _ _ _ (c .before .size .ensures) (c .if1 .taken))
+add-t11 : tie.Need-add-t11
+add-t11 c = omega (arith, c .before .before .before .before .pre .high, size-inside _ _ _ (c .before .size .ensures) (c .if1 .taken))
 
 -- src/pass.rt:187:52
 sub-acting : tie.Need-sub-acting
@@ -54,63 +55,55 @@ is-node-requires c κs = search needs
 named-size-requires : tie.Need-named-size-requires
 named-size-requires c κs = search needs
 
--- src/pass.rt:192:42
-sub-read : tie.Need-sub-read
-sub-read c = omega (arith, node-inside _ _ _ (c .before .before .is-node .ensures) (c .before .if2 .taken))
+-- src/pass.rt:192:20
+sub-rest : tie.Need-sub-rest
+sub-rest c = omega (arith, node-inside _ _ _ (c .before .before .is-node .ensures) (c .before .if2 .taken))
 
--- src/pass.rt:192:42
-part-read-start : tie.Need-part-read-start
-part-read-start c = omega (arith, node-inside _ _ _ (c .before .before .is-node .ensures) (c .before .if2 .taken))
+-- src/pass.rt:192:20
+part-rest-start : tie.Need-part-rest-start
+part-rest-start c = omega (arith, node-inside _ _ _ (c .before .before .is-node .ensures) (c .before .if2 .taken))
 
--- src/pass.rt:192:42
-part-read-end : tie.Need-part-read-end
-part-read-end c = search needs
+-- src/pass.rt:192:20
+part-rest-end : tie.Need-part-rest-end
+part-rest-end c = search needs
 
--- src/pass.rt:192:13
-read-requires : tie.Need-read-requires
-read-requires c κs = simp (part, length-drop) (omega (arith, node-inside _ _ _ (c .before .before .before .is-node .ensures) (c .before .before .if2 .taken)))
+-- src/pass.rt:196:36
+last-requires : tie.Need-last-requires
+last-requires c κs = simp (part, length-drop) (omega (arith, node-inside _ _ _ (c .before .before .before .before .is-node .ensures) (c .before .before .before .if2 .taken)))
 
--- src/pass.rt:193:20
-cast-node : tie.Need-cast-node
-cast-node c = search needs
-
--- src/pass.rt:193:42
-cast-node-2 : tie.Need-cast-node-2
-cast-node-2 c = search needs
-
--- src/pass.rt:193:20
-add-node : tie.Need-add-node
-add-node c = search needs
-
--- src/pass.rt:197:13
+-- src/pass.rt:196:13
 naming-requires : tie.Need-naming-requires
 naming-requires c κs = search needs
 
--- src/pass.rt:199:13
+-- src/pass.rt:197:13
+node-requires : tie.Need-node-requires
+node-requires c κs = simp (part, length-drop) (omega (arith, node-inside _ _ _ (c .before .before .before .before .before .before .is-node .ensures) (c .before .before .before .before .before .if2 .taken)))
+
+-- src/pass.rt:198:13
 add-note : tie.Need-add-note
-add-note c = omega (arith, c .before .before .before .before .before .before .before .before .before .before .before .before .before .pre .high, c .before .before .before .before .before .before .named-size .ensures .0, node-inside _ _ _ (c .before .before .before .before .before .before .before .before .is-node .ensures) (c .before .before .before .before .before .before .before .if2 .taken))
+add-note c = omega (arith, c .before .before .before .before .before .before .before .before .before .before .before .before .pre .high, c .before .before .before .before .before .named-size .ensures .0, node-inside _ _ _ (c .before .before .before .before .before .before .before .is-node .ensures) (c .before .before .before .before .before .before .if2 .taken))
 
--- src/pass.rt:200:19
+-- src/pass.rt:199:19
 add-note-2 : tie.Need-add-note-2
-add-note-2 c = search needs
+add-note-2 c = omega (arith, c .before .before .before .before .before .before .before .before .before .before .before .before .pre .high, c .before .before .before .before .before .named-size .ensures .0, node-inside _ _ _ (c .before .before .before .before .before .before .before .is-node .ensures) (c .before .before .before .before .before .before .if2 .taken))
 
--- src/pass.rt:200:13
+-- src/pass.rt:199:13
 add-note-3 : tie.Need-add-note-3
-add-note-3 c = omega (arith, c .before .before .before .before .before .before .before .before .before .before .before .before .before .pre .high, c .before .before .before .before .before .before .named-size .ensures .0, node-inside _ _ _ (c .before .before .before .before .before .before .before .before .is-node .ensures) (c .before .before .before .before .before .before .before .if2 .taken))
+add-note-3 c = omega (arith, c .before .before .before .before .before .before .before .before .before .before .before .before .pre .high, c .before .before .before .before .before .named-size .ensures .0, node-inside _ _ _ (c .before .before .before .before .before .before .before .is-node .ensures) (c .before .before .before .before .before .before .if2 .taken))
 
--- src/pass.rt:194:9
+-- src/pass.rt:193:9
 note-requires : tie.Need-note-requires
-note-requires c κs = note-room _ _ _ _ (c .before .before .before .before .before .before .before .before .before .before .before .before .before .pre) (simp length-drop (omega (arith, place-least (c .before .before .before .before .before .before .before .before .before .before .before .before .before .args .format), node-inside _ _ _ (c .before .before .before .before .before .before .before .before .is-node .ensures) (c .before .before .before .before .before .before .before .if2 .taken))))
+note-requires c κs = note-room _ _ _ _ (c .before .before .before .before .before .before .before .before .before .before .before .before .pre) (simp length-drop (omega (arith, place-least (c .before .before .before .before .before .before .before .before .before .before .before .before .args .format), node-inside _ _ _ (c .before .before .before .before .before .before .before .is-node .ensures) (c .before .before .before .before .before .before .if2 .taken))))
 
--- src/pass.rt:194:9
+-- src/pass.rt:193:9
 same-length : tie.Need-same-length
 same-length c = search needs
 
--- src/pass.rt:194:9
+-- src/pass.rt:193:9
 returns-2 : tie.Need-returns-2
-returns-2 c = turn-node _ _ _ _ _ _ (c .before .before .before .before .before .before .before .before .before .before .before .is-node .ensures) (c .before .before .before .before .before .before .before .before .before .before .if2 .taken) _ (c .before .before .before .before .before .before .before .read .ensures) (c .before .before .before .naming .ensures) (c .before .before .before .before .before .before .before .before .before .named-size .ensures .0) (c .before .before .note .ensures)
+returns-2 c = turn-node _ _ _ _ _ _ (c .before .before .before .before .before .before .before .before .before .before .is-node .ensures) (c .before .before .before .before .before .before .before .before .before .if2 .taken) (c .before .before .before .before .before .last .ensures) (c .before .before .before .node .ensures) (c .before .before .before .before .naming .ensures) (c .before .before .before .before .before .before .before .before .named-size .ensures .0) (c .before .before .note .ensures)
 
--- src/pass.rt:204:15
+-- src/pass.rt:203:15
 last-turn-requires : tie.Need-last-turn-requires
 last-turn-requires c κs = search needs
 
@@ -123,7 +116,7 @@ take-turn-spec =
     tie.close
     (tie.spec
     size-requires
-    add-t12
+    add-t11
     sub-acting
     part-acting-start
     part-acting-end
@@ -131,14 +124,12 @@ take-turn-spec =
     returns
     is-node-requires
     named-size-requires
-    sub-read
-    part-read-start
-    part-read-end
-    read-requires
-    cast-node
-    cast-node-2
-    add-node
+    sub-rest
+    part-rest-start
+    part-rest-end
+    last-requires
     naming-requires
+    node-requires
     add-note
     add-note-2
     add-note-3
