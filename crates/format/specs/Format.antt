@@ -10,7 +10,7 @@ use Rattle.format.specs.declared.Format.{Format}
 abbrev pub formatBy : Addressing → Format
 formatBy a = record { addressing = a }
 
--- A method's number, in an order and in option 6 (RFC 7574, 7.7): 0 for 32-bit bins, 2 for 32-bit chunk ranges.
+-- A method's number, in an order and in option 6 (RFC 7574, 7.8): 0 for 32-bit bins, 2 for 32-bit chunk ranges.
 abbrev pub methodBy : Addressing → ℕ
 methodBy Bins = 0
 methodBy Ranges = 2

@@ -84,7 +84,7 @@ plain-read = plains.plain-read
 pub plain-inside : (F : Format) (s : List ℕ) (at : ℕ) {n : ℕ} → n ≡ plainSize F (stepAt F s at) → (n ≡ 0 → ⊥) → at + n ≤ length s
 plain-inside = plains.size-inside
 
--- One of a type up to 9 has a range.
+-- One of a type up to 9 names chunks.
 pub plain-range : (F : Format) (s : List ℕ) (at : ℕ) {n : ℕ} → n ≡ plainSize F (stepAt F s at) → (n ≡ 0 → ⊥) → getD (drop at s) 0 0 ≤ 9 → namedSize F ≤ length (drop at s)
 plain-range = plains.size-range
 

@@ -51,7 +51,7 @@ ackSize F t =
     (pick (isSpecial F t) 0
     (pick (ltb (lastOf F t) (firstOf F t)) 0 (timedSize F)))
 
--- The size of a plain message, one that has an effect on a channel or names no chunk; 0 for any other step.
+-- The size of a plain message: ACK, HAVE, REQUEST, CANCEL, CHOKE or UNCHOKE; 0 for any other step.
 abbrev pub plainSize : Format → Step → ℕ
 plainSize F (Read (Handshake a o) next) = 0
 plainSize F (Read (Data f l x b n) next) = 0
@@ -101,7 +101,7 @@ noSurvey = surveyOf 0 false
 abbrev pub higher : ℕ → ℕ → ℕ
 higher a b = pick (ltb a b) b a
 
--- A message more that is past the pack by chunk l, without an effect; a plain one of so many bytes.
+-- A message more that may be past the pack by chunk l, without an effect; a plain one of so many bytes.
 unfoldable pub naming : (l : ℕ) → Survey → Survey
 naming l v = surveyOf (higher (v .highest) l) (v .effective)
 

@@ -47,7 +47,7 @@ pub enum Message {
     },
     Choke,
     Unchoke,
-    // HAVE, REQUEST or CANCEL, by its type, over no chunk at all: bins alone can say so.
+    // HAVE, REQUEST or CANCEL, by its type, over no chunk at all, under bins alone.
     Empty {
         kind: u8,
     },

@@ -179,7 +179,7 @@ fn take_turn(
     ensures { λ r. ⌜ turnedOf r (now (entries .exit))
         ≡ turnAt format (now (datagram .entry)) (now (entries .entry)) used at survey (stepAt format (now (datagram .entry)) at) ⌝ }
 {
-    let size = plain::size(format, datagram, at);
+    let size = plain::any_size(format, datagram, at);
     if size != 0 {
         return Turn::On {
             at: at + size,

@@ -1,5 +1,5 @@
-// Plain messages: those that change what a channel knows of its peer, which are ACK, HAVE, REQUEST, CANCEL, CHOKE and
-// UNCHOKE. A pass over a datagram tells them by their size, without a message value.
+// Plain messages: those that may change what a channel knows of its peer, which are ACK, HAVE, REQUEST, CANCEL, CHOKE
+// and UNCHOKE. A pass over a datagram tells them by their size, without a message value.
 ghost use mathlib.Core.Path.{_≡_};
 ghost use lib.ListN.{length};
 ghost use Rattle.wire.specs.Read.{stepAt, isRanged};
@@ -17,7 +17,7 @@ fn is_single(kind: u8) -> bool
     kind == 11
 }
 
-// HAVE, REQUEST and CANCEL: a type and a range.
+// HAVE, REQUEST and CANCEL: a type and chunks.
 pub fn is_ranged(kind: u8) -> bool
     ensures { λ r. ⌜ r ≡ isRanged kind ⌝ }
 {
@@ -59,7 +59,7 @@ fn ack_size(format: Format, rest: &[u8]) -> usize
 }
 
 // The size of the plain message at a place of a datagram, 0 where none stands there.
-pub fn size(format: Format, datagram: &[u8], at: usize) -> usize
+pub(crate) fn any_size(format: Format, datagram: &[u8], at: usize) -> usize
     ensures { λ r. ⌜ r ≡ plainSize format (stepAt format (now (datagram .entry)) at) ⌝ }
 {
     if datagram.len() <= at {
@@ -77,6 +77,20 @@ pub fn size(format: Format, datagram: &[u8], at: usize) -> usize
         return ack_size(format, rest);
     }
     0
+}
+
+// The same. The types of one byte are told before the call: what is behind it is too large to be put in line.
+pub fn size(format: Format, datagram: &[u8], at: usize) -> usize
+    ensures { λ r. ⌜ r ≡ plainSize format (stepAt format (now (datagram .entry)) at) ⌝ }
+{
+    if datagram.len() <= at {
+        return 0;
+    }
+    let rest = &datagram[at..];
+    if is_single(rest[0]) {
+        return 1;
+    }
+    any_size(format, datagram, at)
 }
 
 // Whether an INTEGRITY message stands at a place of a datagram.

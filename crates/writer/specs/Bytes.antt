@@ -45,8 +45,8 @@ abbrev pub placeBytes : Addressing → (f l : ℕ) → List ℕ
 placeBytes Bins f l = bytes32 (f + l)
 placeBytes Ranges f l = bytes32 f ++ bytes32 l
 
--- A message's type k and the chunks that it names. "A message to be added over chunks that no bin names is 2": the type of
--- what stands for one, which has its size, is the refused type 255.
+-- A message's type k and the chunks that it names. "Under bins a message to be added over chunks that no bin names is 2": the
+-- type of what stands for one, which has its size, is the refused type 255.
 unfoldable pub nameBytes : Format → (k f l : ℕ) → List ℕ
 nameBytes F k f l = pick (nameable F f l) k 255 ∷ placeBytes (F .addressing) f l
 

@@ -45,7 +45,7 @@ sizeOf F (Empty kind) = namedSize F
 
 -- ---- the number for a message
 
--- Whether the chunks f..l can be named so that the test t is reached; and so for messages that may not name everything.
+-- Whether the chunks f..l can be named and pass the test t; and so for messages that may not name everything.
 abbrev pub namedSo : Format → (f l : ℕ) → Bool → Bool
 namedSo F f l t = pick (nameable F f l) t false
 
@@ -65,7 +65,7 @@ allowed F Choke = true
 allowed F Unchoke = true
 allowed F (Empty k) = true
 
--- The number that the node of an INTEGRITY has, if its range is one's; no other message has one.
+-- The number that the node of an INTEGRITY has, if its chunks are one's; no other message has one.
 abbrev pub nodeOf : Message → RangeNode
 nodeOf (Handshake a o) = NoNode
 nodeOf (Data f l x b n) = NoNode

@@ -12,7 +12,7 @@ use Rattle.wire.proofs.pass.take_turn.Lts as lts
 use Rattle.wire.proofs.pass.last_turn.Reads as last-turn-reads
 use Rattle.wire.proofs.pass.note.Reads as note-reads
 use Rattle.wire.proofs.plain.is_node.Reads as is-node-reads
-use Rattle.wire.proofs.plain.size.Reads as size-reads
+use Rattle.wire.proofs.plain.any_size.Reads as any-size-reads
 use Rattle.wire.proofs.range.last.Reads as last-reads
 use Rattle.wire.proofs.range.named_size.Reads as named-size-reads
 use Rattle.wire.proofs.range.node.Reads as node-reads
@@ -20,20 +20,20 @@ use Rattle.wire.proofs.survey.acting.Reads as acting-reads
 use Rattle.wire.proofs.survey.naming.Reads as naming-reads
 
 -- src/pass.rt:182:9
-size-requires : tie.Need-size-requires
-size-requires c κs = search needs
+any-size-requires : tie.Need-any-size-requires
+any-size-requires c κs = search needs
 
 -- src/pass.rt:185:17
 add-t11 : tie.Need-add-t11
-add-t11 c = omega (arith, c .before .before .before .before .pre .high, size-inside _ _ _ (c .before .size .ensures) (c .if1 .taken))
+add-t11 c = omega (arith, c .before .before .before .before .pre .high, size-inside _ _ _ (c .before .any-size .ensures) (c .if1 .taken))
 
 -- src/pass.rt:187:52
 sub-acting : tie.Need-sub-acting
-sub-acting c = omega (arith, size-inside _ _ _ (c .before .size .ensures) (c .if1 .taken))
+sub-acting c = omega (arith, size-inside _ _ _ (c .before .any-size .ensures) (c .if1 .taken))
 
 -- src/pass.rt:187:52
 part-acting-start : tie.Need-part-acting-start
-part-acting-start c = omega (arith, size-inside _ _ _ (c .before .size .ensures) (c .if1 .taken))
+part-acting-start c = omega (arith, size-inside _ _ _ (c .before .any-size .ensures) (c .if1 .taken))
 
 -- src/pass.rt:187:52
 part-acting-end : tie.Need-part-acting-end
@@ -41,11 +41,11 @@ part-acting-end c = search needs
 
 -- src/pass.rt:187:21
 acting-requires : tie.Need-acting-requires
-acting-requires c κs = simp (part, length-drop) (omega (arith, size-inside _ _ _ (c .before .before .size .ensures) (c .before .if1 .taken)))
+acting-requires c κs = simp (part, length-drop) (omega (arith, size-inside _ _ _ (c .before .before .any-size .ensures) (c .before .if1 .taken)))
 
 -- src/pass.rt:184:9
 returns : tie.Need-returns
-returns c = turn-plain _ _ _ _ _ _ (c .before .before .before .size .ensures) (c .before .before .if1 .taken) (rw part at (c .acting .ensures))
+returns c = turn-plain _ _ _ _ _ _ (c .before .before .before .any-size .ensures) (c .before .before .if1 .taken) (rw part at (c .acting .ensures))
 
 -- src/pass.rt:190:8
 is-node-requires : tie.Need-is-node-requires
@@ -109,13 +109,13 @@ last-turn-requires c κs = search needs
 
 -- src/pass.rt:170:1
 returns-3 : tie.Need-returns-3
-returns-3 c = turn-last _ _ _ _ _ _ (c .before .before .before .before .size .ensures) (omega (arith, c .before .before .before .if1 .left)) (c .before .before .is-node .ensures) (c .before .if2 .left) (c .last-turn .ensures)
+returns-3 c = turn-last _ _ _ _ _ _ (c .before .before .before .before .any-size .ensures) (omega (arith, c .before .before .before .if1 .left)) (c .before .before .is-node .ensures) (c .before .if2 .left) (c .last-turn .ensures)
 
 pub take-turn-spec : {M : Type 1} → statement M
 take-turn-spec =
     tie.close
     (tie.spec
-    size-requires
+    any-size-requires
     add-t11
     sub-acting
     part-acting-start
