@@ -139,7 +139,7 @@ module _ (F : Format) (t : List ℕ) where
 
   -- the chunk by which they are past the pack
   pub reach-bins : F .addressing ≡ Bins → {b : ℕ} → b ≡ be32 t 1 → {f : ℕ} → f ≡ first b → f ≡ reach F (firstOf F t) (lastOf F t)
-  unfolding reach firstOf
+  unfolding reach firstOf lastOf
   reach-bins h e p = rw (h, ← e) p
 
   pub reach-ranges : F .addressing ≡ Ranges → {l : ℕ} → l ≡ be32 t 5 → l ≡ reach F (firstOf F t) (lastOf F t)
