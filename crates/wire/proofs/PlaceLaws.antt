@@ -105,21 +105,6 @@ module _ (F : Format) (t : List ℕ) where
   unfolding firstOf lastOf
   order-ranges h {f} {l} fe le = order-test f l ∙ rw (h, fe, le)
 
-  -- in order, and neither none nor all
-  pub part-none : F .addressing ≡ Bins → {b : ℕ} → b ≡ be32 t 1 → b ≡ emptyBin → false ≡ pick (isSpecial F t) false (not (ltb (lastOf F t) (firstOf F t)))
-  part-none h e p = rw (← special-none h e p)
-
-  pub part-bins : F .addressing ≡ Bins → {b : ℕ} → b ≡ be32 t 1 → (b ≡ emptyBin → ⊥)
-      → not (eqb b everythingBin) ≡ pick (isSpecial F t) false (not (ltb (lastOf F t) (firstOf F t)))
-  part-bins h {b} e p = rw (← special-all h e p, ← order-bins h) (by (eqb b everythingBin))
-    where
-      by : (x : Bool) → not x ≡ pick x false true
-      by true = refl
-      by false = refl
-
-  pub part-ranges : F .addressing ≡ Ranges → {f l : ℕ} → f ≡ be32 t 1 → l ≡ be32 t 5 → leb f l ≡ pick (isSpecial F t) false (not (ltb (lastOf F t) (firstOf F t)))
-  part-ranges h fe le = rw (← special-ranges h) (order-ranges h fe le)
-
   -- the last, and the node's number
   pub last-bins : F .addressing ≡ Bins → {b : ℕ} → b ≡ be32 t 1 → {l : ℕ} → l ≡ last b → l ≡ lastOf F t
   unfolding lastOf

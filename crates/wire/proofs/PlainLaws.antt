@@ -74,22 +74,26 @@ module _ (F : Format) (t : List ℕ) {n : ℕ} (ne : n ≡ namedSize F) where
   unfolding ackSize
   ack-cut h = simp (lt-ltb (length t) (timedSize F) (omega (arith, ne, h)))
 
-  module _ (h : n + 8 ≤ length t) {o : Bool} (oe : o ≡ pick (isSpecial F t) false (not (ltb (lastOf F t) (firstOf F t)))) where
-    ack-by : (special bad : Bool) → pick (pick special false (not bad)) (timedSize F) 0 ≡ pick special 0 (pick bad 0 (timedSize F))
-    ack-by true bad = refl
-    ack-by false true = refl
-    ack-by false false = refl
-
-    ack-is : pick o (timedSize F) 0 ≡ ackSize F t
+  module _ (h : n + 8 ≤ length t) {b : Bool} (be : b ≡ isSpecial F t) where
+    pub ack-special : b ≡ true → 0 ≡ ackSize F t
     unfolding ackSize
-    ack-is =
-        rw (oe, le-ltb (length t) (timedSize F) (omega (arith, ne, h))) (ack-by (isSpecial F t) (ltb (lastOf F t) (firstOf F t)))
+    ack-special p = simp (le-ltb (length t) (timedSize F) (omega (arith, ne, h)), ← be, p)
 
-    pub ack-part : not o ≡ true → 0 ≡ ackSize F t
-    ack-part p = rw (not-true o p) at ack-is
+    module _ (z : b ≡ false) {o : Bool} (oe : o ≡ not (ltb (lastOf F t) (firstOf F t))) where
+      ack-by : (bad : Bool) → pick (not bad) (timedSize F) 0 ≡ pick bad 0 (timedSize F)
+      ack-by true = refl
+      ack-by false = refl
 
-    pub ack-good : not o ≡ false → n + 8 ≡ ackSize F t
-    ack-good p = ap (λ (x : ℕ). x + 8) ne ∙ rw (not-false o p) at ack-is
+      ack-is : pick o (timedSize F) 0 ≡ ackSize F t
+      unfolding ackSize
+      ack-is =
+          rw (oe, le-ltb (length t) (timedSize F) (omega (arith, ne, h)), ← be, z) (ack-by (ltb (lastOf F t) (firstOf F t)))
+
+      pub ack-order : not o ≡ true → 0 ≡ ackSize F t
+      ack-order p = rw (not-true o p) at ack-is
+
+      pub ack-good : not o ≡ false → n + 8 ≡ ackSize F t
+      ack-good p = ap (λ (x : ℕ). x + 8) ne ∙ rw (not-false o p) at ack-is
 
 -- ---- the size of a plain message
 

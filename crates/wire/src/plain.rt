@@ -52,7 +52,10 @@ fn ack_size(format: Format, rest: &[u8]) -> usize
     if rest.len() < size {
         return 0;
     }
-    if !range::is_part(format, rest) {
+    if range::is_special(format, rest) {
+        return 0;
+    }
+    if !range::in_order(format, rest) {
         return 0;
     }
     size

@@ -2,8 +2,7 @@
 ghost use mathlib.Core.Path.{_≡_};
 ghost use Prim.Native.Nat.{_+_, _≤_};
 ghost use lib.ListN.{length};
-ghost use mathlib.Core.Bool.{false, not};
-ghost use Rattle.base.specs.Pick.{pick};
+ghost use mathlib.Core.Bool.{not};
 ghost use lib.Dec.{ltb};
 ghost use Rattle.wire.specs.Place.{placeSize, namedSize, firstOf, lastOf, isEmpty, isSpecial, reach};
 ghost use Rattle.tree.proofs.Promise.{covers};
@@ -128,28 +127,6 @@ pub(crate) fn in_order(format: Format, rest: &[u8]) -> bool
     match addressing {
         Addressing::Bins => true,
         Addressing::Ranges => bytes::load32(rest, 1) <= bytes::load32(rest, 5),
-    }
-}
-
-// Whether an ACK may name them: in order, and neither none nor all.
-pub(crate) fn is_part(format: Format, rest: &[u8]) -> bool
-    requires { ⌜ namedSize format ≤ length (now rest) ⌝ }
-    ensures { λ r. ⌜ r ≡ pick (isSpecial format (now (rest .entry))) false
-        (not (ltb (lastOf format (now (rest .entry))) (firstOf format (now (rest .entry))))) ⌝ }
-{
-    let addressing = format.addressing;
-    match addressing {
-        Addressing::Bins => {
-            let b = bytes::load32(rest, 1);
-            if b == EMPTY_BIN {
-                return false;
-            }
-            b != EVERYTHING_BIN
-        }
-        Addressing::Ranges => {
-            let end = bytes::load32(rest, 5);
-            bytes::load32(rest, 1) <= end
-        }
     }
 }
 
