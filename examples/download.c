@@ -204,11 +204,27 @@ static void ask_for_all(void)
     deliver(&requests, server, 0, "van -> server", "REQUEST of each chunk not held", PPSPP_DONE);
 }
 
+/*
+ * Reads which chunks an ACK names: the longest range of held chunks around the one that came, or the largest bin of
+ * them. They come here in their order, so it ends with that one.
+ */
+static void read_ack(const struct datagram *ack, uint32_t chunk, char *what, size_t what_n)
+{
+    static const uint32_t first_by_bins[CHUNKS] = {0, 0, 2, 0, 4, 4, 6}; /* bins 0, 1, 4, 3, 8, 9, 12 */
+    const uint32_t wanted = ppspp_store_addressing(van) == PPSPP_BINS ? first_by_bins[chunk] : 0;
+    uint64_t found[PPSPP_FOUND_WORDS] = {0};
+    expect(ppspp_store_read(van, ack->bytes, ack->n, 4, found) == PPSPP_STEP_MESSAGE, "the van replies");
+    expect(found[PPSPP_FOUND_TYPE] == PPSPP_ACK, "the reply is an ACK");
+    expect(found[PPSPP_FOUND_FIRST] == wanted && found[PPSPP_FOUND_LAST] == chunk, "it names what is held");
+    snprintf(what, what_n, "ACK of chunks %u..%u", (unsigned)found[PPSPP_FOUND_FIRST],
+             (unsigned)found[PPSPP_FOUND_LAST]);
+}
+
 /* A chunk and its ACK; with the first one, lies before and after it. */
 static void send_chunk(uint32_t chunk)
 {
     size_t len = 0;
-    char what[32];
+    char what[44];
     expect(ppspp_store_peer_wants(server, 0, chunk), "the van wants the chunk");
     expect(ppspp_store_write(server, SERVER_ID, chunk, now, &len) == PPSPP_DONE, "the server writes the chunk");
     const struct datagram genuine = sent(server, len);
@@ -224,7 +240,7 @@ static void send_chunk(uint32_t chunk)
     if (chunk == 0) {
         flip(&genuine, "the same chunk again, its last byte flipped");
     }
-    snprintf(what, sizeof what, "ACK of chunk %u", (unsigned)chunk);
+    read_ack(&ack, chunk, what, sizeof what);
     deliver(&ack, server, 0, "van -> server", what, PPSPP_DONE);
     expect(!ppspp_store_peer_wants(server, 0, chunk), "the van wants it no longer");
 }

@@ -7,7 +7,7 @@ use std::path::{Path, PathBuf};
 
 /// The crates that the libraries are made of. Each library exports the
 /// functions of its own crate alone, so that none clashes.
-const CRATES: [&str; 3] = ["hash_c", "store_c", "wire_c"];
+const CRATES: [&str; 4] = ["hash_c", "held_c", "store_c", "wire_c"];
 
 fn main() {
     println!("cargo::rerun-if-env-changed=PROVED_LIB_DIR");

@@ -199,7 +199,9 @@ uint32_t ppspp_open(uint32_t *state, size_t state_n, const uint8_t *chunks, size
 
 /*
  * Takes in a datagram at a clock; the ID is for a channel that the datagram may open. A chunk that is stored, or was
- * held and is the same, is answered by an ACK, a HANDSHAKE to channel 0 by ours; no other has a reply.
+ * held and is the same, is answered by an ACK, a HANDSHAKE to channel 0 by ours; no other has a reply. The ACK names
+ * the biggest complete interval that covers the chunk, once it is stored: under ranges the longest run of held chunks
+ * around it, under bins the largest whole subtree inside the pack all of whose chunks are held.
  */
 uint32_t ppspp_take(uint32_t *state, size_t state_n, uint8_t *chunks, size_t chunks_n, uint32_t *map, size_t map_n,
                     uint32_t *hashes, size_t hashes_n, uint32_t *trusted, size_t trusted_n, uint32_t *has, size_t has_n,

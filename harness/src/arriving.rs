@@ -5,6 +5,7 @@ use crate::calls::Call;
 use crate::came::leave_least;
 use crate::channels::Both;
 use crate::garbling::spoiled;
+use crate::handshakes::{opening, to_a_row};
 use crate::packets::*;
 use crate::packs::Pack;
 use crate::random::Random;
@@ -57,6 +58,23 @@ impl Peer<'_> {
         spoiled(random, sound)
     }
 
+    /// What comes in a download: a chunk that is right, with all hashes or the
+    /// least, to an open row; where none is open, a HANDSHAKE that may open one.
+    pub fn downloaded(&mut self, case: &str, random: &mut Random, store: &Both) -> Vec<u8> {
+        let open = open_rows(store);
+        if open.is_empty() {
+            return opening(random, store);
+        }
+        let number = self.next_number(random, store);
+        let mut messages = self.written(case, number, clock(random));
+        if random.one_in(2) {
+            let trusts = |node| store.trusts(node);
+            let count = self.pack.count();
+            leave_least(self.addressing, &mut messages, count, number, trusts);
+        }
+        datagram(random.one_of(&open), &messages)
+    }
+
     /// A chunk with its hashes, perhaps with other messages between them.
     fn chunk(&mut self, case: &str, random: &mut Random, store: &Both) -> Vec<Vec<u8>> {
         let number = self.chunk_number(random, store);
@@ -77,14 +95,38 @@ impl Peer<'_> {
 
     /// One that the store does not hold, in two of three cases.
     fn chunk_number(&self, random: &mut Random, store: &Both) -> u32 {
-        let missing: Vec<u32> = (0..self.pack.count())
-            .filter(|&c| !store.holds(c))
-            .collect();
+        let missing = self.missing(store);
         if missing.is_empty() || random.one_in(3) {
             random.below(self.pack.count())
         } else {
             random.one_of(&missing)
         }
+    }
+
+    /// The same in a download: the lowest one, one between two that are held, or
+    /// any.
+    fn next_number(&self, random: &mut Random, store: &Both) -> u32 {
+        let count = self.pack.count();
+        let missing = self.missing(store);
+        if missing.is_empty() || random.one_in(3) {
+            return random.below(count);
+        }
+        let joins = |&chunk: &u32| {
+            let within = 0 < chunk && chunk + 1 < count;
+            within && store.holds(chunk - 1) && store.holds(chunk + 1)
+        };
+        let joining: Vec<u32> = missing.iter().copied().filter(joins).collect();
+        match random.below(4) {
+            0 | 1 => missing[0],
+            2 if !joining.is_empty() => random.one_of(&joining),
+            _ => random.one_of(&missing),
+        }
+    }
+
+    /// The chunks that the store does not hold.
+    fn missing(&self, store: &Both) -> Vec<u32> {
+        let chunks = 0..self.pack.count();
+        chunks.filter(|&chunk| !store.holds(chunk)).collect()
     }
 
     /// Of the hashes of a chunk: all, those that the store needs, some of them,
@@ -206,22 +248,17 @@ pub fn clock(random: &mut Random) -> u64 {
     }
 }
 
-/// A channel number that a peer gives its own end.
-fn source(random: &mut Random) -> u32 {
-    match random.below(16) {
-        0 => random.number(),
-        _ => 1 + random.below(60),
-    }
+/// The IDs of the open rows.
+fn open_rows(store: &Both) -> Vec<u32> {
+    let rows = store.state().rows.iter();
+    let open = rows.filter(|row| row.phase == Phase::Open);
+    open.map(|row| row.id).collect()
 }
 
 /// The ID of an open row in most cases, else of another row, of none, or 0.
-fn destination(random: &mut Random, store: &Both) -> u32 {
+pub fn destination(random: &mut Random, store: &Both) -> u32 {
     let rows = &store.state().rows;
-    let open: Vec<u32> = rows
-        .iter()
-        .filter(|row| row.phase == Phase::Open)
-        .map(|row| row.id)
-        .collect();
+    let open = open_rows(store);
     match random.below(24) {
         0 => 0,
         1 => random.number(),
@@ -229,58 +266,4 @@ fn destination(random: &mut Random, store: &Both) -> u32 {
         _ if !open.is_empty() => random.one_of(&open),
         _ => random.one_of(rows).id,
     }
-}
-
-/// The fixed options around the store's root in most cases, else others, also
-/// those of the other method.
-fn options(random: &mut Random, store: &Both) -> Vec<u8> {
-    let (addressing, root) = (store.state().addressing, &store.state().root);
-    let ours = fixed(addressing, root);
-    match random.below(13) {
-        0 => fixed(addressing, &random.digest()),
-        5 => fixed(other(addressing), root),
-        1 => END_ONLY.to_vec(),
-        2 => vec![0, 1, 255],
-        3 => [&ours[..ours.len() - 3], &[8, 0, 255]].concat(),
-        4 => {
-            let mut other = ours;
-            let at = random.place(other.len());
-            other[at] = random.below(12) as u8;
-            other
-        }
-        _ => ours,
-    }
-}
-
-/// A HANDSHAKE to channel 0.
-fn opening(random: &mut Random, store: &Both) -> Vec<u8> {
-    let source = match random.below(24) {
-        0 => 0,
-        _ => source(random),
-    };
-    let options = options(random, store);
-    datagram(0, &[handshake(source, &options)])
-}
-
-/// A HANDSHAKE to a row: one that opens it, one that changes nothing, one that
-/// closes it, or one that the row refuses.
-fn to_a_row(random: &mut Random, store: &Both) -> Vec<u8> {
-    let row = random.one_of(&store.state().rows);
-    let (source, options) = match random.below(16) {
-        0..5 => (0, END_ONLY.to_vec()),
-        5 => (0, options(random, store)),
-        6 | 7 => (source(random), options(random, store)),
-        _ if row.phase == Phase::Open => (row.peer, options(random, store)),
-        _ => (source(random), options(random, store)),
-    };
-    let destination = match random.below(6) {
-        0 => destination(random, store),
-        _ => row.id,
-    };
-    let mut messages = vec![handshake(source, &options)];
-    if random.one_in(16) {
-        let at = random.place(2);
-        messages.insert(at, vec![CHOKE]);
-    }
-    datagram(destination, &messages)
 }

@@ -201,7 +201,7 @@ impl Both {
 }
 
 /// A bit of a row, low bit first; past the words none is set.
-fn is_set(row: &[u32], bit: usize) -> bool {
+pub fn is_set(row: &[u32], bit: usize) -> bool {
     row.get(bit / 32)
         .is_some_and(|word| word >> (bit % 32) & 1 == 1)
 }

@@ -53,6 +53,14 @@ pub struct Counts {
     /// How often a chunk was stored, and how often a held one came again.
     pub stored: usize,
     pub again: usize,
+    /// How many ACKs named more than one chunk: of a stored one at their end, of a
+    /// stored one between others, and of one that came again.
+    pub joined: [usize; 3],
+    /// How many named more than 32: of a stored one, and of one that came again.
+    pub long: [usize; 2],
+    /// The most chunks that an ACK named: of a stored one, and of one that came
+    /// again.
+    pub most: [u32; 2],
     /// How many datagrams a store took in from its own reply room, how many of
     /// them brought a chunk, and how many the peer's store took in from there.
     pub own: usize,
@@ -107,10 +115,29 @@ impl Counts {
         }
     }
 
+    /// Counts what the ACK of a chunk names, if there is one, after which other
+    /// chunks are held or not.
+    pub fn add_ack(&mut self, addressing: Addressing, datagram: &[u8], reply: &[u8], more: bool) {
+        let data = read(addressing, datagram).last();
+        let ack = read(addressing, reply).next();
+        let (Some(Message::Data { first: chunk, .. }), Some(Message::Ack { first, last, .. })) =
+            (data, ack)
+        else {
+            return;
+        };
+        let again = usize::from(!more);
+        let chunks = last - first + 1;
+        if chunks > 1 {
+            let between = usize::from(first < chunk && chunk < last);
+            self.joined[if more { between } else { 2 }] += 1;
+        }
+        self.long[again] += usize::from(chunks > 32);
+        self.most[again] = self.most[again].max(chunks);
+    }
+
     /// Counts a datagram that was taken in under bins, for so many chunks.
     pub fn add_bins(&mut self, datagram: &[u8], chunks: u32) {
-        let mut at = MIN_SIZE;
-        while let Step::Read { message, next } = wire::step(Addressing::Bins, datagram, at) {
+        for message in read(Addressing::Bins, datagram) {
             match message {
                 Message::Empty { .. } => self.bins[0] += 1,
                 Message::Have { last, .. }
@@ -122,7 +149,6 @@ impl Counts {
                 }
                 _ => {}
             }
-            at = next;
         }
     }
 
@@ -130,6 +156,18 @@ impl Counts {
     pub fn of(&self, number: usize) -> usize {
         self.numbers.iter().map(|call| call[number]).sum()
     }
+}
+
+/// The messages of a datagram.
+fn read(addressing: Addressing, datagram: &[u8]) -> impl Iterator<Item = Message> + '_ {
+    let mut at = MIN_SIZE;
+    std::iter::from_fn(move || match wire::step(addressing, datagram, at) {
+        Step::Read { message, next } => {
+            at = next;
+            Some(message)
+        }
+        _ => None,
+    })
 }
 
 /// Panics where a call gave one of these numbers less often than so many times.
@@ -160,6 +198,21 @@ impl fmt::Display for Counts {
         let (opened, stored, again) = (self.opened, self.stored, self.again);
         write!(f, "{opened} channels opened, {stored} chunks stored, ")?;
         writeln!(f, "{again} held ones taken again")?;
+        let [end, between, repeated] = self.joined;
+        write!(
+            f,
+            "ACKs of more than one chunk: {end} of a stored one at their end, "
+        )?;
+        writeln!(
+            f,
+            "{between} of one between others, {repeated} of a held one"
+        )?;
+        let ([stored, again], [most, most_again]) = (self.long, self.most);
+        write!(
+            f,
+            "of more than 32: {stored} of a stored one, {again} of a held one; "
+        )?;
+        writeln!(f, "the most are {most} and {most_again}")?;
         let (own, chunks, by_peer) = (self.own, self.chunks, self.by_peer);
         write!(f, "{own} datagrams taken in from the own reply room, ")?;
         writeln!(f, "{chunks} of them with a chunk; {by_peer} by the peer")?;

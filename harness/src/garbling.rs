@@ -48,6 +48,22 @@ pub fn garble(random: &mut Random, store: &mut Both, length: u32) {
     }
 }
 
+/// In the map of a store of so many chunks clears the bits of one or of a few, so
+/// that they may come once more, or sets those past the last one in its word.
+pub fn garble_map(random: &mut Random, store: &mut Both, count: u32) {
+    let first = random.below(count);
+    let chunks = random.one_of(&[0, 1, 1, 1, 2, 5]);
+    store.change(|_, rooms| {
+        for chunk in first..count.min(first + chunks) {
+            rooms.map[chunk as usize / 32] &= !(1 << (chunk % 32));
+        }
+        if chunks == 0 {
+            let [word, bits] = [(count - 1) / 32, (count - 1) % 32];
+            rooms.map[word as usize] |= (u32::MAX - 1) << bits;
+        }
+    });
+}
+
 /// Anything in a row: IDs that are 0 or in use elsewhere, peers that are 0,
 /// phases and marks that no call writes.
 pub fn garble_row(random: &mut Random, store: &mut Both, row: usize) {

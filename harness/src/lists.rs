@@ -23,6 +23,8 @@ pub struct List<'a> {
     pub peer: Peer<'a>,
     pub store: Both,
     composing: Composing,
+    /// Whether it is mostly a download: chunks that are right come.
+    pub downloading: bool,
 }
 
 impl<'a> List<'a> {
@@ -53,6 +55,7 @@ impl<'a> List<'a> {
             peer,
             store,
             composing: Composing::new(addressing),
+            downloading: false,
         }
     }
 
@@ -68,6 +71,10 @@ impl<'a> List<'a> {
         let started = self.store.state().length == pack.length();
         if !started && self.random.one_in(4) {
             return self.start();
+        }
+        if self.downloading && !self.random.one_in(5) {
+            let datagram = self.peer.downloaded(case, &mut self.random, &self.store);
+            return self.take(datagram);
         }
         if self.composing.is_under_way() && !self.random.one_in(12) {
             return self.go_on();

@@ -1,6 +1,7 @@
 //! The proved SHA-256, through the C functions of `libhash_c.a`, in [`store`] the
-//! proved chunk store, in [`tree`] the numbers of its tree, and in [`wire`] the
-//! proved layout checks of datagrams. The rest is called through `ppspp::calls`.
+//! proved chunk store, in [`tree`] the numbers of its tree, in [`held`] the search
+//! for the interval that an ACK names, and in [`wire`] the proved layout checks of
+//! datagrams. The rest is called through `ppspp::calls`.
 //!
 //! A proof holds only where the caller ensures what the function requires, and
 //! nothing at this boundary proves that a caller does. So each wrapper tests it
@@ -8,6 +9,7 @@
 
 #![allow(unsafe_code)]
 
+pub mod held;
 pub mod store;
 pub mod tree;
 pub mod wire;

@@ -6,7 +6,7 @@
 use harness::calls::Call;
 use harness::channels::Both;
 use harness::counts::{count, demand, Counts};
-use harness::garbling::garble;
+use harness::garbling::{garble, garble_map};
 use harness::lists::List;
 use harness::packs::{random_length, Pack};
 use harness::random::Random;
@@ -33,6 +33,11 @@ const REPLY: usize = 6;
 
 /// The numbers of chunks of which there is a list in any case.
 const COUNTS: [u32; 6] = [1, 32, 33, 257, 511, 512];
+
+/// The numbers of chunks of which there are lists that are mostly downloads, and
+/// how many lists these are.
+const DOWNLOADED: [u32; 10] = [7, 33, 64, 65, 100, 128, 257, 384, 511, 512];
+const DOWNLOADS: usize = 40;
 
 /// What beginning and adding can answer.
 const OF_COMPOSING: [(&str, &[usize]); 2] = [("begin", &[0, 11]), ("add", &[0, 1, 2, 3, 11, 12])];
@@ -74,12 +79,15 @@ fn random_lists(addressing: Addressing) -> Counts {
     for seed in 0..LISTS {
         let mut random = Random::new(seed);
         let length = random_length(&mut random);
-        run(addressing, seed, random, length, &mut counts);
+        run(addressing, seed, random, length, false, &mut counts);
     }
-    for (seed, count) in (LISTS..).zip(COUNTS) {
+    let counted = COUNTS.into_iter().map(|count| (count, false));
+    let downloaded = DOWNLOADED.into_iter().map(|count| (count, true));
+    let counted = counted.chain(downloaded.cycle().take(DOWNLOADS));
+    for (seed, (count, downloading)) in (LISTS..).zip(counted) {
         let mut random = Random::new(seed);
         let length = 1_024 * (count - 1) + 1 + random.below(1_024);
-        run(addressing, seed, random, length, &mut counts);
+        run(addressing, seed, random, length, downloading, &mut counts);
     }
     println!("{addressing:?}: {counts}");
     check(&counts);
@@ -102,6 +110,8 @@ fn check(counts: &Counts) {
         opened,
         stored,
         again,
+        joined,
+        long,
         own,
         chunks,
         by_peer,
@@ -109,13 +119,22 @@ fn check(counts: &Counts) {
     } = counts;
     assert!(uncanonical.iter().all(|&times| times >= IN_ODD_STATES));
     assert!(opened.min(stored).min(again) >= OFTEN);
+    assert!(joined.iter().chain(&long).all(|&times| times >= OFTEN));
     assert!(own.min(chunks).min(by_peer) >= OFTEN);
 }
 
 /// One list of calls on a store of a pack.
-fn run(addressing: Addressing, seed: u32, mut random: Random, length: u32, counts: &mut Counts) {
+fn run(
+    addressing: Addressing,
+    seed: u32,
+    mut random: Random,
+    length: u32,
+    downloading: bool,
+    counts: &mut Counts,
+) {
     let pack = Pack::new(&mut random, length);
     let mut list = List::new(addressing, random, &pack);
+    list.downloading = downloading;
     for number in 0..CALLS {
         let case = format!("{addressing:?}, seed {seed}, length {length}, call {number}");
         if number == 0 && !list.random.one_in(8) {
@@ -124,6 +143,9 @@ fn run(addressing: Addressing, seed: u32, mut random: Random, length: u32, count
         }
         if list.random.one_in(40) {
             garble(&mut list.random, &mut list.store, length);
+        }
+        if downloading && list.random.one_in(4) {
+            garble_map(&mut list.random, &mut list.store, pack.count());
         }
         let call = list.next_call(&case);
         if list.random.one_in(10) {
@@ -148,8 +170,9 @@ fn made(list: &mut List, case: &str, call: &Call, counts: &mut Counts) {
         count_bins(&list.store, call, counts);
     }
     if !call.composes() {
-        let reply = list.store.reply(&told);
-        counts.taken(told.number, &reply, held != list.held(), own);
+        let (reply, more) = (list.store.reply(&told), held != list.held());
+        counts.taken(told.number, &reply, more, own);
+        count_ack(&list.store, call, &reply, more, counts);
     } else if let Some(take) = list.taken_by_peer(&told) {
         peer_takes(list, case, &take, counts);
     }
@@ -160,6 +183,13 @@ fn count_bins(store: &Both, call: &Call, counts: &mut Counts) {
     let state = store.state();
     if let (Addressing::Bins, Call::Take { datagram, .. }) = (state.addressing, call) {
         counts.add_bins(datagram, chunk_count(state.length));
+    }
+}
+
+/// Counts the chunks that an ACK names.
+fn count_ack(store: &Both, call: &Call, reply: &[u8], more: bool, counts: &mut Counts) {
+    if let Call::Take { datagram, .. } = call {
+        counts.add_ack(store.state().addressing, datagram, reply, more);
     }
 }
 

@@ -3,7 +3,8 @@
 //! call goes to `second` too, and must give and leave the same.
 
 use harness::caller::Caller;
-use harness::came::leave_least;
+use harness::downloads::{Download, DELAY, ITS};
+use harness::intervals::interval;
 use harness::packets::*;
 use harness::packs::Pack;
 use harness::random::Random;
@@ -13,62 +14,16 @@ use second::{answer, hex};
 /// The length of 01's pack of seven chunks.
 const SEVEN: u32 = 7_162;
 
-/// Two stores, of which one has the pack, with a channel between them.
-struct Download<'a> {
-    addressing: Addressing,
-    pack: &'a Pack,
-    whole: Caller,
-    store: Caller,
-}
-
-/// The ends of the channel: the whole store's and the other's.
-const ITS: u32 = 7;
-const OURS: u32 = 5;
-
-impl<'a> Download<'a> {
-    /// Our store calls, the whole one answers, and so both ends are open.
-    fn new(addressing: Addressing, random: &mut Random, pack: &'a Pack) -> Self {
-        let mut whole = Caller::built(addressing, random, pack);
-        let (root, length) = (pack.built.root(), pack.length());
-        let mut store = Caller::started(addressing, random, root, length);
-        let (number, calling) = store.open(OURS);
-        assert_eq!((number, calling.len()), (0, 60));
-        let (number, answering) = whole.take(0, ITS, &calling);
-        assert_eq!((number, answering.len()), (0, 60));
-        assert_eq!(store.take(0, 0, &answering), (0, vec![]));
-        Download {
-            addressing,
-            pack,
-            whole,
-            store,
-        }
-    }
-
-    /// Brings a chunk over, with all hashes or the least, and the ACK back; gives
-    /// the number of hashes.
-    fn chunk(&mut self, chunk: u32, least: bool) -> usize {
-        let (sent, got) = (1_000 + u64::from(chunk), 5_000);
-        let (number, written) = self.whole.write(ITS, chunk, sent);
-        assert_eq!(number, 0);
-        let mut parts = messages(self.addressing, &written);
-        if least {
-            let trusts = |node| self.store.0.trusts(node);
-            let count = self.pack.count();
-            leave_least(self.addressing, &mut parts, count, chunk, trusts);
-        }
-        let (number, acknowledgement) = self.store.take(got, 0, &datagram(OURS, &parts));
-        let wanted = datagram(ITS, &[ack(self.addressing, chunk, chunk, got - sent)]);
-        assert_eq!((number, &acknowledgement), (0, &wanted));
-        assert_eq!(self.whole.take(0, 0, &acknowledgement), (0, vec![]));
-        parts.iter().filter(|part| is_integrity(part)).count()
-    }
-
-    /// All of the pack is there, and nothing else.
-    fn check_whole(&mut self) {
-        assert_eq!(self.store.ask(), (0, self.pack.count(), 1));
-        let chunks = &self.store.0.rooms().chunks;
-        assert!(chunks.starts_with(&self.pack.content));
-    }
+/// Brings a chunk over, and gives the number of hashes. The ACK names what a plain
+/// reading of 02, No. 2, finds among the chunks brought over.
+fn bring(download: &mut Download, chunk: u32, least: bool) -> usize {
+    let (hashes, acknowledgement) = download.bring(chunk, least);
+    let (addressing, count) = (download.addressing, download.pack.count());
+    let (first, last) = interval(addressing, &download.brought, count, chunk);
+    let wanted = datagram(ITS, &[ack(addressing, first, last, DELAY)]);
+    assert_eq!(acknowledgement, wanted, "chunk {chunk} of {count}");
+    download.check_known();
+    hashes
 }
 
 /// "N=7 taken in order, least hashes: chunk 0 the five above; 2 needs leaf 6; 4
@@ -79,12 +34,12 @@ fn seven_chunks_in_order() {
     for (addressing, size) in METHODS.into_iter().zip([1_226, 1_250]) {
         let mut random = Random::new(7);
         let pack = Pack::new(&mut random, SEVEN);
-        let mut download = Download::new(addressing, &mut random, &pack);
+        let mut download = Download::new(addressing, &mut random, pack);
         let (number, first) = download.whole.write(ITS, 0, 0);
         assert_eq!((number, first.len()), (0, size));
         for (chunk, wanted) in (0..).zip([5, 0, 1, 0, 1, 0, 0]) {
             assert_eq!(download.store.ask(), (0, chunk, 0));
-            assert_eq!(download.chunk(chunk, true), wanted, "chunk {chunk}");
+            assert_eq!(bring(&mut download, chunk, true), wanted, "chunk {chunk}");
         }
         download.check_whole();
     }
@@ -93,21 +48,33 @@ fn seven_chunks_in_order() {
 /// Packs of other sizes, in any order, with all hashes or the least.
 #[test]
 fn downloads_in_any_order() {
-    METHODS.into_iter().for_each(downloads);
+    let counts = [1, 2, 3, 5, 8, 31, 32, 33, 40, 100, 257, 512];
+    downloads(&counts, |random, order| random.shuffle(order));
 }
 
-fn downloads(addressing: Addressing) {
-    for (seed, count) in (0..).zip([1, 2, 3, 5, 8, 31, 32, 33, 40, 100, 257, 512]) {
-        let mut random = Random::new(seed);
-        let length = 1_024 * (count - 1) + 1 + random.below(1_024);
-        let pack = Pack::new(&mut random, length);
-        let mut download = Download::new(addressing, &mut random, &pack);
-        let mut order: Vec<u32> = (0..count).collect();
-        random.shuffle(&mut order);
-        for chunk in order {
-            download.chunk(chunk, random.one_in(2));
+/// The same in order and from the end; and the even chunks, then the odd ones.
+#[test]
+fn downloads_in_an_order() {
+    let counts = [8, 33, 65, 100, 257];
+    downloads(&counts, |_, _| {});
+    downloads(&counts, |_, order| order.reverse());
+    downloads(&counts, |_, order| order.sort_by_key(|chunk| chunk % 2));
+}
+
+fn downloads(counts: &[u32], arrange: impl Fn(&mut Random, &mut [u32])) {
+    for addressing in METHODS {
+        for (seed, &count) in (0..).zip(counts) {
+            let mut random = Random::new(seed);
+            let length = 1_024 * (count - 1) + 1 + random.below(1_024);
+            let pack = Pack::new(&mut random, length);
+            let mut download = Download::new(addressing, &mut random, pack);
+            let mut order: Vec<u32> = (0..count).collect();
+            arrange(&mut random, &mut order);
+            for chunk in order {
+                bring(&mut download, chunk, random.one_in(2));
+            }
+            download.check_whole();
         }
-        download.check_whole();
     }
 }
 

@@ -1,9 +1,11 @@
 //! The comparisons. What is wanted comes from the independent second program, or
 //! is worked out by hand from the papers.
 
+mod acks;
 mod bins;
 mod channel;
 mod channel_values;
+mod intervals;
 mod methods;
 mod sha256;
 mod state_room;

@@ -4,7 +4,7 @@
 //!
 //! Run it with `cargo run --example download`.
 
-use ppspp::{destination, messages, Addressing, Composer, Held, Order, Refusal, Store};
+use ppspp::{destination, messages, Addressing, Composer, Held, Message, Order, Refusal, Store};
 
 /// The van's channel, and the server's for it.
 const VAN: u32 = 17;
@@ -142,7 +142,8 @@ fn send_forged(van: &mut Store, order: &Order, forged: &Forged) {
     assert_eq!(*van, before);
 }
 
-/// The server sends a chunk, and the van acknowledges it.
+/// The server sends a chunk, and the van acknowledges the longest range of held chunks around it, or the largest bin of
+/// them. They come here in their order, so it ends with that chunk.
 fn send_chunk(
     van: &mut Store,
     server: &mut Store,
@@ -155,6 +156,17 @@ fn send_chunk(
     let ack = van.take(2_250, 0, datagram)?;
     answered("van", Ok(ack));
     show("van", "server", order, ack);
+    let first = match server.addressing() {
+        // Bins 0, 1, 4, 3 and 8.
+        Addressing::Bins => [0, 0, 2, 0, 4][chunk as usize],
+        _ => 0,
+    };
+    let wanted = Message::Ack {
+        first,
+        last: chunk,
+        delay: 250,
+    };
+    assert!(server.messages(ack).eq([Ok((4, wanted))]));
     answered("server", server.take(2_500, 0, ack));
     assert!(van.holds(chunk) && server.peer_has(0, chunk));
     Ok(())

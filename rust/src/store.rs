@@ -96,8 +96,11 @@ impl<R: Lend> Store<R> {
         self.reply(answered)
     }
 
-    /// Takes in a datagram. Gives the reply: an ACK for a stored chunk, our HANDSHAKE for one that opens a channel,
-    /// else no byte.
+    /// Takes in a datagram. Gives the reply: an ACK for a chunk that is stored, or was held and is the same, our
+    /// HANDSHAKE for one that opens a channel, else no byte.
+    ///
+    /// The ACK names the biggest complete interval that covers the chunk, once it is stored: under ranges the longest
+    /// run of held chunks around it, under bins the largest whole subtree inside the pack all of whose chunks are held.
     ///
     /// The clock is any number, in microseconds by the protocol; it only goes into the ACK's delay. The ID is for a
     /// channel that the datagram may open, and is looked at only then. If it had no row before,

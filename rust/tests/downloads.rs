@@ -1,23 +1,19 @@
 //! Whole downloads.
 
 use crate::support::{built, content, Pair, BINS, RANGES, SERVER};
-use ppspp::{Addressing, Held, Message, Order, Refusal, Store};
+use ppspp::{sizes, Addressing, Held, Message, Order, Refusal, Store};
 use second::store::Store as Second;
 
-/// Downloads a pack of a length, its chunks in some order.
-fn download(addressing: Addressing, length: u32, order_of: impl FnOnce(u32) -> Vec<u32>) {
+/// Downloads a pack of a length, its chunks in some order, each with the first and the last chunk that its ACK names.
+fn download(addressing: Addressing, length: u32, steps: impl Iterator<Item = (u32, [u32; 2])>) {
     let mut pair = Pair::under(addressing, length);
     let n = pair.order.chunk_count();
-    let chunks = order_of(n);
     let row = pair.server.channel(SERVER).expect("it is open").row;
-    for (count, &chunk) in (1..).zip(&chunks) {
+    for (count, (chunk, [first, last])) in (1..).zip(steps) {
         let datagram = pair.written(chunk, 1_000);
         let ack = pair.van.take(1_250, 0, &datagram).expect("a true chunk");
-        let wanted = Message::Ack {
-            first: chunk,
-            last: chunk,
-            delay: 250,
-        };
+        let delay = 250;
+        let wanted = Message::Ack { first, last, delay };
         assert_eq!(ppspp::destination(ack), Some(SERVER));
         assert!(ppspp::messages(addressing, ack).eq([Ok((4, wanted))]));
         assert_eq!(pair.server.take(0, 0, ack), Ok(&[][..]));
@@ -32,19 +28,33 @@ fn download(addressing: Addressing, length: u32, order_of: impl FnOnce(u32) -> V
     assert_eq!(pair.van.missing().next(), None);
 }
 
+/// The chunks before it are held, and none behind it: it ends the run. The largest subtree that it ends has as many
+/// chunks as the lowest one bit of the number behind it says.
 #[test]
 fn chunks_in_rising_order() {
     for length in [1, 1_023, 1_024, 1_025, 7_162, 33 * 1_024, 524_288] {
-        download(RANGES, length, |n| (0..n).collect());
-        download(BINS, length, |n| (0..n).collect());
+        let n = sizes::chunk_count(length);
+        download(RANGES, length, (0..n).map(|chunk| (chunk, [0, chunk])));
+        let subtree = |chunk: u32| [chunk + 1 - (1 << (chunk + 1).trailing_zeros()), chunk];
+        download(BINS, length, (0..n).map(|chunk| (chunk, subtree(chunk))));
     }
 }
 
+/// The chunks behind it are held, and none before it: it begins the run. The largest subtree that it begins has as many
+/// chunks as a power of two that divides its number, and ends inside the pack.
 #[test]
 fn chunks_in_falling_order() {
     for length in [1_025, 7_162, 8_192, 500_000] {
-        download(RANGES, length, |n| (0..n).rev().collect());
-        download(BINS, length, |n| (0..n).rev().collect());
+        let n = sizes::chunk_count(length);
+        let falling = (0..n).rev();
+        let run = falling.clone().map(|chunk| (chunk, [chunk, n - 1]));
+        download(RANGES, length, run);
+        let subtree = |chunk: u32| {
+            let counts = [1, 2, 4, 8, 16, 32, 64, 128, 256].into_iter();
+            let inside = counts.filter(|&count| chunk.is_multiple_of(count) && chunk + count <= n);
+            [chunk, chunk + inside.max().expect("1") - 1]
+        };
+        download(BINS, length, falling.map(|chunk| (chunk, subtree(chunk))));
     }
 }
 

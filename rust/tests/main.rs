@@ -1,6 +1,7 @@
 //! The crate's tests. What is wanted is worked out by hand from the papers, or comes from the independent second
 //! program.
 
+mod acknowledging;
 mod adding_numbers;
 mod bins_added;
 mod bins_taken;

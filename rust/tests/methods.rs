@@ -171,19 +171,28 @@ fn chunk_0_goes_out_in_1226_bytes() {
     assert_eq!(datagram[4 + 3 * 37..][..5], bytes("01 0000000c"));
 }
 
+/// Chunks of seven as they come, and what the ACK of each names, by hand: under bins the largest subtree that is held,
+/// under ranges the longest run.
+const COMING: [(u32, [u32; 2], [u32; 2]); 7] = [
+    (6, [6, 6], [6, 6]),
+    (0, [0, 0], [0, 0]),
+    (3, [3, 3], [3, 3]),
+    (5, [5, 5], [5, 6]),
+    (1, [0, 1], [0, 1]),
+    (4, [4, 5], [3, 6]),
+    (2, [0, 3], [0, 6]),
+];
+
 #[test]
 fn vans_under_either_method_get_the_same_bytes() {
     let [mut bins, mut ranges] = [BINS, RANGES].map(|addressing| Pair::under(addressing, SEVEN));
     assert_eq!(bins.order.root, ranges.order.root);
-    for chunk in [6, 0, 3, 5, 1, 4, 2] {
-        for pair in [&mut bins, &mut ranges] {
+    for (chunk, subtree, run) in COMING {
+        for (pair, [first, last]) in [(&mut bins, subtree), (&mut ranges, run)] {
             let datagram = pair.written(chunk, 1);
             let ack = pair.van.take(3, 0, &datagram).expect("a true chunk");
-            let wanted = Message::Ack {
-                first: chunk,
-                last: chunk,
-                delay: 2,
-            };
+            let delay = 2;
+            let wanted = Message::Ack { first, last, delay };
             let addressing = pair.order.known_addressing().expect("one of the two");
             assert!(messages(addressing, ack).eq([Ok((4, wanted))]));
             pair.server.take(0, 0, ack).expect("sound");

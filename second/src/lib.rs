@@ -1,7 +1,7 @@
 //! An independent implementation, written from FIPS 180-4, RFC 7574, the yard
-//! profile (01) and the changes requested after it (02, No. 1), against which the
-//! proved crates are compared. It uses the standard library only, shares no code
-//! with any other package, and is meant to be read beside those papers.
+//! profile (01) and the changes requested after it (02, No. 1 and No. 2), against
+//! which the proved crates are compared. It uses the standard library only, shares
+//! no code with any other package, and is meant to be read beside those papers.
 
 #![forbid(unsafe_code)]
 
@@ -15,6 +15,7 @@ pub mod named_traces;
 pub mod packets;
 mod random;
 pub mod replay;
+pub mod run;
 pub mod sha256;
 pub mod store;
 pub mod traces;

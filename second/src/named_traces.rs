@@ -2,8 +2,8 @@
 //! what is wanted for them.
 //!
 //! The number and the reply that a line is to get stand beside the line where it
-//! is made, worked out by hand from 01 and from the list of traps, whose numbers
-//! the comments give. So nothing wanted here comes from a program.
+//! is made, worked out by hand from 01, from 02's No. 2 and from the list of traps,
+//! whose numbers the comments give. So nothing wanted here comes from a program.
 
 mod channels;
 mod chunks;
@@ -15,6 +15,7 @@ mod lines;
 mod options;
 mod orders;
 mod ranges;
+mod runs;
 mod script;
 #[cfg(test)]
 mod tests;
@@ -29,7 +30,7 @@ pub struct Named {
     pub name: &'static str,
     /// What it shows.
     pub shows: &'static str,
-    /// 01's words that decide.
+    /// 01's words that decide, or 02's.
     pub words: &'static str,
     /// The input.
     pub input: Vec<u8>,
@@ -51,6 +52,7 @@ pub fn all() -> Vec<Named> {
         ranges::traces(),
         chunks::traces(),
         hashes::traces(),
+        runs::traces(),
     ];
     parts.into_iter().flatten().collect()
 }

@@ -40,6 +40,12 @@ void group_read_bins(void);
 void group_read_no_method(void);
 void group_two_vans(void);
 
+/* acks.c */
+void group_ack_runs(void);
+void group_ack_words(void);
+void group_ack_bins(void);
+void group_ack_past(void);
+
 /* numbers_reading.c: 1 to 7; numbers_storing.c: 8 to 14 */
 void group_numbers_reading(void);
 void group_numbers_storing(void);

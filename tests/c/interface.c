@@ -20,7 +20,8 @@ static void group_texts(void)
     CHECK(strcmp(ppspp_answer_text(15), ppspp_answer_text(4294967295u)) == 0);
 }
 
-int main(void)
+/* Rooms, the state, and the messages by ranges. */
+static void run_rooms_and_messages(void)
 {
     run_group("a sentence for each number", group_texts);
     run_group("chunks of a length", group_counts);
@@ -36,6 +37,11 @@ int main(void)
     run_group("places before the messages", group_read_anywhere);
     run_group("places without a message", group_read_none);
     run_group("what messages do to a channel", group_effects);
+}
+
+/* The two ways of naming chunks. */
+static void run_methods(void)
+{
     run_group("orders and their addressing", group_orders);
     run_group("option 6 of a HANDSHAKE", group_option_6);
     run_group("what bins do to a channel", group_bins);
@@ -49,6 +55,15 @@ int main(void)
     run_group("bins as read", group_read_bins);
     run_group("reading under no addressing", group_read_no_method);
     run_group("a van under each addressing", group_two_vans);
+    run_group("runs that an ACK names", group_ack_runs);
+    run_group("runs over words of the map", group_ack_words);
+    run_group("subtrees that an ACK names", group_ack_bins);
+    run_group("bits past the last chunk", group_ack_past);
+}
+
+/* 01's numbers, values and errors, and calls with anything. */
+static void run_values(void)
+{
     run_group("numbers 1 to 7", group_numbers_reading);
     run_group("numbers 8 to 14", group_numbers_storing);
     run_group("roots of built packs", group_roots);
@@ -58,5 +73,12 @@ int main(void)
     run_group("errors that 01 expects", group_expected_errors);
     run_group("random datagrams and calls", group_random);
     run_group("rooms with anything in them", group_garbled);
+}
+
+int main(void)
+{
+    run_rooms_and_messages();
+    run_methods();
+    run_values();
     return report();
 }

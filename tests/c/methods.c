@@ -144,10 +144,32 @@ void group_read_no_method(void)
     guarded_end(&g);
 }
 
+/* A chunk of seven, and what its ACK names as they come in this order: a subtree by bins, a run by ranges. */
+struct coming {
+    uint32_t chunk;
+    uint32_t bin;
+    uint32_t first;
+    uint32_t last;
+};
+
+static const struct coming COMING[SEVEN_CHUNKS] = {{6, 12, 6, 6}, {0, 0, 0, 0}, {3, 6, 3, 3}, {5, 10, 5, 6},
+                                                   {1, 1, 0, 1},  {4, 9, 3, 6}, {2, 3, 0, 6}};
+
+/* Whether a van has answered a chunk, sent at 5 and taken at 0, by that ACK. */
+static bool acknowledged(const struct guarded *van, uint32_t addressing, const struct coming *c)
+{
+    struct packet ack = packet_to(PEERS);
+    if (addressing == PPSPP_BINS) {
+        put_bin_ack(&ack, c->bin, 0xfffffffffffffffbu);
+    } else {
+        put_ack(&ack, c->first, c->last, 0xfffffffffffffffbu);
+    }
+    return replied(van, &ack) && van->len == (addressing == PPSPP_BINS ? 17u : 21u);
+}
+
 /* One pack, a van under each addressing, chunks in any order: both are whole, with the same bytes and hashes. */
 void group_two_vans(void)
 {
-    static const uint32_t chunks[SEVEN_CHUNKS] = {6, 0, 3, 5, 1, 4, 2};
     struct guarded servers[2];
     struct guarded vans[2];
     for (size_t i = 0; i < 2; i++) {
@@ -156,14 +178,15 @@ void group_two_vans(void)
     }
     for (size_t j = 0; j < SEVEN_CHUNKS; j++) {
         for (size_t i = 0; i < 2; i++) {
-            const struct packet by_bins = seven_sent_by_bins(PEERS, chunks[j], 5);
-            const struct packet by_ranges = seven_sent(PEERS, chunks[j], 5);
+            const uint32_t chunk = COMING[j].chunk;
+            const struct packet by_bins = seven_sent_by_bins(PEERS, chunk, 5);
+            const struct packet by_ranges = seven_sent(PEERS, chunk, 5);
             struct packet p = METHODS[i] == PPSPP_BINS ? by_bins : by_ranges;
-            CHECK(guarded_write(&servers[i], OURS, chunks[j], 5) == PPSPP_DONE && replied(&servers[i], &p));
-            CHECK(chunks[j] != 0 || p.n == (METHODS[i] == PPSPP_BINS ? 1226u : 1250u));
+            CHECK(guarded_write(&servers[i], OURS, chunk, 5) == PPSPP_DONE && replied(&servers[i], &p));
+            CHECK(chunk != 0 || p.n == (METHODS[i] == PPSPP_BINS ? 1226u : 1250u));
             p.bytes[3] = OURS;
             CHECK(take(&vans[1 - i], &p) != PPSPP_DONE);
-            CHECK(take(&vans[i], &p) == PPSPP_DONE && vans[i].len == (METHODS[i] == PPSPP_BINS ? 17u : 21u));
+            CHECK(take(&vans[i], &p) == PPSPP_DONE && acknowledged(&vans[i], METHODS[i], &COMING[j]));
         }
     }
     for (size_t i = 0; i < 2; i++) {

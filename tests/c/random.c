@@ -65,6 +65,49 @@ static void check_held(struct yard *yard, struct guarded *g)
     CHECK(g != &yard->built || bits == yard->count);
 }
 
+/* Whether all chunks of a range are held; none past the last one is. */
+static bool all_held(const struct guarded *g, uint32_t first, uint32_t last)
+{
+    uint32_t chunk = first;
+    while (chunk <= last && ppspp_store_holds(&g->store, chunk)) {
+        chunk++;
+    }
+    return chunk > last;
+}
+
+/* What an ACK names is held and has the chunk in it, and nothing bigger is so: 02, No. 2. */
+static void check_ack(const struct guarded *g, uint32_t chunk)
+{
+    uint64_t found[PPSPP_FOUND_WORDS] = {0};
+    CHECK(ppspp_store_read(&g->store, g->store.reply, g->len, 4, found) == PPSPP_STEP_MESSAGE);
+    CHECK(found[PPSPP_FOUND_TYPE] == PPSPP_ACK && found[PPSPP_FOUND_NEXT] == g->len);
+    const uint32_t first = (uint32_t)found[PPSPP_FOUND_FIRST];
+    const uint32_t last = (uint32_t)found[PPSPP_FOUND_LAST];
+    CHECK(first <= chunk && chunk <= last && all_held(g, first, last));
+    if (ppspp_store_addressing(&g->store) == PPSPP_BINS) {
+        const uint32_t twice = 2 * (last - first + 1);
+        const uint32_t above = first / twice * twice;
+        CHECK(!all_held(g, above, above + twice - 1));
+    } else {
+        CHECK((first == 0 || !all_held(g, first - 1, last)) && !all_held(g, first, last + 1));
+    }
+}
+
+/* A datagram that was taken: its DATA, if it has one, is answered by such an ACK, and nothing else is. */
+static void check_reply(const struct guarded *g, const struct packet *p)
+{
+    uint64_t found[PPSPP_FOUND_WORDS] = {0};
+    size_t at = 4;
+    while (ppspp_store_read(&g->store, p->bytes, p->n, at, found) == PPSPP_STEP_MESSAGE) {
+        at = (size_t)found[PPSPP_FOUND_NEXT];
+        if (found[PPSPP_FOUND_TYPE] == PPSPP_DATA) {
+            check_ack(g, (uint32_t)found[PPSPP_FOUND_FIRST]);
+            return;
+        }
+    }
+    CHECK(g->len == 0 || g->store.reply[4] == PPSPP_HANDSHAKE);
+}
+
 /* A datagram as a peer would send it, to channel OURS. */
 static struct packet genuine(struct yard *yard)
 {
@@ -158,6 +201,7 @@ static void turn(struct yard *yard)
         const uint32_t answer = guarded_take(g, chance(), below(24), p.bytes, p.n);
         saw(answer);
         if (answer == PPSPP_DONE) {
+            check_reply(g, &p);
             check_held(yard, g);
         }
     }

@@ -41,7 +41,10 @@ void group_sending(void)
     guarded_end(&g);
 }
 
-/* "N=7 taken in order, least hashes: chunk 0 the five; 2 needs leaf 6; 4 needs leaf 10; 1, 3, 5, 6 none." */
+/*
+ * "N=7 taken in order, least hashes: chunk 0 the five; 2 needs leaf 6; 4 needs leaf 10; 1, 3, 5, 6 none." Each ACK
+ * names the run so far (02, No. 2).
+ */
 void group_download(void)
 {
     struct guarded g;
@@ -59,7 +62,7 @@ void group_download(void)
             put_chunk(&p, chunk, 1000);
         }
         struct packet ack = packet_to(PEERS);
-        put_ack(&ack, chunk, chunk, 0xffffffffffffffffu);
+        put_ack(&ack, 0, chunk, 0xffffffffffffffffu);
         CHECK(guarded_take(&g, 999, 0, p.bytes, p.n) == PPSPP_DONE && replied(&g, &ack));
         CHECK(held_of(&g) == chunk + 1 && ppspp_store_holds(&g.store, chunk));
     }

@@ -13,7 +13,7 @@ pub mod attacker;
 pub mod bits;
 mod callers;
 pub mod checks;
-mod context;
+pub mod context;
 pub mod datagram;
 pub mod events;
 mod link;

@@ -146,7 +146,8 @@ impl Node {
             return;
         };
         if !reply.is_empty() {
-            context.record.tally.acknowledged += 1;
+            let addressing = self.store.addressing();
+            context.record.note_ack(addressing, &reply);
             context.send(self.links[at].address, reply);
         }
         if let Some(chunk) = stored {

@@ -75,6 +75,16 @@ impl Record {
         Answer { reply, stored }
     }
 
+    /// Counts the ACK in a reply that is sent, and the chunks that it names.
+    pub fn note_ack(&mut self, addressing: Addressing, reply: &[u8]) {
+        for (_, message) in messages(addressing, reply).flatten() {
+            if let Message::Ack { first, last, .. } = message {
+                self.tally.acks += 1;
+                self.tally.acknowledged += u64::from(last - first) + 1;
+            }
+        }
+    }
+
     /// Compares all that a store holds.
     pub fn compare_all(&mut self, store: &Store) {
         for chunk in crate::bits::ones(store.view().map) {

@@ -1,7 +1,8 @@
 //! Which chunk a node sends next.
 //!
-//! Partners take turns. What a partner wants stands in the store, set by its REQUESTs and cleared by its ACKs, HAVEs and
-//! CANCELs. A chunk that is wanted still some time after it was sent is sent again.
+//! Partners take turns. What a partner wants stands in the store, set by its REQUESTs and cleared by its ACKs, HAVEs
+//! and CANCELs. A chunk that is wanted still some time after it was sent is sent again. An ACK may name more chunks than
+//! the one that it answers, so it also settles those whose own ACK was lost.
 
 use crate::bits;
 use crate::context::Context;

@@ -138,7 +138,9 @@ fn nodes(text: &mut String, yard: &Yard) {
     let tally = &yard.record.tally;
     let done = [
         ("chunks stored", tally.sum(|_| true, |taken| taken.stored)),
-        ("chunks acknowledged", tally.acknowledged),
+        ("ACKs sent", tally.acks),
+        ("  chunks that they name, in all", tally.acknowledged),
+        ("  chunks an ACK, rounded down", tally.chunks_an_ack()),
         ("chunks sent by the server", tally.chunks_by_server),
         ("chunks sent by vans", tally.chunks_by_vans),
         ("retransmissions", tally.retransmissions()),

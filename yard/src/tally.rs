@@ -25,12 +25,14 @@ pub struct Tally {
     /// Datagrams that came to a van that was away.
     pub to_absent: u64,
     /// ACKs sent for chunks.
+    pub acks: u64,
+    /// Chunks that they name, counted anew for each ACK.
     pub acknowledged: u64,
     /// Chunks sent by the server.
     pub chunks_by_server: u64,
     /// Chunks sent by vans.
     pub chunks_by_vans: u64,
-    /// Chunks sent once more, since no ACK came.
+    /// Chunks sent once more, since no ACK that names them came.
     pub chunks_again: u64,
     /// Chunks asked for once more, since they did not come.
     pub requests_again: u64,
@@ -77,6 +79,11 @@ impl Tally {
     pub fn sum(&self, chosen: impl Fn(Origin) -> bool, number: impl Fn(&Taken) -> u64) -> u64 {
         let origins = Origin::all().filter(|&origin| chosen(origin));
         origins.map(|origin| number(self.taken(origin))).sum()
+    }
+
+    /// How many chunks an ACK names on average, rounded down.
+    pub fn chunks_an_ack(&self) -> u64 {
+        self.acknowledged.checked_div(self.acks).unwrap_or(0)
     }
 
     /// How often something was sent once more.

@@ -33,7 +33,7 @@ pub const ASKS: u32 = 3;
 /// How many chunks may be asked of one partner at a time.
 pub const WINDOW: usize = 8;
 
-/// How long a sent chunk waits for its acknowledgement before it is sent again.
+/// How long a sent chunk waits for an ACK that names it before it is sent again.
 pub const SEND_AGAIN: u64 = 400_000;
 
 /// How often a node tells its partners all that it has.

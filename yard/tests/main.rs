@@ -11,4 +11,5 @@ mod radio;
 mod random;
 mod record;
 mod runs;
+mod serving;
 mod support;

@@ -71,6 +71,41 @@ fn refusals_are_counted_by_number() {
     );
 }
 
+/// Three chunks, of which one comes twice: by 02, No. 2, an ACK names the run, or under bins the subtree, around its
+/// chunk. Chunks 0 and 1 are bin 1; bin 3 is over a fourth chunk too.
+#[test]
+fn chunks_are_counted_by_what_acks_name() {
+    for (addressing, named) in [
+        (Addressing::Ranges, [1, 1, 3, 3]),
+        (Addressing::Bins, [1, 1, 2, 2]),
+    ] {
+        let (order, written) = chunks_under(addressing);
+        let (mut store, mut record) = (van(order), Record::new(Pack::new(content()), 1));
+        for (acks, (chunk, named)) in (1..).zip([0, 2, 1, 1].into_iter().zip(named)) {
+            let before = record.tally.acknowledged;
+            let answer = record.take(&mut store, (9, 0), &written[chunk], Origin::Honest);
+            record.note_ack(addressing, &answer.reply.expect("a true chunk"));
+            assert_eq!(record.tally.acknowledged - before, named, "chunk {chunk}");
+            assert_eq!(record.tally.acks, acks);
+        }
+        // 8 of 4, and 6 of 4.
+        let mean = if addressing == Addressing::Bins { 1 } else { 2 };
+        assert_eq!(record.tally.chunks_an_ack(), mean);
+    }
+}
+
+/// Only ACKs count, whatever else a reply may be.
+#[test]
+fn other_replies_are_no_acks() {
+    let mut record = Record::new(Pack::new(content()), 1);
+    assert_eq!(record.tally.chunks_an_ack(), 0);
+    let mut store = van(chunks().0);
+    let composer = store.compose(5).and_then(|c| c.have(0, 2));
+    record.note_ack(Addressing::Ranges, composer.expect("it fits").finish());
+    record.note_ack(Addressing::Ranges, &[]);
+    assert_eq!((record.tally.acks, record.tally.acknowledged), (0, 0));
+}
+
 #[test]
 fn the_trace_depends_on_every_datagram() {
     let (order, written) = chunks();

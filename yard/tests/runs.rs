@@ -60,6 +60,31 @@ fn a_yard_with_everything_gets_whole() {
     }
 }
 
+/// Of two chunks each van acknowledges one alone, and with the second both, whichever comes first.
+#[test]
+fn acks_are_told_with_the_chunks_that_they_name() {
+    for addressing in [Addressing::Ranges, Addressing::Bins] {
+        let settings = Settings {
+            chunks: 2,
+            addressing,
+            ..quiet(1)
+        };
+        let yard = run(&settings);
+        let tally = &yard.record.tally;
+        assert_eq!(tally.taken(Origin::Honest).stored, 8 * 2);
+        assert_eq!((tally.acks, tally.acknowledged), (8 * 2, 8 * 3));
+        let text = told(&settings, &yard);
+        for (words, number) in [
+            ("ACKs sent", 16),
+            ("  chunks that they name, in all", 24),
+            ("  chunks an ACK, rounded down", 1),
+        ] {
+            let line = format!("\n  {words:<46}{number:>10}\n");
+            assert!(text.contains(&line), "{line}{text}");
+        }
+    }
+}
+
 /// More vans than the server has rows, and all sorts of attack: each number that taking in can give is given. 11 and 12
 /// are for rooms and orders, 13 for writing.
 #[test]

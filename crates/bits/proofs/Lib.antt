@@ -6,4 +6,7 @@ mod RunLaws
 mod FillLaws
 mod PartLaws
 mod CountLaws
+mod HeldLaws
+mod OnesLaws
+mod BlockLaws
 pub mod Promise

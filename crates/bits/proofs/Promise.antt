@@ -11,7 +11,9 @@ use Rattle.bits.proofs.RowLaws as row
 use Rattle.bits.proofs.FillLaws.{length-fill, fill-out, cleared-in, cleared-bit, cleared-bit-out}
 use Rattle.bits.proofs.RunLaws.{setting, clearing, length-run, run-in, run-out}
 use Rattle.bits.proofs.CountLaws as counting
+use Rattle.bits.proofs.HeldLaws as held
 pub use Rattle.bits.specs.Bits.{bitAt, setBit, clearBit, setRange, clearRange, clearWords, one, countBits, rowWords}
+pub use Rattle.bits.specs.Bits.{heldBelow, heldFrom}
 
 -- ---- one bit
 
@@ -140,3 +142,29 @@ row-least = counting.row-least
 -- A row's words hold its bits, and less than a word besides.
 pub row-words : (n : ℕ) → (n ≤ 32 * rowWords n) × (32 * rowWords n ≤ n + 31)
 row-words = counting.row-words
+
+-- ---- a run of set bits
+
+-- Below a place there are no more than its number.
+pub held-below-le : (ws : List ℕ) (c : ℕ) → heldBelow ws c ≤ c
+held-below-le = held.held-below-le
+
+-- Every bit of the run below a place is set.
+pub held-below-set : (ws : List ℕ) (c j : ℕ) → j < c → c ≤ j + heldBelow ws c → bitAt ws j ≡ true
+held-below-set = held.held-below-set
+
+-- The bit below the run is clear.
+pub held-below-stop : (ws : List ℕ) (c j : ℕ) → suc j + heldBelow ws c ≡ c → bitAt ws j ≡ false
+held-below-stop = held.held-below-stop
+
+-- Of d bits no more than d are in the run.
+pub held-from-le : (ws : List ℕ) (d x : ℕ) → heldFrom ws d x ≤ d
+held-from-le = held.held-from-le
+
+-- Every bit of the run from a place on is set.
+pub held-from-set : (ws : List ℕ) (d x j : ℕ) → x ≤ j → j < x + heldFrom ws d x → bitAt ws j ≡ true
+held-from-set = held.held-from-set
+
+-- The bit behind the run is clear, if it is one of the d.
+pub held-from-stop : (ws : List ℕ) (d x : ℕ) → heldFrom ws d x < d → bitAt ws (x + heldFrom ws d x) ≡ false
+held-from-stop = held.held-from-stop

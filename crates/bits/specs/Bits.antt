@@ -69,3 +69,20 @@ countBits ws (suc n) = countBits ws n + one (bitAt ws n)
 -- How many words a row of n bits takes.
 unfoldable pub rowWords : ℕ → ℕ
 rowWords n = (n + 31) / 32
+
+-- ---- a run of set bits
+
+-- One longer where the next bit is set, at its end where it is not.
+abbrev pub longer : Bool → ℕ → ℕ
+longer true n = suc n
+longer false n = 0
+
+-- How many bits are set directly below place c, one after another.
+unfoldable pub heldBelow : List ℕ → ℕ → ℕ
+heldBelow ws zero = 0
+heldBelow ws (suc c) = longer (bitAt ws c) (heldBelow ws c)
+
+-- How many of the d bits from place x on are set, one after another.
+unfoldable pub heldFrom : List ℕ → ℕ → ℕ → ℕ
+heldFrom ws zero x = 0
+heldFrom ws (suc d) x = longer (bitAt ws x) (heldFrom ws d (suc x))

@@ -5,6 +5,8 @@ ghost use Prim.Native.Nat.{_+_, _*_, _/_, _<_, _≤_, min};
 ghost use Rattle.bits.specs.Bits.{bitAt, setBit, clearBit, setRange, clearRange, clearWords, countBits, rowWords};
 ghost use Rattle.bits.specs.Steps.{mask};
 
+pub mod search;
+
 // Whether a bit is set.
 pub fn test(ws: &[u32], i: usize) -> bool
     ensures { λ r. ⌜ r ≡ bitAt (now (ws .entry)) i ⌝ }

@@ -4,6 +4,7 @@ pub mod AcceptLaws
 pub mod OpenLaws
 pub mod HandshakeLaws
 pub mod TakeLaws
+pub mod DataLaws
 pub mod StartLaws
 pub mod WriteLaws
 pub mod AddLaws
@@ -13,5 +14,6 @@ pub mod RefusedLaws
 pub mod ReplyLaws
 pub mod ShorterLaws
 pub mod NumberLaws
+pub mod AckLaws
 pub mod ReadBackLaws
 pub mod Promise

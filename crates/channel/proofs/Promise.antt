@@ -16,16 +16,19 @@ use Rattle.channel.proofs.RefusedLaws as refused
 use Rattle.channel.proofs.ReplyLaws as reply
 use Rattle.channel.proofs.ShorterLaws as shorter
 use Rattle.channel.proofs.ReadBackLaws as reading
+use Rattle.channel.proofs.AckLaws as acknowledging
 pub use Rattle.channel.specs.World.{Channels, channelsOf, World, worldOf, Out, outOf, Unaltered, orderRoot, orderLength, orderFormat, chunkCount, tableRows}
 pub use Rattle.channel.specs.Opening.{openSpec}
 pub use Rattle.channel.specs.Starting.{orderOf, startSpec, buildSpec}
-pub use Rattle.channel.specs.Take.{takeSpec}
+pub use Rattle.channel.specs.Take.{takeSpec, rowFor, delay}
 pub use Rattle.channel.specs.Write.{writeSpec}
 pub use Rattle.channel.specs.Ask.{Asked, askedOf, askSpec}
-pub use Rattle.channel.specs.Reply.{Reply, replyOf, openReply, takeReply, writeReply, leftIn, Replies}
+pub use Rattle.channel.specs.Reply.{Reply, replyOf, openReply, takeReply, writeReply, leftIn, Replies, Acknowledges}
 pub use Rattle.channel.specs.Adding.{addingSpec}
 pub use Rattle.channel.specs.Answers.{methodAnswer, peerWords, Suffice}
 use Rattle.wire.specs.declared.message.Message.{Message}
+use Rattle.wire.specs.declared.layout.Layout.the-variants.{MessagesAndData}
+use Rattle.table.proofs.Promise.{rowAt}
 use Rattle.format.specs.Format.{isMethod}
 use mathlib.Core.Bool.{true}
 
@@ -122,9 +125,19 @@ pub open-reads : (w : World) → Words (w .channels .state) → (id : ℕ) → i
 open-reads = reading.open-reads
 
 pub take-reads : (w : World) → Words (w .channels .state) → (clock id : ℕ) (s : List ℕ) → AreBytes s → id < 2 ^ 32 → takeSpec w clock id s .answer ≡ 0
-    → Replies (orderFormat (w .channels .state)) (takeSpec w clock id s) (takeReply (w .channels .state) clock id s (layoutOf (orderFormat (w .channels .state)) s .layout))
+    → Replies (orderFormat (w .channels .state)) (takeSpec w clock id s)
+    (takeReply (w .channels .state) (takeSpec w clock id s .after .rooms .map) clock id s (layoutOf (orderFormat (w .channels .state)) s .layout))
 take-reads = reading.take-reads
 
 pub write-reads : (w : World) → Words (w .channels .state) → (id c clock : ℕ) → clock < 2 ^ 64 → writeSpec w id c clock .answer ≡ 0
     → Replies (orderFormat (w .channels .state)) (writeSpec w id c clock) (some (writeReply w id c clock))
 write-reads = reading.write-reads
+
+-- ---- 02, No. 2: "the biggest complete interval that covers it"
+
+-- Whenever taking in answers 0 for DATA of chunk c, the reply is the ACK of some chunks, every one of them is in the map
+-- afterwards, and no interval that the method can name, that covers c and lies in the pack with all its chunks held is bigger.
+pub take-acknowledges : (w : World) (clock id : ℕ) (s : List ℕ) {c timestamp start n k : ℕ}
+    → layoutOf (orderFormat (w .channels .state)) s .layout ≡ MessagesAndData c timestamp start n k → takeSpec w clock id s .answer ≡ 0
+    → Acknowledges (w .channels .state) (rowAt (tableRows (w .channels .state)) (rowFor (w .channels .state) s) .peer) c (delay clock timestamp) (takeSpec w clock id s)
+take-acknowledges = acknowledging.take-acknowledges

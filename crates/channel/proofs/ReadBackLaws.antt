@@ -1,7 +1,7 @@
 -- Demand 2 of the calls: a datagram that was taken writes back to the same bytes, and whatever reply a call leaves passes the
 -- checks and reads back as its messages. Assumes nothing.
 use Prim.Native.Nat.{ℕ, _+_, _-_, _*_, _≤_, _<_, _^_}
-use native.Mathlib.Nat.{zero-add, mod-lt}
+use native.Mathlib.Nat.{mod-lt}
 use native.Mathlib.Omega.{arith}
 use mathlib.Core.Path.{_≡_, refl, sym, ap, _∙_}
 use mathlib.Core.Logic.{_≢_, _⊎_, inl, inr}
@@ -17,22 +17,23 @@ use Rattle.base.specs.Pick.{pick}
 use Rattle.table.proofs.Promise.{orderIn, root-eight, peer-fits, rowAt, openRowOf, openAnswer, handshakeAnswer, writeAnswer, open-some, handshake-opened, handshake-taken}
 use Rattle.table.specs.declared.rows.Row.{Row}
 use Rattle.tree.proofs.Promise.{chunkSize, maxLength, chunks, chunk-some}
-use Rattle.wire.proofs.Promise.{be32, placed, minSize, maxSize, numberOf, layoutOf, Numbered, handshakeFault, Alone, layout-numbered, layout-passed, layout-alone, placed-front, place-most}
+use Rattle.wire.proofs.Promise.{be32, placed, minSize, maxSize, numberOf, layoutOf, Numbered, handshakeFault, Alone, layout-numbered, layout-passed, layout-alone}
 use Rattle.wire.specs.declared.message.Options.{Options}
 use Rattle.wire.specs.declared.message.Options.the-variants.{Fixed, EndOnly, Other}
 use Rattle.wire.specs.declared.layout.Layout.{Layout}
 use Rattle.wire.specs.declared.layout.Layout.the-variants.{Fault, HandshakeAlone, Messages, MessagesAndData}
-use Rattle.writer.proofs.Promise.{Item, AreBytes, be32-fits, Reads, Plain, rewritable, writeAll, datagramOf, round-trip-read, chunk-nameable, chunk-part}
-use Rattle.replies.proofs.Promise.{handshakeItems, handshakeReply, ackItems, ackReply, chunkItems, chunkReply, handshake-long, ack-long, chunk-fits, handshake-reads, ack-reads, chunk-reads}
-use Rattle.store.proofs.Promise.{earlier, both-zero, chunkIn, lengthAnswer, length-accepted, taken-chunk}
+use Rattle.writer.proofs.Promise.{Item, AreBytes, be32-fits, Reads, Plain, rewritable, writeAll, datagramOf, round-trip-read}
+use Rattle.replies.proofs.Promise.{handshakeItems, handshakeReply, chunkItems, chunkReply, handshake-long, chunk-fits, handshake-reads, ack-reads, chunk-reads}
+use Rattle.store.proofs.Promise.{earlier, both-zero, chunkIn, lengthAnswer, length-accepted}
 use Rattle.channel.specs.World.{Channels, World, Out, outOf, beside, orderRoot, orderLength, chunkCount, tableRows, orderFormat}
 use Rattle.channel.specs.Answers.{ownRoomsAnswer}
 use Rattle.channel.specs.Opening.{callingRow, openedRow, occupied, openNumber, openSpec}
-use Rattle.channel.specs.Take.{rowFor, ours, handshakeTaken, messagesNumber, affected, messagesTaken, delay, storeOut, dataBy, dataTaken, byLayout, takeSpec, layoutIn, messagesIn}
+use Rattle.channel.specs.Take.{rowFor, ours, handshakeTaken, messagesNumber, messagesTaken, delay, acknowledged, dataTaken, byLayout, takeSpec, layoutIn, messagesIn}
 use Rattle.channel.specs.Write.{heldAnswer, writeNumber, writeSpec}
 use Rattle.channel.specs.Reply.{replyOf, openReply, takeReply, writeReply, Replies}
 use Rattle.base.proofs.OutLaws.{unless-zero}
 use Rattle.channel.proofs.AcceptLaws.{own-accepted}
+use Rattle.channel.proofs.AckLaws.{front, data-left, data-biggest}
 use Rattle.channel.proofs.WriteLaws.{held-inside}
 use Rattle.format.specs.declared.Format.{Format}
 
@@ -63,10 +64,6 @@ layout-taken w clock id s (Fault n) h q z = absurd (omega (arith, h .0, z))
 layout-taken w clock id s (HandshakeAlone a o) h q z = (refl, options-taken (w .channels) id s a o q z)
 layout-taken w clock id s (Messages k) h q z = (refl, tt)
 layout-taken w clock id s (MessagesAndData c x b n k) h q z = (refl, tt)
-
--- What stands at the front of a room.
-front : (room r : List ℕ) → length r ≤ length room → take (length r) (placed room 0 r) ≡ r
-front room r h = rw (zero-add (length r)) at (placed-front room 0 r (omega arith))
 
 pub taken-writes-back : (w : World) (clock id : ℕ) (s room : List ℕ) → AreBytes s → takeSpec w clock id s .answer ≡ 0 → maxSize ≤ length room
     → (writeAll (orderFormat (w .channels .state)) room (be32 s 0) (messagesIn (w .channels .state) s) ≡ outOf 0 (length s) (placed room 0 s))
@@ -126,33 +123,28 @@ module _ (w : World) (small : Words (w .channels .state)) where
       rw n (opened-or-not id s a h p big _ refl (eqb (be32 s 0) 0) refl (λ e. handshake-opened rs (be32 s 0) a mine id e n))
 
   data-replies : (clock : ℕ) (s entries : List ℕ) (c timestamp start n : ℕ) → lengthAnswer (orderLength (w .channels .state)) ≡ 0 → maxSize ≤ length (w .channels .reply)
-      → dataTaken w clock s entries c timestamp start n .answer ≡ 0
-      → Replies (orderFormat (w .channels .state)) (dataTaken w clock s entries c timestamp start n) (some (replyOf (rowAt (tableRows (w .channels .state)) (rowFor (w .channels .state) s) .peer) (ackItems c c (delay clock timestamp))))
-  unfolding dataTaken dataBy affected
-  data-replies clock s entries c timestamp start n limit big z =
+      → dataTaken w clock s entries c timestamp start n .answer ≡ 0 → (id k : ℕ)
+      → Replies (orderFormat (w .channels .state)) (dataTaken w clock s entries c timestamp start n)
+      (takeReply (w .channels .state) (dataTaken w clock s entries c timestamp start n .after .rooms .map) clock id s (MessagesAndData c timestamp start n k))
+  data-replies clock s entries c timestamp start n limit big z id k =
       let st = w .channels .state in
-      let p = unless-zero (messagesNumber st s) w _ z in
-      let q = unless-zero (storeOut w s entries c start n .answer) w _ (p .1) in
-      let t = taken-chunk (w .rooms) (orderRoot st) (orderLength st) c _ _ (q .0) .0 in
+      let v = acknowledged st (dataTaken w clock s entries c timestamp start n .after .rooms .map) c in
+      let b = data-biggest w clock s entries c timestamp start n z limit .complete in
       let few = few-chunks limit in
-      let F = orderFormat st in
-      let peer = rowAt (tableRows st) (rowFor st s) .peer in
-      let d = delay clock timestamp in
-      rw (p .0, q .0)
-      (reads-front (orderFormat (w .channels .state)) (w .channels .reply) (ackReply F peer c c d) peer (ackItems c c d) (omega (arith, ack-long F peer c c d, place-most F))
-      (ack-reads F peer c c d (peer-fits st small (rowFor st s)) (omega arith) (omega arith) (mod-lt (clock + 2 ^ 64 - timestamp) (omega arith))
-      (chunk-nameable F c (omega (arith, t, few))) (chunk-part F c (omega (arith, t, few)))))
+      rw (data-left w clock s entries c timestamp start n z big)
+      (ack-reads (orderFormat st) (rowAt (tableRows st) (rowFor st s) .peer) (v .first) (v .last) (delay clock timestamp) (peer-fits st small (rowFor st s))
+      (omega (arith, b .covers)) (omega (arith, b .inside, few)) (mod-lt (clock + 2 ^ 64 - timestamp) (omega arith)) (b .named) (omega (arith, b .inside, b .covers, few)))
 
   layout-replies : (clock id : ℕ) (s : List ℕ) (l : Layout) → Numbered l → Alone s l → AreBytes s → id < 2 ^ 32 → ownRoomsAnswer w ≡ 0 → byLayout w clock id s l .answer ≡ 0
-      → Replies (orderFormat (w .channels .state)) (byLayout w clock id s l) (takeReply (w .channels .state) clock id s l)
+      → Replies (orderFormat (w .channels .state)) (byLayout w clock id s l) (takeReply (w .channels .state) (byLayout w clock id s l .after .rooms .map) clock id s l)
   unfolding byLayout messagesTaken
   layout-replies clock id s (Fault n) h q bytes i e z = refl
   layout-replies clock id s (HandshakeAlone a o) h q bytes i e z = handshake-replies id s a o i (rw (q .1) (be32-fits (drop minSize s) (λ k. rw (getD-drop minSize s k 0) (bytes (minSize + k))) 1)) (own-accepted w e .2) z
   layout-replies clock id s (Messages k) h q bytes i e z = let n = unless-zero (messagesNumber (w .channels .state) s) (w .channels) _ z .0 in rw n refl
-  layout-replies clock id s (MessagesAndData c x b n k) h q bytes i e z = data-replies clock s (layoutIn (w .channels .state) s .entries) c x b n (own-accepted w e .0) (own-accepted w e .2) z
+  layout-replies clock id s (MessagesAndData c x b n k) h q bytes i e z = data-replies clock s (layoutIn (w .channels .state) s .entries) c x b n (own-accepted w e .0) (own-accepted w e .2) z id k
 
   pub take-reads : (clock id : ℕ) (s : List ℕ) → AreBytes s → id < 2 ^ 32 → takeSpec w clock id s .answer ≡ 0
-      → Replies (orderFormat (w .channels .state)) (takeSpec w clock id s) (takeReply (w .channels .state) clock id s (layoutIn (w .channels .state) s .layout))
+      → Replies (orderFormat (w .channels .state)) (takeSpec w clock id s) (takeReply (w .channels .state) (takeSpec w clock id s .after .rooms .map) clock id s (layoutIn (w .channels .state) s .layout))
   unfolding takeSpec
   take-reads clock id s bytes i z =
       let F = orderFormat (w .channels .state) in

@@ -1,5 +1,5 @@
 -- Taking in a datagram, step by step as the code takes it. Assumes nothing.
-use Prim.Native.Nat.{ℕ, _+_, _-_, _*_, _%_, _^_, _≤_, _<_}
+use Prim.Native.Nat.{ℕ, _+_, _-_, _*_, _^_, _≤_, _<_}
 use native.Mathlib.Nat.{mul-le-mul-left}
 use native.Mathlib.Omega.{arith}
 use mathlib.Core.Path.{_≡_, refl, sym, ap, _∙_}
@@ -10,24 +10,22 @@ use borrow.Author.Tests.{le-leb, lt-leb, not-true, not-false}
 use lib.Dec.{leb, eqb}
 use lib.ListN.{length, take, drop}
 use Rattle.bits.proofs.Promise.{rowWords, row-words}
-use Rattle.tree.proofs.Promise.{chunks, chunkSize, maxLength}
-use Rattle.wire.proofs.Promise.{be32, placed, minSize, Checked, layoutOf, Says, layout-data, layout-entries, layout-passed, layout-told, length-told, entries-told, numberOf, checkedOf, checkSpec, entryWords, hasSize, size-refused, Fronted, front-layout, front-survey, noSurvey, surveyAll, surveySpec, survey-passed}
+use Rattle.tree.proofs.Promise.{chunks}
+use Rattle.wire.proofs.Promise.{be32, minSize, Checked, layoutOf, Says, layout-data, layout-entries, layout-passed, layout-told, length-told, entries-told, numberOf, checkedOf, checkSpec, entryWords, hasSize, size-refused, Fronted, front-layout, front-survey, noSurvey, surveyAll, surveySpec, survey-passed}
 use Rattle.wire.specs.declared.message.Options.{Options}
 use Rattle.wire.specs.declared.survey.Survey.{Survey}
 use Rattle.wire.specs.declared.pass.Front.{Front}
 use Rattle.wire.specs.declared.layout.Layout.{Layout}
 use Rattle.wire.specs.declared.layout.Layout.the-variants.{Fault, HandshakeAlone, Messages, MessagesAndData}
-use Rattle.writer.proofs.Promise.{within, readAll}
+use Rattle.writer.proofs.Promise.{readAll}
 use Rattle.effects.proofs.Promise.{anyPast, Peer, peerOf, effects, past-survey, quiet-survey}
-use Rattle.replies.proofs.Promise.{ackReply}
-use Rattle.table.proofs.Promise.{rowCount, rowOf, rowAt, flag, putRow, orderIn, messagesAnswer, flag-same, put-row-same}
+use Rattle.table.proofs.Promise.{rowCount, rowOf, rowAt, flag, putRow, messagesAnswer, flag-same, put-row-same}
 use Rattle.table.specs.declared.rows.Row.{Row}
-use Rattle.order.specs.declared.Order.{Order}
-use Rattle.hash.proofs.Promise.{bytesOf, words}
-use Rattle.store.proofs.Promise.{earlier-not, Rooms, countOf, lengthAnswer, length-accepted, integrityOf, takeSpec as storeTake, refused-same, taken-chunk}
-use Rattle.channel.specs.World.{Channels, channelsOf, World, Out, outOf, beside, orderRoot, orderLength, chunkCount, tableRows, rowBit, orderFormat}
+use Rattle.hash.proofs.Promise.{words}
+use Rattle.store.proofs.Promise.{earlier-not, countOf, lengthAnswer, length-accepted}
+use Rattle.channel.specs.World.{Channels, channelsOf, World, Out, outOf, beside, orderLength, chunkCount, tableRows, rowBit, orderFormat}
 use Rattle.channel.specs.Answers.{ownRoomsAnswer}
-use Rattle.channel.specs.Take.{rowFor, handshakeTaken, messagesNumber, withMark, affected, messagesTaken, delay, acknowledgement, replied, dataBy, storeOut, dataTaken, byLayout, takeSpec, layoutIn, messagesIn}
+use Rattle.channel.specs.Take.{rowFor, handshakeTaken, messagesNumber, withMark, affected, messagesTaken, dataTaken, byLayout, takeSpec, layoutIn, messagesIn}
 use Rattle.channel.specs.Steps.{Ruled, ruledOf, ruledBy}
 use Rattle.channel.specs.declared.outcome.Outcome.{Outcome}
 use Rattle.base.proofs.OutLaws.{unless-not, unless-done}
@@ -137,81 +135,6 @@ module _ (ch : Channels) (s : List ℕ) {k : ℕ} (ke : k ≡ messagesNumber (ch
   pub messages-done : k ≡ 0 → {after : Channels} → after ≡ affected ch s → outOf 0 0 after ≡ messagesTaken ch s
   unfolding messagesTaken
   messages-done z e = ap (outOf 0 0) e ∙ unless-done _ ch _ (sym ke ∙ z)
-
--- ---- the ACK
-
--- A difference modulo 2 ^ 64.
-pub delay-is : (clock x : ℕ) {d : ℕ} → clock < 2 ^ 64 → x < 2 ^ 64 → d < 2 ^ 64 → (d + x) % 2 ^ 64 ≡ clock → d ≡ delay clock x
-delay-is clock x a b l e = omega arith
-
--- To the peer of the row that the datagram goes to.
-pub ack-is : (st : List ℕ) (s : List ℕ) (clock c x : ℕ) (reply : List ℕ) {i d len : ℕ} {F : Format} {r : Row} {p : List ℕ}
-    → F ≡ orderFormat st → i ≡ rowFor st s → r ≡ rowAt (tableRows st) i → d ≡ delay clock x
-    → (len ≡ length (ackReply F (r .peer) c c d)) × (p ≡ placed reply 0 (ackReply F (r .peer) c c d))
-    → (len ≡ length (acknowledgement st s clock c x)) × (p ≡ placed reply 0 (acknowledgement st s clock c x))
-ack-is st s clock c x reply fe ie re de e = rw (← fe, ← ie, ← re, ← de) e
-
--- The effects, and a reply.
-replied-is : (ch : Channels) (s r : List ℕ) {st : List ℕ} {h v p : List ℕ} → channelsOf st h v [] ≡ affected (channelsOf (ch .state) (ch .has) (ch .wants) []) s
-    → p ≡ placed (ch .reply) 0 r → channelsOf st h v p ≡ replied (affected ch s) r
-unfolding affected
-replied-is ch s r e q = rw q (ap (λ (x : Channels). channelsOf (x .state) (x .has) (x .wants) (placed (ch .reply) 0 r)) e)
-
--- ---- DATA
-
--- The chunk's bytes, from the place where they begin to where they end.
-pub part-is : (s : List ℕ) (b n : ℕ) → take (b + n - b) (drop b s) ≡ within s b n
-part-is s b n = let e : b + n - b ≡ n = omega arith in rw e
-
-module _ (w : World) (clock : ℕ) (s es : List ℕ) (c x b n : ℕ) {k : ℕ} (ke : k ≡ messagesNumber (w .channels .state) s) where
-  pub data-refused : k ≢ 0 → outOf k 0 w ≡ dataTaken w clock s es c x b n
-  unfolding dataTaken
-  data-refused d = ap (λ (y : ℕ). outOf y 0 w) ke ∙ unless-not _ w _ (λ z. d (ke ∙ z))
-
-  module _ (z : k ≡ 0) {o : Order} (oe : o ≡ orderIn (w .channels .state)) {d : List ℕ} (de : d ≡ within s b n) {m : ℕ} {after : Rooms}
-      (me : outOf m 0 after ≡ storeTake (w .rooms) (bytesOf (o .root .words)) (o .length) c d (integrityOf es s)) where
-    out-is : outOf m 0 after ≡ storeOut w s es c b n
-    out-is =
-        me ∙ ap (λ (x : Order). storeTake (w .rooms) (bytesOf (x .root .words)) (x .length) c d (integrityOf es s)) oe
-        ∙ ap (λ (y : List ℕ). storeTake (w .rooms) (orderRoot (w .channels .state)) (orderLength (w .channels .state)) c y (integrityOf es s)) de
-
-    -- 0: the chunk is one of the pack.
-    pub data-chunk : lengthAnswer (orderLength (w .channels .state)) ≡ 0 → m ≡ 0 → c < chunks chunkSize maxLength
-    data-chunk g q =
-        let L = orderLength (w .channels .state) in
-        let i = taken-chunk (w .rooms) _ L c _ _ (sym (ap (λ (o : Out Rooms). o .answer) out-is) ∙ q) .0 in
-        omega (arith, i, length-accepted L g .1)
-
-    settled : {out : Out World} → out ≡ dataBy w clock s c x (storeOut w s es c b n) → out ≡ dataTaken w clock s es c x b n
-    unfolding dataTaken
-    settled e = e ∙ unless-done _ w _ (sym ke ∙ z)
-
-    -- 8, 9 or 10: the store left its rooms as they were.
-    pub data-unfit : m ≢ 0 → outOf m 0 (record { rooms = after; channels = w .channels }) ≡ dataTaken w clock s es c x b n
-    unfolding dataBy
-    data-unfit d =
-        settled
-        (ap (λ (g : Rooms). outOf m 0 (record { rooms = g; channels = w .channels })) (ap (λ (o : Out Rooms). o .after) out-is ∙ refused-same (w .rooms) _ _ c _ _ (λ q. d (ap (λ (o : Out Rooms). o .answer) out-is ∙ q)))
-        ∙ ap (λ (y : ℕ). outOf y 0 w) (ap (λ (o : Out Rooms). o .answer) out-is)
-        ∙ unless-not (storeOut w s es c b n .answer) w _ (λ q. d (ap (λ (o : Out Rooms). o .answer) out-is ∙ q)))
-
-    -- Stored, and acknowledged.
-    pub data-done : m ≡ 0 → {len : ℕ} {p h v : List ℕ} {st : List ℕ}
-        → (len ≡ length (acknowledgement (w .channels .state) s clock c x)) × (p ≡ placed (w .channels .reply) 0 (acknowledgement (w .channels .state) s clock c x))
-        → channelsOf st h v [] ≡ affected (channelsOf (w .channels .state) (w .channels .has) (w .channels .wants) []) s
-        → outOf 0 len (record { rooms = after; channels = channelsOf st h v p }) ≡ dataTaken w clock s es c x b n
-    unfolding dataBy
-    data-done q {len} {p} {h} {v} {st} a e =
-        settled
-        (assembled len after (channelsOf st h v p) (a .0) (ap (λ (o : Out Rooms). o .after) out-is) (replied-is (w .channels) s reply e (a .1))
-        ∙ unless-done (storeOut w s es c b n .answer) w _ (sym (ap (λ (o : Out Rooms). o .answer) out-is) ∙ q))
-      where
-        reply : List ℕ
-        reply = acknowledgement (w .channels .state) s clock c x
-
-        assembled : (l : ℕ) (g : Rooms) (ch : Channels) → l ≡ length reply → g ≡ storeOut w s es c b n .after → ch ≡ replied (affected (w .channels) s) reply
-            → outOf {W = World} 0 l (record { rooms = g; channels = ch }) ≡ outOf 0 (length reply) (record { rooms = storeOut w s es c b n .after; channels = replied (affected (w .channels) s) reply })
-        assembled l g ch x y u = rw (x, y, u)
 
 -- ---- any datagram
 

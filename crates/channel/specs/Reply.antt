@@ -13,11 +13,13 @@ use Rattle.wire.proofs.Promise.{be32}
 use Rattle.wire.specs.declared.layout.Layout.{Layout}
 use Rattle.wire.specs.declared.layout.Layout.the-variants.{Fault, HandshakeAlone, Messages, MessagesAndData}
 use Rattle.writer.proofs.Promise.{Item, Reads}
-use Rattle.replies.proofs.Promise.{handshakeItems, ackItems, chunkItems}
+use Rattle.replies.proofs.Promise.{handshakeItems, ackItems, ackReply, chunkItems}
+use Rattle.held.proofs.Promise.{Biggest}
+use Rattle.held.specs.declared.interval.Interval.{Interval}
 use Rattle.table.proofs.Promise.{openRowOf, rowAt}
 use Rattle.store.proofs.Promise.{chunkIn}
-use Rattle.channel.specs.World.{World, Out, orderRoot, orderLength, chunkCount, tableRows}
-use Rattle.channel.specs.Take.{rowFor, delay}
+use Rattle.channel.specs.World.{World, Out, orderRoot, orderLength, orderFormat, chunkCount, tableRows}
+use Rattle.channel.specs.Take.{rowFor, acknowledged, delay}
 
 -- A reply: the channel that it goes to, and its messages.
 pub record Reply : Type 0 where
@@ -31,15 +33,17 @@ replyOf to items = record { to = to; items = items }
 abbrev pub openReply : List ℕ → (id : ℕ) → Reply
 openReply st id = replyOf 0 (handshakeItems id (orderRoot st))
 
--- Taking in a datagram s of this layout: a HANDSHAKE to channel 0 is answered by ours, DATA by "one ACK naming that chunk
--- alone, its delay the clock minus the timestamp"; both go "to the peer's source channel". No other has a reply.
-abbrev pub takeReply : List ℕ → (clock id : ℕ) (s : List ℕ) → Layout → Option Reply
-takeReply st clock id s (Fault n) = none
-takeReply st clock id s (HandshakeAlone source o) =
+-- Taking in a datagram s of this layout, which leaves this map: a HANDSHAKE to channel 0 is answered by ours, DATA by "one ACK ..,
+-- its delay the clock minus the timestamp", of "the biggest complete interval that covers" its chunk; both go "to the peer's source
+-- channel". No other has a reply.
+abbrev pub takeReply : (st map : List ℕ) (clock id : ℕ) (s : List ℕ) → Layout → Option Reply
+takeReply st map clock id s (Fault n) = none
+takeReply st map clock id s (HandshakeAlone source o) =
     pick (eqb (be32 s 0) 0) (some (replyOf source (handshakeItems id (orderRoot st)))) none
-takeReply st clock id s (Messages k) = none
-takeReply st clock id s (MessagesAndData c timestamp start n k) =
-    some (replyOf (rowAt (tableRows st) (rowFor st s) .peer) (ackItems c c (delay clock timestamp)))
+takeReply st map clock id s (Messages k) = none
+takeReply st map clock id s (MessagesAndData c timestamp start n k) =
+    some (replyOf (rowAt (tableRows st) (rowFor st s) .peer)
+    (ackItems (acknowledged st map c .first) (acknowledged st map c .last) (delay clock timestamp)))
 
 -- Writing chunk c: the hashes that go out with it, as the hash room has them, then DATA with the given clock.
 abbrev pub writeReply : World → (id c clock : ℕ) → Reply
@@ -55,3 +59,12 @@ leftIn o = take (o .len) (o .after .channels .reply)
 abbrev pub Replies : Format → Out World → Option Reply → Type 0
 Replies F o none = o .len ≡ 0
 Replies F o (some r) = Reads F (leftIn o) (r .to) (r .items)
+
+-- ---- an ACK
+
+-- The call left as its reply the ACK of some chunks with a delay, to this channel; and of the map as the call left it, they are
+-- the biggest complete interval that covers chunk c (02, No. 2).
+pub record Acknowledges (st : List ℕ) (to c delay : ℕ) (o : Out World) : Type 0 where
+  pub named : Interval
+  pub reply : leftIn o ≡ ackReply (orderFormat st) to (named .first) (named .last) delay
+  pub biggest : Biggest (orderFormat st) (o .after .rooms .map) (chunkCount st) c named

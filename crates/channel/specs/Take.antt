@@ -14,6 +14,8 @@ use Rattle.wire.specs.declared.layout.Layout.the-variants.{Fault, HandshakeAlon
 use Rattle.writer.proofs.Promise.{within, Item, readAll}
 use Rattle.effects.proofs.Promise.{anyPast, Peer, peerOf, effects}
 use Rattle.replies.proofs.Promise.{ackReply}
+use Rattle.held.proofs.Promise.{completeInterval}
+use Rattle.held.specs.declared.interval.Interval.{Interval}
 use Rattle.table.specs.declared.rows.Row.{Row}
 use Rattle.table.proofs.Promise.{rowOf, rowAt, rowAfter, putRow, messagesAnswer, handshakeAnswer}
 use Rattle.store.proofs.Promise.{Rooms, earlier, integrityOf, takeSpec as storeTake}
@@ -93,10 +95,15 @@ messagesTaken ch s = unless (messagesNumber (ch .state) s) ch (outOf 0 0 (affect
 abbrev pub delay : (clock timestamp : ℕ) → ℕ
 delay clock timestamp = (clock + 2 ^ 64 - timestamp) % 2 ^ 64
 
--- "Stored DATA is answered by one ACK naming that chunk alone", to the peer of the channel that it came on.
-abbrev pub acknowledgement : List ℕ → (s : List ℕ) (clock c timestamp : ℕ) → List ℕ
-acknowledgement st s clock c timestamp =
-    ackReply (orderFormat st) (rowAt (tableRows st) (rowFor st s) .peer) c c (delay clock timestamp)
+-- What an ACK of chunk c names: "the biggest complete interval that covers it" (02, No. 2), of the chunks in the map.
+abbrev pub acknowledged : (st map : List ℕ) (c : ℕ) → Interval
+acknowledged st map c = completeInterval (orderFormat st) map (chunkCount st) c
+
+-- "Stored DATA is answered by one ACK", which names that, to the peer of the channel that it came on.
+abbrev pub acknowledgement : (st map s : List ℕ) (clock c timestamp : ℕ) → List ℕ
+acknowledgement st map s clock c timestamp =
+    ackReply (orderFormat st) (rowAt (tableRows st) (rowFor st s) .peer)
+    (acknowledged st map c .first) (acknowledged st map c .last) (delay clock timestamp)
 
 -- The channels with a reply.
 abbrev pub replied : Channels → (r : List ℕ) → Channels
@@ -109,14 +116,15 @@ storeOut w s entries c start n =
     storeTake (w .rooms) (orderRoot (w .channels .state)) (orderLength (w .channels .state)) c (within s start n)
     (integrityOf entries s)
 
--- DATA by that: refused with 8, 9 or 10; or the chunk rooms so, the effects of the messages, and the reply.
+-- Messages with DATA that are taken: these chunk rooms, the effects of the messages, and a reply.
+abbrev pub answered : Channels → (s : List ℕ) → Rooms → (r : List ℕ) → Out World
+answered ch s rooms r = outOf 0 (length r) (record { rooms = rooms; channels = replied (affected ch s) r })
+
+-- DATA by that: refused with 8, 9 or 10; or answered with the ACK by the map as it is then.
 unfoldable pub dataBy : World → (clock : ℕ) (s : List ℕ) (c timestamp : ℕ) → Out Rooms → Out World
 dataBy w clock s c timestamp out =
     unless (out .answer) w
-    (outOf 0 (length (acknowledgement (w .channels .state) s clock c timestamp)) (record {
-      rooms = out .after;
-      channels = replied (affected (w .channels) s) (acknowledgement (w .channels .state) s clock c timestamp);
-    }))
+    (answered (w .channels) s (out .after) (acknowledgement (w .channels .state) (out .after .map) s clock c timestamp))
 
 -- Messages with DATA: 5, 3 and 7 come before that.
 unfoldable pub dataTaken : World → (clock : ℕ) (s entries : List ℕ) (c timestamp start n : ℕ) → Out World

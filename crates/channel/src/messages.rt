@@ -1,17 +1,19 @@
 // Messages other than a HANDSHAKE: their number, their effects, and the chunk that DATA brings with its reply.
 ghost use mathlib.Core.Path.{_≡_};
+ghost use mathlib.Core.Bool.{true};
 ghost use mathlib.Core.List.{[]};
 ghost use Prim.Native.Nat.{_+_, _≤_, _<_};
 ghost use lib.ListN.{length};
 ghost use Rattle.wire.proofs.Promise.{placed, minSize, maxSize, surveyAll};
-ghost use Rattle.tree.proofs.Promise.{chunks, chunkSize, maxLength};
+ghost use Rattle.bits.proofs.Promise.{bitAt};
 ghost use Rattle.store.proofs.Promise.{lengthAnswer};
 ghost use Rattle.table.proofs.Promise.{rowCount};
-ghost use Rattle.channel.specs.World.{channelsOf, worldOf, outOf, orderLength, orderFormat};
+ghost use Rattle.channel.specs.World.{channelsOf, worldOf, outOf, orderLength, orderFormat, chunkCount};
 ghost use Rattle.channel.specs.Take.{rowFor, messagesNumber, affected, messagesTaken};
 ghost use Rattle.channel.specs.Take.{acknowledgement, dataTaken};
 use crate::outcome::Outcome;
 use format::Format;
+use held::interval;
 use store::calls;
 use table::answers;
 use table::rows::Row;
@@ -114,11 +116,13 @@ pub(crate) fn take_messages(
     Outcome { answer: 0, len: 0 }
 }
 
-// The ACK of chunk c, to the peer of the channel that it came on; its length.
+// The ACK of the biggest complete interval around chunk c, which is held, to the peer of the channel that it came on; its
+// length.
 fn acknowledge(
     state: &[u32],
     format: Format,
     i: usize,
+    map: &[u32],
     reply: &mut [u8],
     clock: u64,
     c: u32,
@@ -126,16 +130,20 @@ fn acknowledge(
     datagram: &[u8],
 ) -> usize
     requires { ⌜ maxSize ≤ length (now reply) ⌝ }
+    requires { ⌜ lengthAnswer (orderLength (now state)) ≡ 0 ⌝ }
     requires { ⌜ format ≡ orderFormat (now state) ⌝ }
-    requires { ⌜ c < chunks chunkSize maxLength ⌝ }
+    requires { ⌜ (c < chunkCount (now state)) × (bitAt (now map) c ≡ true) ⌝ }
     requires { ⌜ i ≡ rowFor (now state) (now datagram) ⌝ }
-    ensures { λ r. ⌜ (r ≡ length (acknowledgement (now (state .entry)) (now (datagram .entry)) clock c timestamp))
+    ensures { λ r. ⌜ (r ≡ length (acknowledgement (now (state .entry)) (now (map .entry)) (now (datagram .entry))
+        clock c timestamp))
         × (now (reply .exit) ≡ placed (now (reply .entry)) 0
-        (acknowledgement (now (state .entry)) (now (datagram .entry)) clock c timestamp)) ⌝ }
+        (acknowledgement (now (state .entry)) (now (map .entry)) (now (datagram .entry)) clock c timestamp)) ⌝ }
 {
     let row = words::row_at(state, i);
     let delay = std::num::wrapping_sub_u64(clock, timestamp);
-    replies::ack(reply, format, row.peer, c, c, delay)
+    let n = pack::chunk_count(words::length_in(state));
+    let named = interval::complete_interval(format, map, n, c);
+    replies::ack(reply, format, row.peer, named.first, named.last, delay)
 }
 
 // Messages with DATA, whose chunk has `len` bytes from `start` on and whose INTEGRITY messages are in `entries`.
@@ -196,7 +204,7 @@ pub(crate) fn take_chunk(
     if answer != 0 {
         return Outcome { answer, len: 0 };
     }
-    let sent = acknowledge(state, format, i, reply, clock, c, timestamp, datagram);
+    let sent = acknowledge(state, format, i, map, reply, clock, c, timestamp, datagram);
     if !survey.effective {
         return Outcome {
             answer: 0,

@@ -3,6 +3,8 @@ ghost use mathlib.Core.Path.{_≡_};
 ghost use Rattle.held.specs.Held.{askedOf, askNumber, heldSpec};
 use store::answers;
 
+pub mod interval;
+
 pub struct Asked {
     pub answer: u32,
     pub held: u32,

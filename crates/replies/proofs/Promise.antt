@@ -4,13 +4,13 @@
 use mathlib.Core.Path.{_≡_}
 use mathlib.Core.Logic.{_≢_}
 use mathlib.Core.List.{List}
-use mathlib.Core.Bool.{true, false}
+use mathlib.Core.Bool.{true}
 use Prim.Native.Nat.{ℕ, _+_, _≤_, _<_, _^_}
 use lib.ListN.{length}
 use Rattle.format.specs.declared.Format.{Format}
 use Rattle.tree.proofs.Promise.{chunkSize, chunks, maxLength}
-use Rattle.wire.proofs.Promise.{minSize, maxSize, timedSize}
-use Rattle.writer.proofs.Promise.{Reads, nameable, isEverything}
+use Rattle.wire.proofs.Promise.{minSize, maxSize, timedSize, everythingBin}
+use Rattle.writer.proofs.Promise.{Reads, nameable}
 use Rattle.replies.proofs.ReplyLaws.{handshake-length, ack-length, chunk-length}
 use Rattle.replies.proofs.ReadLaws as reading
 pub use Rattle.replies.specs.Replies.{datagram, handshakeItems, handshakeReply, ackItems, ackReply, hashItem, chunkItems, chunkReply}
@@ -34,7 +34,7 @@ pub handshake-reads : (F : Format) (to source : ℕ) (root : List ℕ) → to < 
     → Reads F (handshakeReply F to source root) to (handshakeItems source root)
 handshake-reads = reading.handshake-reads
 
-pub ack-reads : (F : Format) (to f l delay : ℕ) → to < 2 ^ 32 → f ≤ l → l < 2 ^ 32 → delay < 2 ^ 64 → nameable F f l ≡ true → isEverything F f l ≡ false
+pub ack-reads : (F : Format) (to f l delay : ℕ) → to < 2 ^ 32 → f ≤ l → l < 2 ^ 32 → delay < 2 ^ 64 → nameable F f l ≡ true → f + l < everythingBin
     → Reads F (ackReply F to f l delay) to (ackItems f l delay)
 ack-reads = reading.ack-reads
 

@@ -10,11 +10,11 @@ use lib.Dec.{eqb}
 use lib.ListN.{length, getD}
 use Rattle.base.specs.Pick.{pick}
 use Rattle.format.specs.declared.Format.{Format}
-use Rattle.tree.proofs.Promise.{first-plus-last, num, chunkSize, chunks, maxLength, sent, Differs, Distinct, sent-once}
+use Rattle.tree.proofs.Promise.{first, last, first-plus-last, num, chunkSize, chunks, maxLength, sent, Differs, Distinct, sent-once}
 use Rattle.wire.proofs.Promise.{minSize, namedSize, everythingBin, place-most, seen, handshakeFault}
 use Rattle.wire.specs.declared.message.Options.the-variants.{Fixed}
 use Rattle.wire.specs.declared.message.Message.the-variants.{Handshake, Data, Ack}
-use Rattle.writer.proofs.Promise.{itemOf, encode, AllHaveWidths, Reads, nameable, isEverything, faultBehind, Joining, notedAll, composed-reads, node-covers, node-nameable, node-part, chunk-nameable, chunk-part}
+use Rattle.writer.proofs.Promise.{itemOf, encode, AllHaveWidths, Reads, nameable, faultBehind, Joining, notedAll, composed-reads, node-covers, node-nameable, chunk-nameable, not-everything}
 use Rattle.replies.specs.Replies.{handshakeReply, ackReply, hashItem, handshakeItems, ackItems, chunkItems, chunkReply}
 use Rattle.replies.specs.Steps.{nodeItems}
 use Rattle.replies.proofs.HashLaws.{item-writable}
@@ -28,10 +28,10 @@ unfolding handshakeReply handshakeFault
 handshake-reads F to source root t s d l =
     composed-reads F to [] (itemOf root (Handshake source (Fixed 0))) t tt s tt (handshake-writable F (length root) source l) (rw (ne-eqb source 0 d)) (omega (arith, handshake-size F source 0))
 
-pub ack-reads : (F : Format) (to f l delay : ℕ) → to < 2 ^ 32 → f ≤ l → l < 2 ^ 32 → delay < 2 ^ 64 → nameable F f l ≡ true → isEverything F f l ≡ false → Reads F (ackReply F to f l delay) to (ackItems f l delay)
+pub ack-reads : (F : Format) (to f l delay : ℕ) → to < 2 ^ 32 → f ≤ l → l < 2 ^ 32 → delay < 2 ^ 64 → nameable F f l ≡ true → f + l < everythingBin → Reads F (ackReply F to f l delay) to (ackItems f l delay)
 unfolding ackReply
 ack-reads F to f l delay t o h d named part =
-    composed-reads F to [] (itemOf [] (Ack f l delay)) t tt (omega arith, h, d) tt (ack-writable F 0 f l delay) (rw (named, part, le-ltb l f o)) (omega (arith, ack-size F f l delay, place-most F))
+    composed-reads F to [] (itemOf [] (Ack f l delay)) t tt (omega arith, h, d) tt (ack-writable F 0 f l delay) (rw (named, not-everything F f l part, le-ltb l f o)) (omega (arith, ack-size F f l delay, place-most F))
 
 -- ---- the hashes of a chunk
 
@@ -90,7 +90,7 @@ module _ (hashes : List ℕ) where
         let s = h 0 in
         let place = at + namedSize F in (
           item-writable F hashes b,
-          rw (node-nameable F b (omega (arith, s)), node-part F b s, node-covers b, first-plus-last b) (rw (u .0)),
+          rw (node-nameable F b (omega (arith, s)), not-everything F (first b) (last b) (omega (arith, s, first-plus-last b)), node-covers b, first-plus-last b) (rw (u .0)),
           tt,
           rw (first-plus-last b) (hashes-join bs _ (es ++ (b ∷ place ∷ [])) (λ i. h (suc i)) (paired-more es b place p) (unseen-more es b place bs p (u .1) (d .0)) (d .1)),
         )
@@ -98,7 +98,7 @@ module _ (hashes : List ℕ) where
 -- ---- a chunk with its hashes
 
 data-fault : (F : Format) (es : List ℕ) (to at c time n : ℕ) → 2 * c < everythingBin → faultBehind F es to at (Data c c time 0 n) ≡ 0
-data-fault F es to at c time n h = rw (chunk-nameable F c h, chunk-part F c h, eq-eqb c c refl)
+data-fault F es to at c time n h = rw (chunk-nameable F c (omega (arith, h)), not-everything F c c (omega (arith, h)), eq-eqb c c refl)
 
 pub chunk-reads : (F : Format) (hashes : List ℕ) (to N c time : ℕ) (bytes : List ℕ) → to < 2 ^ 32 → c < N → time < 2 ^ 64 → N ≤ chunks chunkSize maxLength → length bytes ≤ chunkSize
     → Reads F (chunkReply F hashes to N c time bytes) to (chunkItems hashes N c time bytes)

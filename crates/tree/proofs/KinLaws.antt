@@ -1,14 +1,14 @@
 -- A node's parent and sibling by its number: which child it is shows in the bit above its ones. Assumes nothing.
 use mathlib.Core.Path.{_≡_, sym, ap, _∙_}
-use Prim.Native.Nat.{ℕ, _+_, _-_, _*_, _/_, _%_, _^_}
+use Prim.Native.Nat.{ℕ, _+_, _-_, _*_, _/_, _%_, _^_, _≤_}
 use native.Mathlib.Omega.{arith}
 use lib.Arith.{digits-div}
 use lib.Pow.{pow-pos, shl-shr}
-use Rattle.tree.specs.Bin.{height, first}
+use Rattle.tree.specs.Bin.{height, first, last}
 use Rattle.tree.specs.Node.{above}
 use Rattle.tree.specs.Steps.{parent, sibling}
 use Rattle.tree.proofs.BinLaws.{node-of, first-bin, bin-of}
-use Rattle.tree.proofs.NodeLaws.{above-left, above-right, beside-left, beside-right}
+use Rattle.tree.proofs.NodeLaws.{above-left, above-right, beside-left, beside-right, unique}
 
 first-of : (b : ℕ) → first b ≡ node-of b .0 * 2 ^ height b
 first-of b = ap first (node-of b .1) ∙ first-bin (height b) (node-of b .0)
@@ -26,6 +26,13 @@ place b =
 
 aligned : (b : ℕ) → above (height b) (first b) ≡ first b
 aligned b = ap (λ (x : ℕ). x * 2 ^ height b) (place-first b) ∙ sym (first-of b)
+
+-- a node that covers a chunk is the one above it of its height
+pub node-above : (b c : ℕ) → first b ≤ c → c ≤ last b → (h : ℕ) × (first b ≡ above h c) × (last b + 1 ≡ above h c + 2 ^ h)
+unfolding last
+node-above b c f l =
+    let e : above (height b) c ≡ first b = unique (height b) (first b) c (aligned b) f (omega (arith, pow-pos (height b))) in
+    (height b, sym e, omega (arith, e, pow-pos (height b)))
 
 -- by the height h and the width w that the code has
 module _ (b h w : ℕ) (e : h ≡ height b) (g : w ≡ 2 ^ h) where

@@ -99,6 +99,20 @@ pub whole-below : (N c k p : ℕ) → k ≤ p → above p c + 2 ^ p ≤ N → ab
 whole-below N c k p l =
     le-ind (λ (m : ℕ). above m c + 2 ^ m ≤ N → above k c + 2 ^ k ≤ N) (λ w. w) (λ m _ ih w. ih (whole-down N c m w)) p l
 
+-- of two nodes above c, the higher covers the lower
+above-up : (k c : ℕ) → above (suc k) c ≤ above k c
+above-up k c = go (c / 2 ^ k % 2) refl
+  where
+    go : (r : ℕ) → c / 2 ^ k % 2 ≡ r → above (suc k) c ≤ above k c
+    go zero e = omega (arith, above-left k c e)
+    go (suc r) e = omega (arith, above-right k c (omega arith))
+
+pub above-nested : (h k c : ℕ) → h ≤ k → (above k c ≤ above h c) × (above h c + 2 ^ h ≤ above k c + 2 ^ k)
+above-nested h k c l = (
+  le-ind (λ (m : ℕ). above m c ≤ above h c) (omega arith) (λ m _ ih. omega (arith, ih, above-up m c)) k l,
+  whole-below (above k c + 2 ^ k) c h k l (omega arith),
+)
+
 -- ---- aligned nodes
 
 pub unique : (h a c : ℕ) → above h a ≡ a → a ≤ c → c < a + 2 ^ h → above h c ≡ a
@@ -112,14 +126,9 @@ pub parent-right : (k a : ℕ) → above (suc k) a ≡ a → above (suc k) (a + 
 parent-right k a e = unique (suc k) a (a + 2 ^ k) e (omega arith) (omega (arith, pow-pos k))
 
 pub parent-above : (k c : ℕ) → above (suc k) (above k c) ≡ above (suc k) c
-parent-above k c = unique (suc k) (above (suc k) c) (above k c) (above-aligned (suc k) c) (go .0) (go .1)
-  where
-    go : (above (suc k) c ≤ above k c) × (above k c < above (suc k) c + 2 ^ suc k)
-    go = cases (c / 2 ^ k % 2) refl
-      where
-        cases : (r : ℕ) → c / 2 ^ k % 2 ≡ r → (above (suc k) c ≤ above k c) × (above k c < above (suc k) c + 2 ^ suc k)
-        cases zero e = omega (arith, above-left k c e, pow-pos k)
-        cases (suc r) e = omega (arith, above-right k c (omega arith), pow-pos k)
+parent-above k c =
+    unique (suc k) (above (suc k) c) (above k c) (above-aligned (suc k) c) (above-up k c)
+    (omega (arith, above-in k c, above-in (suc k) c))
 
 -- an aligned node's left child is aligned
 pub aligned-left : (k a : ℕ) → above (suc k) a ≡ a → above k a ≡ a

@@ -8,6 +8,8 @@ use lib.Dec.{leb}
 use lib.ListN.{length, getD}
 use Rattle.tree.specs.declared.bin.RangeNode.the-variants.{Node as NodeOf}
 use Rattle.tree.proofs.BinLaws as nodes
+use Rattle.tree.proofs.NodeLaws as places
+use Rattle.tree.proofs.KinLaws as kin
 use Rattle.tree.proofs.RangeLaws.{range-is}
 use Rattle.tree.proofs.PackLaws as pack
 use Rattle.tree.proofs.ChunkLaws as chunk
@@ -39,6 +41,14 @@ first-plus-last = nodes.first-plus-last
 pub first-to-last : (b : ℕ) → first b ≤ last b
 first-to-last = nodes.first-to-last
 
+-- A node that covers chunk c is the one above c of some height;
+pub node-above : (b c : ℕ) → first b ≤ c → c ≤ last b → (h : ℕ) × (first b ≡ above h c) × (last b + 1 ≡ above h c + 2 ^ h)
+node-above = kin.node-above
+
+-- of two above c, the higher one covers the lower.
+pub above-nested : (h k c : ℕ) → h ≤ k → (above k c ≤ above h c) × (above h c + 2 ^ h ≤ above k c + 2 ^ k)
+above-nested = places.above-nested
+
 -- The node of the chunks that a node covers is that node.
 pub node-range : (b : ℕ) → nodeOfRange (first b) (last b) ≡ NodeOf b
 node-range b = range-is (first b) (last b) b refl refl
@@ -52,6 +62,10 @@ chunk-inside = chunk.chunk-inside
 -- and has 1 to S bytes.
 pub chunk-some : (S L : ℕ) → 0 < S → (c : ℕ) → c < chunks S L → (0 < size S L c) × (size S L c ≤ S)
 chunk-some = chunk.chunk-some
+
+-- A node inside a pack of N chunks is no higher than the least tree over them.
+pub height-bound : (N h : ℕ) → 2 ^ h ≤ N → h ≤ levels N
+height-bound = pack.high-bound
 
 -- The least tree over at most 2 ^ k chunks has at most 2 ^ k leaf places.
 pub places-small : (k N w : ℕ) → w ≡ leafPlaces N → N ≤ 2 ^ k → w ≤ 2 ^ k

@@ -185,30 +185,32 @@ module _ (F : Format) (t : List ℕ) (small : AreBytes t) (h : namedSize F ≤ l
     unfolding isEmpty emptyBytes placeSize
     none-name k e = rw (← e) (ap (λ (r : List ℕ). getD t 0 0 ∷ r) (names (F .addressing) .none-split t small h o .1) ∙ peel t small 0 (omega arith))
 
+-- ---- of a format: what it names
+
+-- a range any chunks,
+pub ranges-name : (F : Format) (f l : ℕ) → F .addressing ≡ Ranges → nameable F f l ≡ true
+unfolding nameable
+ranges-name F f l e = rw e
+
+-- a bin those of a node alone
+pub bins-name : (F : Format) (f l : ℕ) → F .addressing ≡ Bins → nameable F f l ≡ true → (first (f + l) ≡ f) × (last (f + l) ≡ l)
+unfolding nameable
+bins-name F f l e n = let b = bin-node f l (rw e at n) in (b .1, b .2)
+
 -- ---- of a format: the chunks of a node b, and a chunk c alone
 
 -- the node covers its own
 pub node-covers : (b : ℕ) → covers (first b + last b) (first b) (last b) ≡ true
 node-covers b = rw (first-plus-last b, eq-eqb (first b) (first b) refl, eq-eqb (last b) (last b) refl)
 
-module _ (F : Format) (b : ℕ) where
-  -- below the empty bin they are named
-  pub node-nameable : b < emptyBin → nameable F (first b) (last b) ≡ true
-  unfolding nameable
-  node-nameable h = by (F .addressing)
-    where
-      by : (a : Addressing) → nameableBy a (first b) (last b) ≡ true
-      by Bins = rw (lt-ltb (first b + last b) emptyBin (omega (arith, first-plus-last b, h)), node-covers b)
-      by Ranges = refl
-
-  -- below everything's they are not everything
-  pub node-part : b < everythingBin → isEverything F (first b) (last b) ≡ false
-  unfolding isEverything
-  node-part h = by (F .addressing)
-    where
-      by : (a : Addressing) → everythingBy a (first b) (last b) ≡ false
-      by Bins = ne-eqb (first b + last b) everythingBin (λ z. omega (arith, z, first-plus-last b, h))
-      by Ranges = refl
+-- below the empty bin they are named
+pub node-nameable : (F : Format) (b : ℕ) → b < emptyBin → nameable F (first b) (last b) ≡ true
+unfolding nameable
+node-nameable F b h = by (F .addressing)
+  where
+    by : (a : Addressing) → nameableBy a (first b) (last b) ≡ true
+    by Bins = rw (lt-ltb (first b + last b) emptyBin (omega (arith, first-plus-last b, h)), node-covers b)
+    by Ranges = refl
 
 -- chunk c is that of leaf 2 * c
 leaf : (c : ℕ) → (first (2 * c) ≡ c) × (last (2 * c) ≡ c)
@@ -217,9 +219,14 @@ leaf c =
     let e : first (2 * c) ≡ c = ap first n ∙ first-chunk 0 c ∙ omega arith in
     (e, omega (arith, e, first-plus-last (2 * c)))
 
-module _ (F : Format) (c : ℕ) (h : 2 * c < everythingBin) where
-  pub chunk-nameable : nameable F c c ≡ true
-  chunk-nameable = rw (leaf c .0, leaf c .1) at (node-nameable F (2 * c) (omega (arith, h)))
+pub chunk-nameable : (F : Format) (c : ℕ) → 2 * c < emptyBin → nameable F c c ≡ true
+chunk-nameable F c h = rw (leaf c .0, leaf c .1) at (node-nameable F (2 * c) h)
 
-  pub chunk-part : isEverything F c c ≡ false
-  chunk-part = rw (leaf c .0, leaf c .1) at (node-part F (2 * c) h)
+-- chunks whose bin would be below everything's are not everything
+pub not-everything : (F : Format) (f l : ℕ) → f + l < everythingBin → isEverything F f l ≡ false
+unfolding isEverything
+not-everything F f l h = by (F .addressing)
+  where
+    by : (a : Addressing) → everythingBy a f l ≡ false
+    by Bins = ne-eqb (f + l) everythingBin (λ z. omega (arith, z, h))
+    by Ranges = refl

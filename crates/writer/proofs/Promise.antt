@@ -32,7 +32,7 @@ unfoldable pub use Rattle.writer.specs.Steps.{sizeOf, optionSpan}
 pub use Rattle.writer.specs.Steps.{allowed, faultBehind}
 pub use Rattle.writer.proofs.PlaceLaws.{size32, size-name}
 pub use Rattle.writer.proofs.NumberLaws.{be32-fits}
-pub use Rattle.writer.proofs.NameLaws.{node-covers, node-nameable, node-part, chunk-nameable, chunk-part}
+pub use Rattle.writer.proofs.NameLaws.{ranges-name, bins-name, node-covers, node-nameable, chunk-nameable, not-everything}
 pub use Rattle.writer.proofs.RoundTrips.{Plain, rewritable}
 pub use Rattle.writer.proofs.ComposeLaws.{Joining, notedAll}
 use Rattle.format.specs.declared.Format.{Format}

@@ -36,7 +36,7 @@ fn agrees(name: &str, input: &OsStr, output: &OsStr) {
 #[test]
 fn named_traces() {
     let names = named();
-    assert_eq!(names.len(), 98);
+    assert_eq!(names.len(), 104);
     for name in names {
         let path = traces().join(&name);
         let files = ["hex", "out"].map(|ending| path.with_extension(ending));

@@ -1,7 +1,7 @@
 //! Traces of a store under bins: what its messages name in words, and why they are refused.
 
-use crate::support::{refused, rows, File, Trace, ABC, PEER};
-use ppspp::{Addressing, Order, Store};
+use crate::support::{refused, rows, File, Server, Trace, ABC, PEER};
+use ppspp::Addressing;
 use second::hex;
 use second::packets::bins::{
     ack, cancel, data, fixed, have, integrity, request, EMPTY, EVERYTHING,
@@ -163,7 +163,7 @@ fn whole_rows_of_a_stored_chunk() {
         "line 4    clock 5, to channel 1 (row 0, peer's channel 17)",
         "messages  DATA of chunk 0 (bin 0), 3 bytes, sent at 3",
         "answer    00 done",
-        "effect    stored chunk 0; acknowledged it to the peer's channel 17; the pack is whole",
+        "effect    stored chunk 0; acknowledges chunk 0 (bin 0) to the peer's channel 17; the pack is whole",
         "reply     to channel 17: ACK of chunk 0 (bin 0), delay 2",
     ];
     assert_eq!(abc().last(), wanted);
@@ -187,18 +187,9 @@ fn recorded_answers_agree() {
 
 #[test]
 fn recorded_download_is_explained() {
-    let content: Vec<u8> = (0..=250).cycle().take(7_162).collect();
-    let order = Order::to_build(7_162).addressing(Addressing::Bins);
-    let mut server = Store::build(order, &content).expect("a pack's length");
-    let calling = server.open(5).expect("a free row").to_vec();
-    // A HANDSHAKE to channel 5 from channel 1: what the server sent, from there.
-    let answering = [&calling[5..9], &[0, 0, 0, 0, 1], &calling[9..]].concat();
-    server.take(0, 0, &answering).expect("it opens");
-    let root = hex::encode(&server.order().expect("it was built").root);
-    let trace = Trace::under_bins(&root, 7_162).opened(PEER);
-    let trace = (0..7).fold(trace, |trace, chunk| {
-        trace.datagram(server.write(5, chunk, 0).expect("it is held"))
-    });
+    let mut server = Server::new(Addressing::Bins, 7_162);
+    let trace = server.trace();
+    let trace = (0..7).fold(trace, |trace, chunk| trace.datagram(&server.written(chunk)));
     let hashes = "INTEGRITY of chunks 0..3 (bin 3), chunks 4..5 (bin 9), chunk 6 (bin 12)";
     let data = "DATA of chunk 6 (bin 12), 1,018 bytes, sent at 0";
     told(&trace, &format!("messages  {hashes}; {data}"));

@@ -71,13 +71,14 @@ fn whole_rows_of_a_stored_chunk() {
         "line 3    clock 5, to channel 1 (row 0, peer's channel 17)",
         "messages  DATA of chunk 0, 3 bytes, sent at 7",
         "answer    00 done",
-        "effect    stored chunk 0; acknowledged it to the peer's channel 17; the pack is whole",
+        "effect    stored chunk 0; acknowledges chunk 0 to the peer's channel 17; the pack is whole",
         "reply     to channel 17: ACK of chunk 0, delay 18446744073709551614",
     ];
     assert_eq!(trace.last(), wanted);
     let again = trace.take(&[&data(0, 0, 0, b"abc")]);
-    let effect = "chunk 0 was held already and is right again, nothing stored; acknowledged it to the peer's channel 17";
-    done(&again, effect);
+    let held = "chunk 0 was held already and is right again, nothing stored";
+    let effect = format!("{held}; acknowledges chunk 0 to the peer's channel 17");
+    done(&again, &effect);
 }
 
 #[test]

@@ -46,7 +46,7 @@ fn no_row_is_wider_than_a_terminal() {
 #[test]
 fn json_of_all_named_traces_is_valid() {
     let files = named();
-    assert_eq!(files.len(), 98);
+    assert_eq!(files.len(), 104);
     let written: Vec<File> = files.iter().map(|files| json(files)).collect();
     let program = "import json, sys
 for name in sys.argv[1:]:
@@ -71,19 +71,25 @@ print(whole['answers'], whole['order']['length'], whole['agrees'], whole['held']
 for line in whole['lines']:
     messages = [message['type'] for message in line['messages'] or []]
     print(line['line'], line['clock'], line['destination'], line['channel'], messages, line['answer']['code'])
-    print(line['answer']['reason'], line['effects'], line['reply'] and line['reply']['text'])
+    print(line['answer']['reason'], line['effects'])
+    print(line['acknowledged'], line['reply'] and line['reply']['text'])
 print([(r['code'], r['times']) for r in whole['refusals']])";
     let open = "{'id': 1, 'row': 0, 'peer': 17}";
+    let one = "{'first': 0, 'last': 0, 'chunks': 1}";
     let wanted = format!(
         "library 3 None [[0, 0]] [] True
 2 0 0 None ['HANDSHAKE'] 00
-None [\"opened channel 1 in row 0 for the peer's channel 17\"] HANDSHAKE from channel 1 with the profile's options, root ba7816bf..
+None [\"opened channel 1 in row 0 for the peer's channel 17\"]
+None HANDSHAKE from channel 1 with the profile's options, root ba7816bf..
 3 0 1 {open} ['HAVE', None] 02
-message 2 at byte 13 (digit 43): type 7 is unknown [] None
+message 2 at byte 13 (digit 43): type 7 is unknown []
+None None
 4 0 1 {open} ['DATA'] 00
-None ['stored chunk 0', \"acknowledged it to the peer's channel 17\", 'the pack is whole'] ACK of chunk 0, delay 0
+None ['stored chunk 0', \"acknowledges chunk 0 to the peer's channel 17\", 'the pack is whole']
+{one} ACK of chunk 0, delay 0
 5 None None None [] 0f
-character 1 is '\"', no hexadecimal digit [] None
+character 1 is '\"', no hexadecimal digit []
+None None
 [('02', 1), ('0f', 1)]
 "
     );

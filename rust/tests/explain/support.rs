@@ -1,5 +1,6 @@
 //! Runs of `explain`, and traces for them.
 
+use ppspp::{Addressing, Order, Store};
 use second::hex;
 use second::packets::{bins, fixed, handshake, to};
 use std::ffi::OsStr;
@@ -160,6 +161,42 @@ impl Trace {
         let parts = ran.text.split("\n\n");
         let mut told = parts.filter(|part| part.starts_with(&start));
         rows(told.next().expect("the line is told"))
+    }
+}
+
+/// A whole store of a pack, with a channel open to channel 1 of a trace.
+pub struct Server {
+    store: Store,
+}
+
+impl Server {
+    /// One with the pack of a length.
+    pub fn new(addressing: Addressing, length: u32) -> Server {
+        let content: Vec<u8> = (0..=250).cycle().take(length as usize).collect();
+        let order = Order::to_build(length).addressing(addressing);
+        let mut store = Store::build(order, &content).expect("a pack's length");
+        let calling = store.open(PEER).expect("a free row").to_vec();
+        // A HANDSHAKE to the server's channel from channel 1: what the server sent, from there.
+        let answering = [&calling[5..9], &[0, 0, 0, 0, 1], &calling[9..]].concat();
+        store.take(0, 0, &answering).expect("it opens");
+        Server { store }
+    }
+
+    /// A trace under its order, with a channel open to it.
+    pub fn trace(&self) -> Trace {
+        let order = self.store.order().expect("it was built");
+        let root = hex::encode(&order.root);
+        let trace = match order.known_addressing() {
+            Some(Addressing::Bins) => Trace::under_bins(&root, order.length),
+            _ => Trace::new(&root, order.length),
+        };
+        trace.opened(PEER)
+    }
+
+    /// The datagram of a chunk.
+    pub fn written(&mut self, chunk: u32) -> Vec<u8> {
+        let datagram = self.store.write(PEER, chunk, 0);
+        datagram.expect("a chunk of the pack").to_vec()
     }
 }
 

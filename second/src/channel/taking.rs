@@ -5,6 +5,7 @@ use super::rooms::{bit, clear_range, set_bit, set_range};
 use super::{Phase, Rooms, Row, Sizes, State};
 use crate::answer;
 use crate::climb::Order;
+use crate::run::biggest_interval;
 use crate::sha256::Digest;
 use crate::tree::{self, CHUNK_SIZE};
 use crate::wire::MIN_SIZE;
@@ -132,7 +133,7 @@ fn take_messages<N: Names>(
     if let Some(data) = data {
         let order = Order::new(&state.root, state.length);
         store(&order, rooms, came, &data)?;
-        length = acknowledge::<N>(rooms.reply, row.peer, &data);
+        length = acknowledge::<N>(rooms, count, row.peer, &data);
     }
     if came.has_effects {
         apply::<N>(came.datagram, count, row, rooms.channel_rows(index, sizes));
@@ -159,16 +160,18 @@ fn store<N: Names>(
     Ok(())
 }
 
-/// "One ACK naming that chunk alone, its delay the clock minus the timestamp
-/// modulo 2^64."
-fn acknowledge<N: Names>(reply: &mut [u8], peer: u32, data: &Data) -> usize {
+/// One ACK for a chunk that is held by now, naming "the biggest complete interval
+/// that covers it" (02, No. 2), "its delay the clock minus the timestamp modulo
+/// 2^64". The pack has `count` chunks.
+fn acknowledge<N: Names>(rooms: &mut Rooms, count: u32, peer: u32, data: &Data) -> usize {
+    let (first, last) = biggest_interval(N::ADDRESSING, rooms.map, count, data.chunk);
     let ack = Message::Ack {
-        first: data.chunk,
-        last: data.chunk,
+        first,
+        last,
         delay: data.delay,
     };
-    let length = address(reply, peer);
-    append::<N>(reply, length, &ack, &[])
+    let length = address(rooms.reply, peer);
+    append::<N>(rooms.reply, length, &ack, &[])
 }
 
 /// The effects of the messages of a datagram of sound layout on its channel, in

@@ -1,6 +1,7 @@
 //! The channel part against 01's words and against the list of traps, whose
 //! numbers the tests give.
 
+mod acks;
 mod adding;
 mod any;
 mod chunks;

@@ -54,7 +54,7 @@ fn closed() -> Named {
     script.take(5, 5, &[]);
     script.open(5);
     script.take(5, 1, &[]);
-    script.acknowledged(3, 5, 0, &[]);
+    script.acknowledged(3, 5, 0, 0..=0, &[]);
     script.close(2);
     script.close(3);
     script.take(5, 3, &[]);
@@ -73,7 +73,7 @@ fn sources() -> Named {
         script.open(source);
     }
     for (id, source) in [(1, 2), (2, 1), (3, 2), (4, u32::MAX)] {
-        script.acknowledged(id, source, 0, &[]);
+        script.acknowledged(id, source, 0, 0..=0, &[]);
     }
     script.named(
         "ff0001",

@@ -37,7 +37,7 @@ fn wrong_length() -> Named {
     for length in [0, 1017, 1019, 1024] {
         script.take(8, 1, &[&last, &data(6, 6, 0, &vec![1; length])]);
     }
-    script.stored(6, &[3, 9, 12]);
+    script.stored(6, 6..=6, &[3, 9, 12]);
     script.named(
         "f00001",
         "wrong-length",
@@ -78,7 +78,7 @@ fn each_needed_hash() -> Named {
     script.refused(9, 0, &[5, 2]);
     // Node 7 is trusted, but above the peaks; 1 and 11 are no siblings.
     script.refused(9, 0, &[1, 2, 5]);
-    script.stored(0, &WITH_0);
+    script.stored(0, 0..=0, &WITH_0);
     script.named(
         "f00001",
         "each-needed-hash",
@@ -94,11 +94,11 @@ fn power_of_two() -> Named {
     script.refused(9, 0, &[2]);
     script.refused(9, 0, &[3, 5]);
     // Node 3 is the root: a wrong hash for it is not looked at.
-    script.acknowledged(1, PEER, 0, &[&needed, &wrong(3)]);
+    script.acknowledged(1, PEER, 0, 0..=0, &[&needed, &wrong(3)]);
     script.take(10, 1, &[&needed, &data(1, 1, 0, &chunk[17..])]);
-    script.stored(1, &[]);
-    script.stored(3, &[4]);
-    script.stored(2, &[]);
+    script.stored(1, 0..=1, &[]);
+    script.stored(3, 3..=3, &[4]);
+    script.stored(2, 0..=3, &[]);
     script.named(
         "ff0004",
         "power-of-two",
@@ -114,7 +114,7 @@ fn one_chunk() -> Named {
     // The hash of the leaf, which is the root, is not looked at.
     let root = script.pack.root;
     script.take(10, 1, &[&integrity(0, 0, &root), &data(0, 0, 0, b"abd")]);
-    script.acknowledged(1, PEER, 0, &[&wrong(0)]);
+    script.acknowledged(1, PEER, 0, 0..=0, &[&wrong(0)]);
     script.named(
         "ff0001",
         "one-chunk",
@@ -130,11 +130,11 @@ fn chunk_that_is_a_peak() -> Named {
     let peaks = script.hashes(&[3, 9, 12]);
     let damaged = script.damaged(6);
     script.take(10, 1, &[&peaks, &damaged]);
-    script.stored(6, &[3, 9, 12]);
+    script.stored(6, 6..=6, &[3, 9, 12]);
     // The peaks are trusted now.
     script.refused(9, 4, &[]);
-    script.stored(4, &[10]);
-    script.stored(5, &[]);
+    script.stored(4, 4..=4, &[10]);
+    script.stored(5, 4..=6, &[]);
     script.named(
         "f00003",
         "chunk-that-is-a-peak",
@@ -156,7 +156,7 @@ fn damaged_hash() -> Named {
     // A filler's zeros for a peak.
     let others = script.hashes(&[3, 5, 9, 2]);
     script.take(10, 1, &[&others, &node_hash(12, &[0; 32]), &chunk]);
-    script.stored(0, &WITH_0);
+    script.stored(0, 0..=0, &WITH_0);
     script.named(
         "f00001",
         "damaged-hash",
@@ -167,7 +167,7 @@ fn damaged_hash() -> Named {
 
 fn trusted_leaf() -> Named {
     let mut script = Script::opened(seven());
-    script.stored(0, &WITH_0);
+    script.stored(0, 0..=0, &WITH_0);
     let mut forged = script.pack.chunk(1).to_vec();
     forged[500] ^= 1;
     let leaf = node_hash(2, &sha256(&forged));
@@ -176,7 +176,7 @@ fn trusted_leaf() -> Named {
     script.take(10, 1, &[&forged]);
     script.take(10, 1, &[&leaf, &forged]);
     script.take(10, 1, &[&all, &leaf, &forged]);
-    script.stored(1, &[]);
+    script.stored(1, 0..=1, &[]);
     script.named(
         "f00002",
         "trusted-leaf",
@@ -187,20 +187,20 @@ fn trusted_leaf() -> Named {
 
 fn held_chunk() -> Named {
     let mut script = Script::opened(seven());
-    script.stored(0, &WITH_0);
-    script.stored(0, &[]);
-    script.stored(0, &WITH_0);
+    script.stored(0, 0..=0, &WITH_0);
+    script.stored(0, 0..=0, &[]);
+    script.stored(0, 0..=0, &WITH_0);
     // Wrong hashes for all other nodes.
     let wrong: Vec<u8> = [1, 2, 3, 4, 5, 6, 8, 9, 10, 12]
         .into_iter()
         .flat_map(wrong)
         .collect();
-    script.acknowledged(1, PEER, 0, &[&wrong]);
+    script.acknowledged(1, PEER, 0, 0..=0, &[&wrong]);
     let damaged = script.damaged(0);
     script.take(10, 1, &[&damaged]);
     script.take(8, 1, &[&data(0, 0, 0, &[1; 1018])]);
     // Nothing of the wrong ones is kept.
-    script.stored(2, &[6]);
+    script.stored(2, 2..=2, &[6]);
     script.named(
         "f00002",
         "held-chunk",
@@ -225,7 +225,7 @@ fn delays() -> Named {
         ),
     ] {
         let datagram = to(1, &[&data(0, 0, time, b"abc")]);
-        script.line(frame(clock, &datagram), &ack_line(PEER, 0, delay));
+        script.line(frame(clock, &datagram), &ack_line(PEER, 0..=0, delay));
     }
     script.named(
         "ff0001",
@@ -238,14 +238,14 @@ fn delays() -> Named {
 fn two_channels() -> Named {
     let mut script = Script::opened(seven());
     script.open(0x22);
-    script.stored(0, &WITH_0);
-    // What came on one channel serves the other.
-    script.acknowledged(2, 0x22, 1, &[]);
-    script.acknowledged(2, 0x22, 0, &[]);
+    script.stored(0, 0..=0, &WITH_0);
+    // What came on one channel serves the other, and counts in its ACKs.
+    script.acknowledged(2, 0x22, 1, 0..=1, &[]);
+    script.acknowledged(2, 0x22, 0, 0..=1, &[]);
     script.close(1);
-    script.acknowledged(2, 0x22, 6, &[]);
+    script.acknowledged(2, 0x22, 6, 6..=6, &[]);
     script.open(0x33);
-    script.acknowledged(3, 0x33, 1, &[]);
+    script.acknowledged(3, 0x33, 1, 0..=1, &[]);
     script.named(
         "f00003",
         "two-channels",

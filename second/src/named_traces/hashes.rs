@@ -33,13 +33,13 @@ pub fn traces() -> Vec<Named> {
 
 fn wrong_peaks() -> Named {
     let mut script = Script::opened(seven());
-    script.stored(0, &[3, 5, 9, 2, 12]);
+    script.stored(0, 0..=0, &[3, 5, 9, 2, 12]);
     let peaks = [wrong(3), wrong(9), wrong(12)].concat();
-    script.acknowledged(1, PEER, 1, &[&peaks]);
+    script.acknowledged(1, PEER, 1, 0..=1, &[&peaks]);
     let leaf = script.hashes(&[6]);
-    script.acknowledged(1, PEER, 2, &[&peaks, &leaf]);
+    script.acknowledged(1, PEER, 2, 0..=2, &[&peaks, &leaf]);
     // They are not kept.
-    script.stored(6, &[]);
+    script.stored(6, 6..=6, &[]);
     script.named(
         "f00004",
         "wrong-peaks-not-needed",
@@ -53,17 +53,18 @@ fn wrong_not_needed() -> Named {
     let needed = script.hashes(&[3, 5, 9, 2, 12]);
     // The leaf itself, a climbed node, and nodes elsewhere.
     let others = [wrong(0), wrong(1), wrong(4), wrong(10)].concat();
-    script.acknowledged(1, PEER, 0, &[&others, &needed]);
+    script.acknowledged(1, PEER, 0, 0..=0, &[&others, &needed]);
     // Node 5 is trusted: nothing above it, nor the leaf, is looked at.
     let leaf = script.hashes(&[6]);
     script.acknowledged(
         1,
         PEER,
         2,
+        2..=2,
         &[&wrong(4), &leaf, &wrong(1), &wrong(3), &wrong(8)],
     );
-    script.stored(4, &[10]);
-    script.stored(3, &[]);
+    script.stored(4, 4..=4, &[10]);
+    script.stored(3, 2..=4, &[]);
     script.named(
         "f00004",
         "wrong-hashes-not-needed",
@@ -77,7 +78,7 @@ fn fillers(length: u32, peaks: &[u64], name: &'static str, shows: &'static str) 
     let mut script = Script::opened(pattern(length));
     let last = (length - 1) / 1024;
     script.refused(9, last, &peaks[1..]);
-    script.stored(last, peaks);
+    script.stored(last, last..=last, peaks);
     script.named(
         "f00001",
         name,
@@ -93,8 +94,8 @@ fn zero_peak() -> Named {
     pack.order_zero_peak();
     let mut script = Script::opened(pack);
     script.refused(10, 2, &[1, 4]);
-    script.stored(0, &[1, 4, 2]);
-    script.stored(1, &[]);
+    script.stored(0, 0..=0, &[1, 4, 2]);
+    script.stored(1, 0..=1, &[]);
     script.refused(10, 2, &[]);
     script.named(
         "f00002",
@@ -107,12 +108,12 @@ fn zero_peak() -> Named {
 fn both_sides() -> Named {
     let mut script = Script::opened(pattern(4_096));
     // From the right: both siblings stand left.
-    script.stored(3, &[4, 1]);
+    script.stored(3, 3..=3, &[4, 1]);
     script.refused(9, 0, &[]);
     // Node 1 is trusted; its leaves are not.
-    script.stored(1, &[0]);
-    script.stored(2, &[]);
-    script.stored(0, &[]);
+    script.stored(1, 1..=1, &[0]);
+    script.stored(2, 1..=3, &[]);
+    script.stored(0, 0..=3, &[]);
     script.named(
         "ff0004",
         "both-sides",
@@ -136,8 +137,8 @@ fn any_order() -> Named {
         &UNCHOKE,
         &e,
     ];
-    script.acknowledged(1, PEER, 0, &messages);
-    script.acknowledged(1, PEER, 1, &[&cancel(0, 6), &ack(0, 0, 7)]);
+    script.acknowledged(1, PEER, 0, 0..=0, &messages);
+    script.acknowledged(1, PEER, 1, 0..=1, &[&cancel(0, 6), &ack(0, 0, 7)]);
     script.named(
         "f00002",
         "hashes-in-any-order",
@@ -152,14 +153,14 @@ fn alone() -> Named {
     script.take(0, 1, &[&all]);
     script.refused(9, 0, &[]);
     script.take(0, 1, &[&wrong(3), &wrong(9), &wrong(12)]);
-    script.stored(0, &[3, 5, 9, 2, 12]);
+    script.stored(0, 0..=0, &[3, 5, 9, 2, 12]);
     script.take(0, 1, &[&wrong(2)]);
-    script.stored(1, &[]);
+    script.stored(1, 0..=1, &[]);
     // The leaves of chunks 5 and 4.
     let leaf = script.hashes(&[10]);
     script.take(0, 1, &[&leaf, &wrong(8)]);
     script.refused(9, 5, &[]);
-    script.stored(4, &[10]);
+    script.stored(4, 4..=4, &[10]);
     script.named(
         "f00003",
         "hashes-alone",
@@ -173,12 +174,12 @@ fn extra() -> Named {
     // Leaves 10 and 6 come along, right and wrong, and are not needed.
     let needed = script.hashes(&[3, 5, 9, 2, 12]);
     let leaf = script.hashes(&[10]);
-    script.acknowledged(1, PEER, 0, &[&needed, &leaf, &wrong(6)]);
+    script.acknowledged(1, PEER, 0, 0..=0, &[&needed, &leaf, &wrong(6)]);
     script.refused(9, 4, &[]);
     script.refused(9, 5, &[]);
-    script.stored(2, &[6]);
-    script.stored(4, &[10]);
-    script.stored(5, &[]);
+    script.stored(2, 2..=2, &[6]);
+    script.stored(4, 4..=4, &[10]);
+    script.stored(5, 4..=5, &[]);
     script.named(
         "f00004",
         "extra-hashes",

@@ -241,7 +241,7 @@ fn messages_inside_data() -> Named {
     // A second DATA behind a first is part of its chunk.
     script.take(8, 1, &[&chunk, &chunk]);
     script.take(8, 1, &[&chunk, &CHOKE]);
-    script.stored(0, &[]);
+    script.stored(0, 0..=0, &[]);
     script.named(
         "ff0001",
         "messages-inside-data",

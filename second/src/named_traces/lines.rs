@@ -114,7 +114,7 @@ fn too_many_digits() -> Named {
 fn long_line() -> Named {
     let mut script = Script::opened(abc());
     script.line("0".repeat(200_000), "0f");
-    script.stored(0, &[]);
+    script.stored(0, 0..=0, &[]);
     script.line([0; 10_000], "0f");
     script.take(0, 1, &[]);
     script.named(
@@ -178,7 +178,7 @@ fn mixed_case() -> Named {
     script.line(mixed(&opening), &format!("00abcdef99{reply}"));
     let chunk = script.data(0);
     let line = frame(0xabcdef, &to(1, &[&chunk])).to_uppercase();
-    script.line(line, &ack_line(0xabcd_ef99, 0, 0x00ab_cdef));
+    script.line(line, &ack_line(0xabcd_ef99, 0..=0, 0x00ab_cdef));
     script.named(
         "ff0001",
         "mixed-case",
@@ -190,17 +190,7 @@ fn mixed_case() -> Named {
 fn whole_32() -> Named {
     let mut script = Script::opened(pattern(32_768));
     for chunk in 0..32 {
-        let needed = match chunk {
-            0 => vec![2, 5, 11, 23, 47],
-            // Even chunks need the leaf of the next one, and whatever is not yet
-            // trusted above it.
-            16 => vec![34, 37, 43, 55],
-            8 | 24 => vec![2 * chunk + 2, 2 * chunk + 5, 2 * chunk + 11],
-            4 | 12 | 20 | 28 => vec![2 * chunk + 2, 2 * chunk + 5],
-            even if even % 2 == 0 => vec![2 * chunk + 2],
-            _ => vec![],
-        };
-        script.stored(chunk as u32, &needed);
+        script.stored(chunk, 0..=chunk, &least_of_32(chunk));
     }
     script.named(
         "ff0020",

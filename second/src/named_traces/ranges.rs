@@ -86,7 +86,7 @@ fn nodes_past() -> Named {
     let good = script.hashes(&[3, 9, 12]);
     let chunk = script.data(6);
     script.take(7, 1, &[&good, &integrity(7, 7, &[0; 32]), &chunk]);
-    script.stored(6, &[3, 9, 12]);
+    script.stored(6, 6..=6, &[3, 9, 12]);
     script.named(
         "f00001",
         "nodes-past",
@@ -118,7 +118,7 @@ fn nothing_done() -> Named {
     // The hashes are needed as before.
     script.refused(9, 0, &[]);
     script.refused(9, 1, &[]);
-    script.stored(0, &[3, 5, 9, 2, 12]);
+    script.stored(0, 0..=0, &[3, 5, 9, 2, 12]);
     script.named(
         "f00001",
         "range-refuses-chunk",

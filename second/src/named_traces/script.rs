@@ -4,6 +4,7 @@ use super::Named;
 use crate::hex;
 use crate::packets::*;
 use crate::traces::pack::Pack;
+use std::ops::RangeInclusive;
 
 /// The peer's channel number of the first channel in most traces.
 pub const PEER: u32 = 0x11;
@@ -23,6 +24,10 @@ pub fn pattern(length: u32) -> Pack {
     let byte = |i| ((i * 131 + i / 251) % 253) as u8;
     Pack::of((0..length).map(byte).collect())
 }
+
+/// The chunks that an ACK names: the longest run of held ones around the chunk that
+/// is taken, that one held too (02, No. 2).
+pub type Run = RangeInclusive<u32>;
 
 /// A trace so far.
 pub struct Script {
@@ -126,16 +131,17 @@ impl Script {
     }
 
     /// A right chunk on channel 1 with the hashes of these nodes, which is taken
-    /// and acknowledged.
-    pub fn stored(&mut self, chunk: u32, nodes: &[u64]) {
+    /// and acknowledged by a run.
+    pub fn stored(&mut self, chunk: u32, run: Run, nodes: &[u64]) {
         let hashes = self.hashes(nodes);
-        self.acknowledged(1, PEER, chunk, &[&hashes]);
+        self.acknowledged(1, PEER, chunk, run, &[&hashes]);
     }
 
-    /// A right chunk behind these messages, which is taken and acknowledged.
-    pub fn acknowledged(&mut self, id: u32, peer: u32, chunk: u32, messages: &[&[u8]]) {
+    /// A right chunk behind these messages, which is taken and acknowledged by a
+    /// run.
+    pub fn acknowledged(&mut self, id: u32, peer: u32, chunk: u32, run: Run, messages: &[&[u8]]) {
         let datagram = to(id, &[&messages.concat(), &self.data(chunk)]);
-        self.line(frame(0, &datagram), &ack_line(peer, chunk, 0));
+        self.line(frame(0, &datagram), &ack_line(peer, run, 0));
     }
 
     /// A right chunk on channel 1 with the hashes of these nodes, refused.
@@ -169,7 +175,24 @@ pub fn frame(clock: u64, datagram: &[u8]) -> String {
     format!("{clock:016x}{}", hex::encode(datagram))
 }
 
-/// The answer for a chunk that is taken.
-pub fn ack_line(peer: u32, chunk: u32, delay: u64) -> String {
-    format!("00{peer:08x}02{chunk:08x}{chunk:08x}{delay:016x}")
+/// The answer for a chunk that is taken: an ACK that names a run.
+pub fn ack_line(peer: u32, run: Run, delay: u64) -> String {
+    let (first, last) = run.into_inner();
+    format!("00{peer:08x}02{first:08x}{last:08x}{delay:016x}")
+}
+
+/// The nodes whose hashes must come with a chunk of 32 where the even ones come in
+/// rising order, and each odd one behind the even one before it.
+pub fn least_of_32(chunk: u32) -> Vec<u64> {
+    let leaf = 2 * u64::from(chunk);
+    match chunk {
+        0 => vec![2, 5, 11, 23, 47],
+        // Even chunks need the leaf of the next one, and whatever is not yet
+        // trusted above it.
+        16 => vec![34, 37, 43, 55],
+        8 | 24 => vec![leaf + 2, leaf + 5, leaf + 11],
+        4 | 12 | 20 | 28 => vec![leaf + 2, leaf + 5],
+        even if even % 2 == 0 => vec![leaf + 2],
+        _ => vec![],
+    }
 }

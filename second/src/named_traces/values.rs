@@ -57,7 +57,7 @@ fn every_number() -> Named {
     let damaged = script.damaged(0);
     script.take(10, 1, &[&all, &damaged]);
     script.line("", "0f");
-    script.stored(0, &[3, 5, 9, 2, 12]);
+    script.stored(0, 0..=0, &[3, 5, 9, 2, 12]);
     script.named(
         "f00001",
         "every-number",
@@ -68,13 +68,13 @@ fn every_number() -> Named {
 
 fn seven_least() -> Named {
     let mut script = Script::opened(seven());
-    script.stored(0, &[3, 5, 9, 2, 12]);
-    script.stored(1, &[]);
-    script.stored(2, &[6]);
-    script.stored(3, &[]);
-    script.stored(4, &[10]);
-    script.stored(5, &[]);
-    script.stored(6, &[]);
+    script.stored(0, 0..=0, &[3, 5, 9, 2, 12]);
+    script.stored(1, 0..=1, &[]);
+    script.stored(2, 0..=2, &[6]);
+    script.stored(3, 0..=3, &[]);
+    script.stored(4, 0..=4, &[10]);
+    script.stored(5, 0..=5, &[]);
+    script.stored(6, 0..=6, &[]);
     script.named(
         "ff0007",
         "seven-least-hashes",
@@ -85,13 +85,13 @@ fn seven_least() -> Named {
 
 fn seven_all() -> Named {
     let mut script = Script::opened(seven());
-    script.stored(0, &[3, 5, 9, 2, 12]);
-    script.stored(1, &[3, 5, 9, 0, 12]);
-    script.stored(2, &[3, 1, 9, 6, 12]);
-    script.stored(3, &[3, 1, 9, 4, 12]);
-    script.stored(4, &[3, 9, 10, 12]);
-    script.stored(5, &[3, 9, 8, 12]);
-    script.stored(6, &[3, 9, 12]);
+    script.stored(0, 0..=0, &[3, 5, 9, 2, 12]);
+    script.stored(1, 0..=1, &[3, 5, 9, 0, 12]);
+    script.stored(2, 0..=2, &[3, 1, 9, 6, 12]);
+    script.stored(3, 0..=3, &[3, 1, 9, 4, 12]);
+    script.stored(4, 0..=4, &[3, 9, 10, 12]);
+    script.stored(5, 0..=5, &[3, 9, 8, 12]);
+    script.stored(6, 0..=6, &[3, 9, 12]);
     script.named(
         "ff0007",
         "seven-all-hashes",
@@ -104,7 +104,7 @@ fn short_pack(length: u32, name: &'static str, shows: &'static str) -> Named {
     let mut script = Script::opened(pattern(length));
     script.take(0, 1, &[&have(0, 0)]);
     script.take(7, 1, &[&have(0, 1)]);
-    script.stored(0, &[]);
+    script.stored(0, 0..=0, &[]);
     script.named(
         "ff0001",
         name,
@@ -118,8 +118,8 @@ fn length_1025() -> Named {
     script.take(0, 1, &[&have(0, 1)]);
     script.take(7, 1, &[&have(0, 2)]);
     // One byte, and the hash of the other chunk.
-    script.stored(1, &[0]);
-    script.stored(0, &[]);
+    script.stored(1, 1..=1, &[0]);
+    script.stored(0, 0..=1, &[]);
     script.named(
         "ff0002",
         "length-1025",
@@ -155,7 +155,7 @@ fn peaks_kept() -> Named {
     script.take(10, 1, &[&all, &damaged]);
     script.refused(9, 0, &[5, 2]);
     script.refused(9, 6, &[]);
-    script.stored(0, &[3, 5, 9, 2, 12]);
+    script.stored(0, 0..=0, &[3, 5, 9, 2, 12]);
     script.named(
         "f00001",
         "error-peaks-kept",
@@ -172,7 +172,7 @@ fn five() -> Pack {
 
 fn fillers_hashed() -> Named {
     let mut script = Script::opened(five());
-    script.stored(4, &[3, 8]);
+    script.stored(4, 4..=4, &[3, 8]);
     script.named(
         "f00001",
         "error-fillers-hashed",
@@ -200,13 +200,13 @@ fn fillers_hashed_root() -> Named {
 
 fn repeat_unchecked() -> Named {
     let mut script = Script::opened(seven());
-    script.stored(0, &[3, 5, 9, 2, 12]);
+    script.stored(0, 0..=0, &[3, 5, 9, 2, 12]);
     let damaged = script.damaged(0);
     let all = script.hashes(&[3, 5, 9, 2, 12]);
     script.take(10, 1, &[&damaged]);
     script.take(10, 1, &[&all, &damaged]);
     script.take(8, 1, &[&data(0, 0, 0, &[0; 1018])]);
-    script.stored(0, &[]);
+    script.stored(0, 0..=0, &[]);
     script.named(
         "f00001",
         "error-repeat-unchecked",

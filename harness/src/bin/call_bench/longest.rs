@@ -1,8 +1,8 @@
 //! The calls of the loader's interface on the longest pack: building it, taking
-//! in its chunks, with all hashes and with the least, and again when they are
-//! held; writing each chunk; datagrams that do next to nothing, which show what a
-//! call costs at the least; one HAVE of all chunks; and as many of them as a
-//! datagram has room for. Then the same under bins, but for building.
+//! in its chunks, with all hashes and with the least, in order, and again when
+//! they are held; writing each chunk; datagrams that do next to nothing, which
+//! show what a call costs at the least; one HAVE of all chunks; and as many of
+//! them as a datagram has room for. Then the same under bins, but for building.
 
 use crate::jobs::{any_order, build, take, write, written, Ready, Task, CHANNEL};
 use harness::bench::{self, Job, Unit, NAMES};
@@ -43,7 +43,8 @@ pub fn measure() {
     let mut jobs = vec![build(once("build 512 KiB"), &ranges.whole, &pack)];
     jobs.extend(ranges.jobs("HAVE of 512 chunks", ""));
     jobs.extend(bins.jobs("HAVE of everything", ", under bins"));
-    let caption = "The calls of the interface, a pack of 512 KiB, its chunks in random order";
+    let caption =
+        "The calls of the interface, a pack of 512 KiB, its chunks in random order or in order";
     bench::measure(caption, &NAMES, jobs, RUN);
 }
 
@@ -52,9 +53,11 @@ struct Under<'a> {
     order: &'a [u32],
     fresh: Ready,
     whole: Ready,
-    /// The datagrams of the chunks, with all hashes and with the least.
+    /// The datagrams of the chunks, with all hashes and with the least; and in
+    /// order, with all.
     all: Vec<Vec<u8>>,
     least: Vec<Vec<u8>>,
+    in_order: Vec<Vec<u8>>,
     /// Datagrams of one HAVE, of some chunks and of all.
     few: Vec<Vec<u8>>,
     every: Vec<Vec<u8>>,
@@ -69,6 +72,7 @@ impl<'a> Under<'a> {
     /// With a HAVE of some chunks and one of all.
     fn new(addressing: Addressing, pack: &Pack, order: &'a [u32], have: [Vec<u8>; 2]) -> Self {
         let all = written(addressing, pack, order);
+        let chunks: Vec<u32> = (0..pack.count()).collect();
         let [few, every] = have;
         let haves = (MAX_SIZE - MIN_SIZE) / every.len();
         let of = |messages: &[Vec<u8>], times| vec![datagram(CHANNEL, messages); times];
@@ -77,6 +81,7 @@ impl<'a> Under<'a> {
             fresh: Ready::new(addressing, pack, false),
             whole: Ready::new(addressing, pack, true),
             least: least(addressing, pack, order, &all),
+            in_order: written(addressing, pack, &chunks),
             all,
             few: of(&[few], DATAGRAMS),
             most: of(&vec![every.clone(); haves], LONG),
@@ -104,6 +109,7 @@ impl<'a> Under<'a> {
         vec![
             take(once("take in 512 chunks with all hashes"), fresh, &self.all),
             take(once("the same with the least hashes"), fresh, &self.least),
+            take(once("take in 512 chunks in order"), fresh, &self.in_order),
             take(once("take in 512 chunks that are held"), whole, &self.all),
             write(once("write 512 chunks"), whole, self.order),
             take(of_one("take in one HAVE"), fresh, &self.few),

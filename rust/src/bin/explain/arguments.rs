@@ -19,8 +19,9 @@ bin that runs past the pack its part inside is told, such as chunks 4..6 (bin 11
 of the replay program.
 
 With --json it is one object: the order; its lines, one a row, each with line, clock, destination, channel, messages,
-answer, effects, reply and difference; then what is held and missing, whether that is whole, the refusals by number,
-and whether OUTPUT agrees.
+answer, effects, acknowledged, reply and difference; then what is held and missing, whether that is whole, the refusals
+by number, and whether OUTPUT agrees. Where a chunk was taken, acknowledged has what this library's ACK names: the first
+and the last chunk, under bins their bin, and how many chunks; else it is null.
 
 The status is 0 if OUTPUT has the library's answers, 1 if it has others, and 2 if nothing could be explained.
 ";

@@ -1,16 +1,32 @@
-//! What a datagram did that was taken, told from the store before and after it.
+//! What a datagram did that was taken, told from the store before and after it, and from the ACK in the reply.
 
+use crate::acknowledged::Acknowledged;
 use crate::known::{Known, Told};
 use crate::words;
 use ppspp::{destination, Channel, Message, Store};
 
-/// What the datagram did, in sentences; what its peer had told before is given for a channel that was open.
-pub fn of(datagram: &[u8], known: &Known, told: Option<&Told>, store: &Store) -> Vec<String> {
+/// What is known beside the store of a datagram that was taken.
+pub struct Taken<'a> {
+    /// The datagram.
+    pub datagram: &'a [u8],
+    /// What the store knew before it.
+    pub known: &'a Known,
+    /// What its peer had told before, for a channel that was open.
+    pub told: Option<&'a Told>,
+    /// What the ACK in the reply names.
+    pub acknowledged: Option<Acknowledged>,
+}
+
+/// What the datagram did, in sentences.
+pub fn of(taken: &Taken<'_>, store: &Store) -> Vec<String> {
+    let Taken {
+        datagram, known, ..
+    } = *taken;
     let read = known.naming().messages(datagram).flatten();
     let messages: Vec<Message<'_>> = read.map(|(_, message)| message).collect();
     let before = destination(datagram).and_then(|id| known.channel(id));
     let mut effects = match before {
-        Some(channel) => on_channel(channel, &messages, known, told, store),
+        Some(channel) => on_channel(channel, &messages, taken, store),
         None => opened(known, store),
     };
     if effects.is_empty() {
@@ -35,8 +51,7 @@ fn opened(known: &Known, store: &Store) -> Vec<String> {
 fn on_channel(
     before: Channel,
     messages: &[Message<'_>],
-    known: &Known,
-    told: Option<&Told>,
+    taken: &Taken<'_>,
     store: &Store,
 ) -> Vec<String> {
     let Channel { row, id, peer, .. } = before;
@@ -50,11 +65,11 @@ fn on_channel(
             let same = format!("channel {id} is open to the peer's channel {peer} already");
             effects.push(format!("{same}, nothing changed"));
         }
-        [.., Message::Data { first, .. }] => effects.extend(stored(*first, peer, known, store)),
+        [.., Message::Data { first, .. }] => effects.extend(stored(*first, peer, taken, store)),
         _ => {}
     }
-    if let Some(told) = told {
-        effects.extend(newly_told(told, &Told::of(store, row, known.n)));
+    if let Some(told) = taken.told {
+        effects.extend(newly_told(told, &Told::of(store, row, taken.known.n)));
     }
     match (before.choked, after.choked) {
         (false, true) => effects.push("the peer has choked us".to_string()),
@@ -69,14 +84,17 @@ fn on_channel(
 }
 
 /// What became of a chunk that was taken.
-fn stored(chunk: u32, peer: u32, known: &Known, store: &Store) -> Vec<String> {
-    let new = !known.holds(chunk);
+fn stored(chunk: u32, peer: u32, taken: &Taken<'_>, store: &Store) -> Vec<String> {
+    let new = !taken.known.holds(chunk);
     let mut effects = vec![if new {
         format!("stored chunk {chunk}")
     } else {
         format!("chunk {chunk} was held already and is right again, nothing stored")
     }];
-    effects.push(format!("acknowledged it to the peer's channel {peer}"));
+    effects.extend(taken.acknowledged.map(|acknowledged| {
+        let chunks = acknowledged.words();
+        format!("acknowledges {chunks} to the peer's channel {peer}")
+    }));
     if new && store.missing().next().is_none() {
         effects.push("the pack is whole".to_string());
     }

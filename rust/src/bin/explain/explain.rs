@@ -134,9 +134,14 @@ impl<'a> Run<'a> {
             Ok((frame, turn)) => self.follower.reason(turn, frame, number),
             Err(fault) => (number == BAD_LINE).then(|| fault.clone()),
         };
-        let (frame, channel, effects) = match taken {
-            Ok((frame, turn)) => (Some(frame), turn.channel, turn.effects),
-            Err(_) => (None, None, Vec::new()),
+        // They are the library's: where the output has another number, they say nothing of it.
+        let (effects, acknowledged) = match &taken {
+            Ok((_, turn)) if number == 0 => (turn.effects.clone(), turn.acknowledged),
+            _ => (Vec::new(), None),
+        };
+        let (frame, channel) = match taken {
+            Ok((frame, turn)) => (Some(frame), turn.channel),
+            Err(_) => (None, None),
         };
         self.lines += 1;
         self.agrees &= difference.is_none();
@@ -147,8 +152,8 @@ impl<'a> Run<'a> {
             frame,
             channel,
             answer: Answer { number, reason },
-            // They are the library's: where the output has another number, they say nothing of it.
-            effects: if number == 0 { effects } else { Vec::new() },
+            effects,
+            acknowledged,
             reply,
             difference,
         }

@@ -1,5 +1,6 @@
 //! What is told: the order, each line, and the end.
 
+use crate::acknowledged::Acknowledged;
 use crate::frame::Frame;
 use crate::naming::Naming;
 use crate::words;
@@ -51,6 +52,8 @@ pub struct Line {
     pub answer: Answer,
     /// What the datagram did, if it was taken.
     pub effects: Vec<String>,
+    /// What the library's ACK names, if the datagram was taken and is answered by one.
+    pub acknowledged: Option<Acknowledged>,
     /// The reply; no byte where there is none.
     pub reply: Vec<u8>,
     /// In what the output differs from the library here.

@@ -1,6 +1,7 @@
 //! The store with which this program follows an input.
 
-use crate::effects;
+use crate::acknowledged::Acknowledged;
+use crate::effects::{self, Taken};
 use crate::frame::Frame;
 use crate::known::{Known, Told};
 use crate::reason::Case;
@@ -29,6 +30,8 @@ pub struct Turn {
     pub channel: Option<Channel>,
     /// What it did, if it was taken.
     pub effects: Vec<String>,
+    /// What the ACK in the reply names.
+    pub acknowledged: Option<Acknowledged>,
 }
 
 impl Follower {
@@ -56,9 +59,16 @@ impl Follower {
             // At most 14.
             Err(refusal) => (refusal.number() as u8, Vec::new()),
         };
+        let acknowledged = Acknowledged::by(known.naming(), &reply);
         let mut effects = Vec::new();
         if number == 0 {
-            effects = effects::of(datagram, &known, told.as_ref(), &self.store);
+            let taken = Taken {
+                datagram,
+                known: &known,
+                told: told.as_ref(),
+                acknowledged,
+            };
+            effects = effects::of(&taken, &self.store);
             self.count_channels(line, to, channel);
         }
         Turn {
@@ -67,6 +77,7 @@ impl Follower {
             reply,
             channel,
             effects,
+            acknowledged,
         }
     }
 

@@ -6,6 +6,7 @@
 
 #![forbid(unsafe_code)]
 
+mod acknowledged;
 mod arguments;
 mod digits;
 mod effects;

@@ -1,5 +1,6 @@
 //! The JSON form: one object, with one entry a row for each line.
 
+use crate::acknowledged::Acknowledged;
 use crate::digits;
 use crate::explained::{Answer, End, First, Form, Line};
 use crate::json::Value;
@@ -119,6 +120,15 @@ fn reply(naming: Naming, reply: &[u8]) -> Value {
     ])
 }
 
+/// What an ACK names.
+fn acknowledged(chunks: Acknowledged) -> Value {
+    let mut fields: Vec<(&'static str, Value)> =
+        vec![("first", chunks.first.into()), ("last", chunks.last.into())];
+    fields.extend(chunks.bin.map(|bin| ("bin", bin.0.into())));
+    fields.push(("chunks", chunks.count().into()));
+    Value::Object(fields)
+}
+
 /// Ranges, each as its first and last chunk.
 fn ranges(ranges: &[(u32, u32)]) -> Value {
     let each = ranges.iter().map(|&(first, last)| vec![first, last]);
@@ -145,6 +155,7 @@ fn line(line: &Line) -> Value {
         ("messages", came.into()),
         ("answer", answer(&line.answer)),
         ("effects", line.effects.clone().into()),
+        ("acknowledged", line.acknowledged.map(acknowledged).into()),
         ("reply", reply(line.naming, &line.reply)),
         ("difference", line.difference.clone().into()),
     ])

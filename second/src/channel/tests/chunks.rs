@@ -224,11 +224,12 @@ fn trap_105_hashes_of_an_earlier_datagram() {
 fn traps_106_and_110_two_channels() {
     let (pack, mut caller) = seven_with_chunk_0();
     caller.opened_by_peer(6, 0xfedc_ba98);
+    // Chunk 0 is held: each ACK names 0..1.
+    let reply = to(0xfedc_ba98, &[&ack(0, 1, 0)]);
+    assert_eq!(reply.len(), 21);
     for number in [1, 0] {
-        let reply = to(0xfedc_ba98, &[&ack(number, number, 0)]);
-        assert_eq!(reply.len(), 21);
         let datagram = to(6, &[&pack.data(number)]);
-        assert_eq!(caller.take(0, 0, &datagram), (0, reply));
+        assert_eq!(caller.take(0, 0, &datagram), (0, reply.clone()));
     }
     assert_eq!(caller.ask(), (0, 2, false));
 }
@@ -274,7 +275,8 @@ fn trap_108_seven_chunks_in_order() {
         assert_eq!(caller.ask(), (0, number, false));
         let datagram = to(5, &[&pack.hashes(nodes), &pack.data(number)]);
         assert_eq!(datagram.len() == 1250, number == 0);
-        let answer = to(9, &[&ack(number, number, 0)]);
+        // The run from chunk 0 up to this one.
+        let answer = to(9, &[&ack(0, number, 0)]);
         assert_eq!(caller.take(0, 0, &datagram), (0, answer));
     }
     assert_eq!(caller.ask(), (0, 7, true));

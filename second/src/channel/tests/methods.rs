@@ -148,9 +148,9 @@ fn one_pack_under_both_methods() {
             for k in 0..count {
                 let chunk = 521 * k % count;
                 let (_, datagram) = server.write(5, chunk, 1000);
-                let ack = either::ack(addressing, tree::leaf(chunk), 7);
-                let answer = to(5, &[&ack]);
-                assert_eq!(van.take(1007, 0, &datagram), (0, answer.clone()));
+                let (number, answer) = van.take(1007, 0, &datagram);
+                assert_eq!(number, 0);
+                assert_eq!(answer, to(5, &[&plain::ack_for(&van, chunk, 7)]));
                 assert_eq!(server.take(0, 0, &answer), (0, vec![]));
             }
             assert!(server.has_of(0).into_iter().eq(0..count));

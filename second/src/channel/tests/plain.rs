@@ -4,7 +4,7 @@
 
 mod taking;
 
-pub use taking::take;
+pub use taking::{ack_for, take};
 
 use super::{is_set, Caller};
 use crate::channel::{Phase, Row, State};

@@ -51,12 +51,20 @@ fn hand_over(pack: &Pack, giver: (&mut Caller, u32), taker: (&mut Caller, u32)) 
     let row = from.state.find(from_id).unwrap();
     assert_eq!(from.number(from_id, &[&request(0, 6)]), 0);
     assert_eq!(from.wants_of(row), [0, 1, 2, 3, 4, 5, 6]);
-    for chunk in [3, 0, 6, 5, 1, 2, 4] {
+    for (chunk, first, last) in [
+        (3, 3, 3),
+        (0, 0, 0),
+        (6, 6, 6),
+        (5, 5, 6),
+        (1, 0, 1),
+        (2, 0, 3),
+        (4, 0, 6),
+    ] {
         let (number, datagram) = from.write(from_id, chunk, 50);
         assert_eq!(number, 0);
         let (number, answer) = into.take(60, 0, &datagram);
         assert_eq!(number, 0);
-        assert_eq!(answer, to(from_id, &[&ack(chunk, chunk, 10)]));
+        assert_eq!(answer, to(from_id, &[&ack(first, last, 10)]));
         assert_eq!(from.take(70, 0, &answer), (0, vec![]));
     }
     assert_eq!(from.has_of(row), [0, 1, 2, 3, 4, 5, 6]);

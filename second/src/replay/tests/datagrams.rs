@@ -102,9 +102,10 @@ fn downloaded(content: &[u8], nodes: impl Fn(u32) -> Vec<u64>) -> String {
     output.split_once('\n').unwrap().1.to_string()
 }
 
-/// ACKs with the delay 0 for these chunks, and a closing line.
+/// ACKs with the delay 0 for these chunks, which come in order and so are a run
+/// from 0 on, and a closing line.
 fn acknowledged(count: u32, closing: &str) -> String {
-    let ack = |chunk| format!("000000000702{chunk:08x}{chunk:08x}0000000000000000\n");
+    let ack = |chunk| format!("00000000070200000000{chunk:08x}0000000000000000\n");
     (0..count).map(ack).collect::<String>() + closing
 }
 

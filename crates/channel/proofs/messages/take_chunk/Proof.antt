@@ -1,153 +1,112 @@
-use Rattle.channel.proofs.TakeLaws.{data-refused, part-is, data-unfit, data-chunk, data-done, quiet-affected}
+use Rattle.channel.proofs.TakeLaws.{quiet-affected}
+use Rattle.channel.proofs.DataLaws.{part-is, data-refused, data-held, data-unfit, data-done}
 use Rattle.channel.specs.World.{worldOf}
 use native.Mathlib.Omega.{arith}
 use borrow.Author.Needs.{needs}
 use Rattle.channel.proofs.messages.take_chunk.Statement.{statement}
 use Rattle.channel.proofs.messages.take_chunk.Tie as tie
-use Rattle.channel.proofs.messages.take_chunk.Reads as reads
-use Rattle.channel.proofs.messages.take_chunk.Lts as lts
-use Rattle.channel.proofs.messages.acknowledge.Reads as acknowledge-reads
-use Rattle.channel.proofs.messages.apply_messages.Reads as apply-messages-reads
-use Rattle.channel.proofs.messages.judge.Reads as judge-reads
-use Rattle.channel.proofs.messages.row_for.Reads as row-for-reads
-use Rattle.store.proofs.calls.take.Reads as take-reads
-use Rattle.table.proofs.words.order_in.Reads as order-in-reads
 
--- src/messages.rt:175:15
 add-end : tie.Need-add-end
 add-end c = search needs
 
--- src/messages.rt:176:9
 row-for-requires : tie.Need-row-for-requires
 row-for-requires c κs = search needs
 
--- src/messages.rt:177:9
 judge-requires : tie.Need-judge-requires
-judge-requires c κs = (c .before .before .before .before .before .before .before .before .before .before .before .before .before .pre .0, (c .before .before .before .before .before .before .before .before .before .before .before .before .before .pre .1 .1 .1 .0, (c .before .row-for .ensures .0, c .before .before .before .before .before .before .before .before .before .before .before .before .before .pre .1 .1 .1 .1 .1)))
+judge-requires c κs = search needs
 
--- src/messages.rt:179:9
 same-length : tie.Need-same-length
 same-length c = search needs
 
--- src/messages.rt:179:9
 returns : tie.Need-returns
 returns c = let a = c .before .before .before .before .before .before .before .before .before .before .before .before .before .before .before .args in let w = worldOf (a .state .now) (a .chunks .now) (a .map .now) (a .hashes .now) (a .trusted .now) (a .has .now) (a .wants .now) (a .reply .now) in data-refused w (a .clock) (a .datagram .now) (a .entries .now) (a .c) (a .timestamp) (a .start) (a .len) (c .before .judge .ensures) (c .if1 .taken)
 
--- src/messages.rt:184:9
 order-in-requires : tie.Need-order-in-requires
 order-in-requires c κs = search needs
 
--- src/messages.rt:192:9
 sub-take : tie.Need-sub-take
 sub-take c = search needs
 
--- src/messages.rt:192:9
 part-take-start : tie.Need-part-take-start
 part-take-start c = search needs
 
--- src/messages.rt:192:9
 part-take-end : tie.Need-part-take-end
-part-take-end c = omega (arith, c .before .before .before .before .before .before .before .before .before .before .before .before .before .before .before .before .before .before .before .before .before .pre .1 .1 .1 .1 .0)
+part-take-end c = omega (arith, c .before .before .before .before .before .before .before .before .before .before .before .before .before .before .before .before .before .before .before .before .before .pre)
 
--- src/messages.rt:185:9
 take-requires : tie.Need-take-requires
 take-requires c κs = search needs
 
--- src/messages.rt:197:9
 same-length-2 : tie.Need-same-length-2
 same-length-2 c = search needs
 
--- src/messages.rt:197:9
 same-length-3 : tie.Need-same-length-3
 same-length-3 c = search needs
 
--- src/messages.rt:197:9
 same-length-4 : tie.Need-same-length-4
 same-length-4 c = search needs
 
--- src/messages.rt:197:9
 same-length-5 : tie.Need-same-length-5
 same-length-5 c = search needs
 
--- src/messages.rt:197:9
 same-length-6 : tie.Need-same-length-6
 same-length-6 c = search needs
 
--- src/messages.rt:197:9
 returns-2 : tie.Need-returns-2
 returns-2 c = let a = c .before .before .before .before .before .before .before .before .before .before .before .before .before .before .before .before .before .before .before .before .before .before .before .before .before .before .before .before .before .before .before .before .args in let w = worldOf (a .state .now) (a .chunks .now) (a .map .now) (a .hashes .now) (a .trusted .now) (a .has .now) (a .wants .now) (a .reply .now) in data-unfit w (a .clock) (a .datagram .now) (a .entries .now) (a .c) (a .timestamp) (a .start) (a .len) (c .before .before .before .before .before .before .before .before .before .before .before .before .before .before .before .before .before .before .judge .ensures) (omega (arith, c .before .before .before .before .before .before .before .before .before .before .before .before .before .before .before .before .before .if1 .left)) (c .before .before .before .before .before .before .before .before .before .before .before .before .before .before .before .order-in .ensures) (part-is (a .datagram .now) (a .start) (a .len)) (c .before .before .before .before .before .before .before .before .before .take .ensures) (c .if2 .taken)
 
--- src/messages.rt:199:9
 acknowledge-requires : tie.Need-acknowledge-requires
-acknowledge-requires c κs = let a = c .before .before .before .before .before .before .before .before .before .before .before .before .before .before .before .before .before .before .before .before .before .before .before .before .before .before .before .before .before .before .before .before .before .before .args in let w = worldOf (a .state .now) (a .chunks .now) (a .map .now) (a .hashes .now) (a .trusted .now) (a .has .now) (a .wants .now) (a .reply .now) in (c .before .before .before .before .before .before .before .before .before .before .before .before .before .before .before .before .before .before .before .before .before .before .before .before .before .before .before .before .before .before .before .before .before .before .pre .1 .1 .0, (c .before .before .before .before .before .before .before .before .before .before .before .before .before .before .before .before .before .before .before .before .before .before .before .before .before .before .before .before .before .before .before .before .before .before .pre .1 .0, (data-chunk w (a .clock) (a .datagram .now) (a .entries .now) (a .c) (a .timestamp) (a .start) (a .len) (c .before .before .before .before .before .before .before .before .before .before .before .before .before .before .before .before .before .before .before .before .judge .ensures) (omega (arith, c .before .before .before .before .before .before .before .before .before .before .before .before .before .before .before .before .before .before .before .if1 .left)) (c .before .before .before .before .before .before .before .before .before .before .before .before .before .before .before .before .before .order-in .ensures) (part-is (a .datagram .now) (a .start) (a .len)) (c .before .before .before .before .before .before .before .before .before .before .before .take .ensures) (c .before .before .before .before .before .before .before .before .before .before .before .before .before .before .before .before .before .before .before .before .before .before .before .before .before .before .before .before .before .before .before .before .before .before .pre .0) (omega (arith, c .before .before .if2 .left)), c .before .before .before .before .before .before .before .before .before .before .before .before .before .before .before .before .before .before .before .before .before .before .row-for .ensures .0)))
+acknowledge-requires c κs = let a = c .before .before .before .before .before .before .before .before .before .before .before .before .before .before .before .before .before .before .before .before .before .before .before .before .before .before .before .before .before .before .before .before .before .before .before .args in let w = worldOf (a .state .now) (a .chunks .now) (a .map .now) (a .hashes .now) (a .trusted .now) (a .has .now) (a .wants .now) (a .reply .now) in (c .before .before .before .before .before .before .before .before .before .before .before .before .before .before .before .before .before .before .before .before .before .before .before .before .before .before .before .before .before .before .before .before .before .before .before .pre .1 .1 .0, (c .before .before .before .before .before .before .before .before .before .before .before .before .before .before .before .before .before .before .before .before .before .before .before .before .before .before .before .before .before .before .before .before .before .before .before .pre .0, (c .before .before .before .before .before .before .before .before .before .before .before .before .before .before .before .before .before .before .before .before .before .before .before .before .before .before .before .before .before .before .before .before .before .before .before .pre .1 .0, (data-held w (a .clock) (a .datagram .now) (a .entries .now) (a .c) (a .timestamp) (a .start) (a .len) (c .before .before .before .before .before .before .before .before .before .before .before .before .before .before .before .before .before .before .before .before .before .judge .ensures) (omega (arith, c .before .before .before .before .before .before .before .before .before .before .before .before .before .before .before .before .before .before .before .before .if1 .left)) (c .before .before .before .before .before .before .before .before .before .before .before .before .before .before .before .before .before .before .order-in .ensures) (part-is (a .datagram .now) (a .start) (a .len)) (c .before .before .before .before .before .before .before .before .before .before .before .before .take .ensures) (omega (arith, c .before .before .before .if2 .left)), c .before .before .before .before .before .before .before .before .before .before .before .before .before .before .before .before .before .before .before .before .before .before .before .row-for .ensures .0))))
 
--- src/messages.rt:201:9
 same-length-7 : tie.Need-same-length-7
 same-length-7 c = search needs
 
--- src/messages.rt:201:9
 same-length-8 : tie.Need-same-length-8
 same-length-8 c = search needs
 
--- src/messages.rt:201:9
 same-length-9 : tie.Need-same-length-9
 same-length-9 c = search needs
 
--- src/messages.rt:201:9
 same-length-10 : tie.Need-same-length-10
 same-length-10 c = search needs
 
--- src/messages.rt:201:9
 same-length-11 : tie.Need-same-length-11
 same-length-11 c = search needs
 
--- src/messages.rt:201:9
 same-length-12 : tie.Need-same-length-12
 same-length-12 c = search needs
 
--- src/messages.rt:201:9
 returns-3 : tie.Need-returns-3
-returns-3 c = let a = c .before .before .before .before .before .before .before .before .before .before .before .before .before .before .before .before .before .before .before .before .before .before .before .before .before .before .before .before .before .before .before .before .before .before .before .before .before .before .before .args in let w = worldOf (a .state .now) (a .chunks .now) (a .map .now) (a .hashes .now) (a .trusted .now) (a .has .now) (a .wants .now) (a .reply .now) in data-done w (a .clock) (a .datagram .now) (a .entries .now) (a .c) (a .timestamp) (a .start) (a .len) (c .before .before .before .before .before .before .before .before .before .before .before .before .before .before .before .before .before .before .before .before .before .before .before .before .before .judge .ensures) (omega (arith, c .before .before .before .before .before .before .before .before .before .before .before .before .before .before .before .before .before .before .before .before .before .before .before .before .if1 .left)) (c .before .before .before .before .before .before .before .before .before .before .before .before .before .before .before .before .before .before .before .before .before .before .order-in .ensures) (part-is (a .datagram .now) (a .start) (a .len)) (c .before .before .before .before .before .before .before .before .before .before .before .before .before .before .before .before .take .ensures) (omega (arith, c .before .before .before .before .before .before .before .if2 .left)) (c .before .before .before .before .acknowledge .ensures) (quiet-affected _ _ _ _ (c .before .before .before .before .before .before .before .before .before .before .before .before .before .before .before .before .before .before .before .before .before .before .before .before .before .before .before .before .before .before .before .before .before .before .before .before .before .before .before .pre .1 .1 .1 .1 .1) (c .if3 .taken))
+returns-3 c = let a = c .before .before .before .before .before .before .before .before .before .before .before .before .before .before .before .before .before .before .before .before .before .before .before .before .before .before .before .before .before .before .before .before .before .before .before .before .before .before .before .before .args in let w = worldOf (a .state .now) (a .chunks .now) (a .map .now) (a .hashes .now) (a .trusted .now) (a .has .now) (a .wants .now) (a .reply .now) in data-done w (a .clock) (a .datagram .now) (a .entries .now) (a .c) (a .timestamp) (a .start) (a .len) (c .before .before .before .before .before .before .before .before .before .before .before .before .before .before .before .before .before .before .before .before .before .before .before .before .before .before .judge .ensures) (omega (arith, c .before .before .before .before .before .before .before .before .before .before .before .before .before .before .before .before .before .before .before .before .before .before .before .before .before .if1 .left)) (c .before .before .before .before .before .before .before .before .before .before .before .before .before .before .before .before .before .before .before .before .before .before .before .order-in .ensures) (part-is (a .datagram .now) (a .start) (a .len)) (c .before .before .before .before .before .before .before .before .before .before .before .before .before .before .before .before .before .take .ensures) (omega (arith, c .before .before .before .before .before .before .before .before .if2 .left)) (c .before .before .before .before .acknowledge .ensures) (quiet-affected _ _ _ _ (c .before .before .before .before .before .before .before .before .before .before .before .before .before .before .before .before .before .before .before .before .before .before .before .before .before .before .before .before .before .before .before .before .before .before .before .before .before .before .before .before .pre .1 .1 .1 .1 .1) (c .if3 .taken))
 
--- src/messages.rt:206:5
 apply-messages-requires : tie.Need-apply-messages-requires
-apply-messages-requires c κs = (c .before .before .before .before .before .before .before .before .before .before .before .before .before .before .before .before .before .before .before .before .before .before .before .before .before .before .before .before .before .before .before .before .before .before .before .before .before .before .before .before .before .before .pre .0, (c .before .before .before .before .before .before .before .before .before .before .before .before .before .before .before .before .before .before .before .before .before .before .before .before .before .before .before .before .before .before .before .before .before .before .before .before .before .before .before .before .before .before .pre .1 .0, c .before .before .before .before .before .before .before .before .before .before .before .before .before .before .before .before .before .before .before .before .before .before .before .before .before .before .before .before .before .before .row-for .ensures))
+apply-messages-requires c κs = (c .before .before .before .before .before .before .before .before .before .before .before .before .before .before .before .before .before .before .before .before .before .before .before .before .before .before .before .before .before .before .before .before .before .before .before .before .before .before .before .before .before .before .before .pre .0, (c .before .before .before .before .before .before .before .before .before .before .before .before .before .before .before .before .before .before .before .before .before .before .before .before .before .before .before .before .before .before .before .before .before .before .before .before .before .before .before .before .before .before .before .pre .1 .0, c .before .before .before .before .before .before .before .before .before .before .before .before .before .before .before .before .before .before .before .before .before .before .before .before .before .before .before .before .before .before .before .row-for .ensures))
 
--- src/messages.rt:142:1
 same-length-13 : tie.Need-same-length-13
 same-length-13 c = search needs
 
--- src/messages.rt:142:1
 same-length-14 : tie.Need-same-length-14
 same-length-14 c = search needs
 
--- src/messages.rt:142:1
 same-length-15 : tie.Need-same-length-15
 same-length-15 c = search needs
 
--- src/messages.rt:142:1
 same-length-16 : tie.Need-same-length-16
 same-length-16 c = search needs
 
--- src/messages.rt:142:1
 same-length-17 : tie.Need-same-length-17
 same-length-17 c = search needs
 
--- src/messages.rt:142:1
 same-length-18 : tie.Need-same-length-18
 same-length-18 c = search needs
 
--- src/messages.rt:142:1
 same-length-19 : tie.Need-same-length-19
 same-length-19 c = search needs
 
--- src/messages.rt:142:1
 same-length-20 : tie.Need-same-length-20
 same-length-20 c = search needs
 
--- src/messages.rt:142:1
 returns-4 : tie.Need-returns-4
-returns-4 c = let a = c .before .before .before .before .before .before .before .before .before .before .before .before .before .before .before .before .before .before .before .before .before .before .before .before .before .before .before .before .before .before .before .before .before .before .before .before .before .before .before .before .before .before .before .before .before .before .before .before .before .args in let w = worldOf (a .state .now) (a .chunks .now) (a .map .now) (a .hashes .now) (a .trusted .now) (a .has .now) (a .wants .now) (a .reply .now) in data-done w (a .clock) (a .datagram .now) (a .entries .now) (a .c) (a .timestamp) (a .start) (a .len) (c .before .before .before .before .before .before .before .before .before .before .before .before .before .before .before .before .before .before .before .before .before .before .before .before .before .before .before .before .before .before .before .before .before .before .before .judge .ensures) (omega (arith, c .before .before .before .before .before .before .before .before .before .before .before .before .before .before .before .before .before .before .before .before .before .before .before .before .before .before .before .before .before .before .before .before .before .before .if1 .left)) (c .before .before .before .before .before .before .before .before .before .before .before .before .before .before .before .before .before .before .before .before .before .before .before .before .before .before .before .before .before .before .before .before .order-in .ensures) (part-is (a .datagram .now) (a .start) (a .len)) (c .before .before .before .before .before .before .before .before .before .before .before .before .before .before .before .before .before .before .before .before .before .before .before .before .before .before .take .ensures) (omega (arith, c .before .before .before .before .before .before .before .before .before .before .before .before .before .before .before .before .before .if2 .left)) (c .before .before .before .before .before .before .before .before .before .before .before .before .before .before .acknowledge .ensures) (c .before .before .before .before .before .before .apply-messages .ensures)
+returns-4 c = let a = c .before .before .before .before .before .before .before .before .before .before .before .before .before .before .before .before .before .before .before .before .before .before .before .before .before .before .before .before .before .before .before .before .before .before .before .before .before .before .before .before .before .before .before .before .before .before .before .before .before .before .args in let w = worldOf (a .state .now) (a .chunks .now) (a .map .now) (a .hashes .now) (a .trusted .now) (a .has .now) (a .wants .now) (a .reply .now) in data-done w (a .clock) (a .datagram .now) (a .entries .now) (a .c) (a .timestamp) (a .start) (a .len) (c .before .before .before .before .before .before .before .before .before .before .before .before .before .before .before .before .before .before .before .before .before .before .before .before .before .before .before .before .before .before .before .before .before .before .before .before .judge .ensures) (omega (arith, c .before .before .before .before .before .before .before .before .before .before .before .before .before .before .before .before .before .before .before .before .before .before .before .before .before .before .before .before .before .before .before .before .before .before .before .if1 .left)) (c .before .before .before .before .before .before .before .before .before .before .before .before .before .before .before .before .before .before .before .before .before .before .before .before .before .before .before .before .before .before .before .before .before .order-in .ensures) (part-is (a .datagram .now) (a .start) (a .len)) (c .before .before .before .before .before .before .before .before .before .before .before .before .before .before .before .before .before .before .before .before .before .before .before .before .before .before .before .take .ensures) (omega (arith, c .before .before .before .before .before .before .before .before .before .before .before .before .before .before .before .before .before .before .if2 .left)) (c .before .before .before .before .before .before .before .before .before .before .before .before .before .before .acknowledge .ensures) (c .before .before .before .before .before .before .apply-messages .ensures)
 
 pub take-chunk-spec : {M : Type 1} → statement M
 take-chunk-spec =

@@ -82,14 +82,38 @@ fn take_messages(before: &Caller, clock: u64, row: usize, datagram: &[u8]) -> Do
                 ..
             } => {
                 take_chunk(&mut after, chunk as usize, &datagram[start..], &came)?;
-                let delay = clock.wrapping_sub(time);
-                let ack = either::ack(before.state.addressing, 2 * u64::from(chunk), delay);
+                let ack = ack_for(&after, chunk, clock.wrapping_sub(time));
                 reply = to(record.peer, &[&ack]);
             }
             message => apply(&mut after, row, message),
         }
     }
     done(after, reply)
+}
+
+/// The ACK for a chunk that is in the map (02, No. 2).
+pub fn ack_for(after: &Caller, chunk: u32, delay: u64) -> Vec<u8> {
+    let (count, places) = counts(after.state.length);
+    let chunk = chunk as usize;
+    let held = |chunk: usize| is_set(&after.map, chunk as u64);
+    match after.state.addressing {
+        // "The longest run of held chunks around it."
+        Addressing::Ranges => {
+            let down = (0..=chunk).rev().take_while(|&chunk| held(chunk));
+            let up = (chunk..count).take_while(|&chunk| held(chunk));
+            let [first, last] = [down.last(), up.last()].map(|chunk| chunk.unwrap() as u32);
+            ack(first, last, delay)
+        }
+        // "The largest whole subtree inside the pack all of whose chunks are held."
+        Addressing::Bins => {
+            let subtrees = all_nodes(places).filter(|&(_, first, width)| {
+                let mut chunks = first..first + width;
+                chunks.contains(&chunk) && chunks.end <= count && chunks.all(held)
+            });
+            let (node, ..) = subtrees.max_by_key(|&(_, _, width)| width).unwrap();
+            either::ack(after.state.addressing, node, delay)
+        }
+    }
 }
 
 /// The chunk of a message, if any, that must be in the pack: the last one, but
