@@ -100,7 +100,7 @@ static inline uint32_t ppspp_store_open(const struct ppspp_store *store, uint32_
 
 /*
  * Takes in a datagram at a clock; the ID is for a channel that it may open. The reply to a chunk is an ACK of the
- * longest range of held chunks around it, or of the largest bin inside the pack.
+ * longest range of held chunks around it, or of the largest bin around it inside the pack whose chunks are all held.
  */
 static inline uint32_t ppspp_store_take(const struct ppspp_store *store, uint64_t clock, uint32_t id,
                                         const uint8_t *datagram, size_t datagram_n, size_t *len)

@@ -115,8 +115,8 @@ impl Counts {
         }
     }
 
-    /// Counts what the ACK of a chunk names, if there is one, after which other
-    /// chunks are held or not.
+    /// Counts what the ACK of a chunk names, if there is one; `more` says whether
+    /// the chunk was stored by it.
     pub fn add_ack(&mut self, addressing: Addressing, datagram: &[u8], reply: &[u8], more: bool) {
         let data = read(addressing, datagram).last();
         let ack = read(addressing, reply).next();

@@ -27,7 +27,8 @@ pub all-more : (ws : List ℕ) (w n : ℕ) {a : ℕ} → a ≡ inAll ws w n → 
 unfolding inAll
 all-more ws w n e = let s : n + 1 ≡ suc n = omega arith in rw (s, e)
 
-pub all-eight : (ws : List ℕ) (w : ℕ) {a n : ℕ} → a ≡ inAll ws w n → n ≡ 8 → eqb a (2 ^ 32 - 1) ≡ eqb (inAll ws w 8) (2 ^ 32 - 1)
+pub all-eight : (ws : List ℕ) (w : ℕ) {a n : ℕ} → a ≡ inAll ws w n → n ≡ 8
+    → eqb a (2 ^ 32 - 1) ≡ eqb (inAll ws w 8) (2 ^ 32 - 1)
 all-eight ws w e h = rw (e, h)
 
 module _ (ws : List ℕ) where
@@ -63,7 +64,8 @@ module _ (ws : List ℕ) where
   words-more zero x w u h l a k = omega arith
   words-more (suc n) x w u h l a k =
       let i = words-more n x w u h l (λ j m. a j (omega arith)) (omega arith) in
-      let m = word-more ws x (w + n) u (omega arith) i (ones-word (w + n) (u - 32 * (w + n)) (a n (omega arith)) (omega arith)) in
+      let m = word-more ws x (w + n) u (omega arith) i
+      (ones-word (w + n) (u - 32 * (w + n)) (a n (omega arith)) (omega arith)) in
       omega arith
 
   -- and so does the run below place c that came to word w.
@@ -71,7 +73,8 @@ module _ (ws : List ℕ) where
       → c - 32 * (w - n) ≤ heldBelow ws c
   words-below zero c w k h l a = omega arith
   words-below (suc n) c w k h l a =
-      let i = words-below n c w (omega arith) h l (λ j m. let e : w - n + j ≡ w - suc n + suc j = omega arith in rw e (a (suc j) (omega arith))) in
+      let i = words-below n c w (omega arith) h l
+      (λ j m. let e : w - n + j ≡ w - suc n + suc j = omega arith in rw e (a (suc j) (omega arith))) in
       let e : w - suc n + 0 ≡ w - n - 1 = omega arith in
       let o = ones-below (w - n) (omega arith) (rw e at (a 0 (omega arith))) in
       let m = word-more-below ws c (w - n) (omega arith) (omega arith) i o in
@@ -81,10 +84,12 @@ module _ (ws : List ℕ) where
   -- ---- as the code has it
 
   module _ (fits : (i : ℕ) → getD ws i 0 < 2 ^ 32) {b : Bool} where
-    pub block-more : (x w u : ℕ) → x ≤ 32 * w → 32 * w - x ≤ heldFrom ws (u - x) x → b ≡ eqb (inAll ws w 8) (2 ^ 32 - 1) → b ≡ true
+    pub block-more : (x w u : ℕ) → x ≤ 32 * w → 32 * w - x ≤ heldFrom ws (u - x) x
+        → b ≡ eqb (inAll ws w 8) (2 ^ 32 - 1) → b ≡ true
         → 32 * (w + 8) ≤ u → 32 * (w + 8) - x ≤ heldFrom ws (u - x) x
     block-more x w u h l e t k = words-more 8 x w u h l (all-ones fits w 8 (eqb-true _ _ (sym e ∙ t))) k
 
-    pub block-below : (c w : ℕ) → 8 ≤ w → 32 * w ≤ c → c - 32 * w ≤ heldBelow ws c → b ≡ eqb (inAll ws (w - 8) 8) (2 ^ 32 - 1) → b ≡ true
+    pub block-below : (c w : ℕ) → 8 ≤ w → 32 * w ≤ c → c - 32 * w ≤ heldBelow ws c
+        → b ≡ eqb (inAll ws (w - 8) 8) (2 ^ 32 - 1) → b ≡ true
         → c - 32 * (w - 8) ≤ heldBelow ws c
     block-below c w k h l e t = words-below 8 c w k h l (all-ones fits (w - 8) 8 (eqb-true _ _ (sym e ∙ t)))

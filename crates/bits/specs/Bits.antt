@@ -72,17 +72,17 @@ rowWords n = (n + 31) / 32
 
 -- ---- a run of set bits
 
--- One longer where the next bit is set, at its end where it is not.
+-- The length of a run that begins with this bit and goes on for n more: 0 where the bit is clear.
 abbrev pub longer : Bool → ℕ → ℕ
 longer true n = suc n
 longer false n = 0
 
--- How many bits are set directly below place c, one after another.
+-- The length of the run of set bits that ends directly below place c.
 unfoldable pub heldBelow : List ℕ → ℕ → ℕ
 heldBelow ws zero = 0
 heldBelow ws (suc c) = longer (bitAt ws c) (heldBelow ws c)
 
--- How many of the d bits from place x on are set, one after another.
+-- The length of the run of set bits from place x on, of at most d.
 unfoldable pub heldFrom : List ℕ → ℕ → ℕ → ℕ
 heldFrom ws zero x = 0
 heldFrom ws (suc d) x = longer (bitAt ws x) (heldFrom ws d (suc x))

@@ -1,5 +1,5 @@
--- The ACK that a call leaves: what it names is held in the map as the call left it, and nothing bigger is (02, No. 2). Assumes
--- nothing.
+-- The ACK that a call leaves: what it names is held in the map as the call left it, and nothing bigger is (02, No. 2).
+-- Assumes nothing.
 use Prim.Native.Nat.{ℕ, _≤_}
 use native.Mathlib.Nat.{zero-add}
 use native.Mathlib.Omega.{arith}
@@ -15,7 +15,8 @@ use Rattle.table.proofs.Promise.{rowAt}
 use Rattle.store.proofs.Promise.{lengthAnswer}
 use Rattle.channel.specs.World.{World, orderLength, orderFormat, chunkCount, tableRows}
 use Rattle.channel.specs.Answers.{ownRoomsAnswer}
-use Rattle.channel.specs.Take.{rowFor, messagesNumber, affected, delay, acknowledged, acknowledgement, storeOut, dataBy, dataTaken, byLayout, takeSpec, layoutIn}
+use Rattle.channel.specs.Take.{rowFor, messagesNumber, affected, delay, acknowledged, acknowledgement, storeOut}
+use Rattle.channel.specs.Take.{dataBy, dataTaken, byLayout, takeSpec, layoutIn}
 use Rattle.channel.specs.Reply.{leftIn, Acknowledges}
 use Rattle.channel.proofs.AcceptLaws.{own-accepted}
 use Rattle.channel.proofs.DataLaws.{store-held, acknowledged-biggest}
@@ -24,10 +25,12 @@ use Rattle.channel.proofs.DataLaws.{store-held, acknowledged-biggest}
 pub front : (room r : List ℕ) → length r ≤ length room → take (length r) (placed room 0 r) ≡ r
 front room r h = rw (zero-add (length r)) at (placed-front room 0 r (omega arith))
 
-module _ (w : World) (clock : ℕ) (s entries : List ℕ) (c timestamp start n : ℕ) (z : dataTaken w clock s entries c timestamp start n .answer ≡ 0) where
+module _ (w : World) (clock : ℕ) (s entries : List ℕ) (c timestamp start n : ℕ)
+    (z : dataTaken w clock s entries c timestamp start n .answer ≡ 0) where
   -- The reply is the ACK by the map as the call left it,
   pub data-left : maxSize ≤ length (w .channels .reply) → leftIn (dataTaken w clock s entries c timestamp start n)
-      ≡ acknowledgement (w .channels .state) (dataTaken w clock s entries c timestamp start n .after .rooms .map) s clock c timestamp
+      ≡ acknowledgement (w .channels .state) (dataTaken w clock s entries c timestamp start n .after .rooms .map) s
+      clock c timestamp
   unfolding dataTaken dataBy affected
   data-left big =
       let st = w .channels .state in
@@ -37,11 +40,13 @@ module _ (w : World) (clock : ℕ) (s entries : List ℕ) (c timestamp start n :
       let map = storeOut w s entries c start n .after .map in
       let v = acknowledged st map c in
       let long = ack-long F (rowAt (tableRows st) (rowFor st s) .peer) (v .first) (v .last) (delay clock timestamp) in
-      rw (p .0, q .0) (front (w .channels .reply) (acknowledgement st map s clock c timestamp) (omega (arith, long, place-most F, big)))
+      rw (p .0, q .0)
+      (front (w .channels .reply) (acknowledgement st map s clock c timestamp) (omega (arith, long, place-most F, big)))
 
   -- and what it names is the biggest complete interval in that map.
   pub data-biggest : lengthAnswer (orderLength (w .channels .state)) ≡ 0
-      → Biggest (orderFormat (w .channels .state)) (dataTaken w clock s entries c timestamp start n .after .rooms .map) (chunkCount (w .channels .state)) c
+      → Biggest (orderFormat (w .channels .state)) (dataTaken w clock s entries c timestamp start n .after .rooms .map)
+      (chunkCount (w .channels .state)) c
       (acknowledged (w .channels .state) (dataTaken w clock s entries c timestamp start n .after .rooms .map) c)
   unfolding dataTaken dataBy
   data-biggest limit =
@@ -52,9 +57,11 @@ module _ (w : World) (clock : ℕ) (s entries : List ℕ) (c timestamp start n :
       rw (p .0, q .0) (acknowledged-biggest st (storeOut w s entries c start n .after .map) c limit (h .0) (h .1))
 
 -- Whenever DATA of chunk c is taken.
-pub take-acknowledges : (w : World) (clock id : ℕ) (s : List ℕ) {c timestamp start n k : ℕ} → layoutIn (w .channels .state) s .layout ≡ MessagesAndData c timestamp start n k
+pub take-acknowledges : (w : World) (clock id : ℕ) (s : List ℕ) {c timestamp start n k : ℕ}
+    → layoutIn (w .channels .state) s .layout ≡ MessagesAndData c timestamp start n k
     → takeSpec w clock id s .answer ≡ 0
-    → Acknowledges (w .channels .state) (rowAt (tableRows (w .channels .state)) (rowFor (w .channels .state) s) .peer) c (delay clock timestamp) (takeSpec w clock id s)
+    → Acknowledges (w .channels .state) (rowAt (tableRows (w .channels .state)) (rowFor (w .channels .state) s) .peer) c
+    (delay clock timestamp) (takeSpec w clock id s)
 unfolding takeSpec byLayout
 take-acknowledges w clock id s {c} {timestamp} {start} {n} {k} e z =
     let st = w .channels .state in
@@ -63,7 +70,7 @@ take-acknowledges w clock id s {c} {timestamp} {start} {n} {k} e z =
     let t : dataTaken w clock s es c timestamp start n .answer ≡ 0 = rw e at (p .1) in
     let fits = own-accepted w (p .0) in
     rw (p .0, e) (record {
-      named = acknowledged st (dataTaken w clock s es c timestamp start n .after .rooms .map) c;
+      chunks = acknowledged st (dataTaken w clock s es c timestamp start n .after .rooms .map) c;
       reply = data-left w clock s es c timestamp start n t (fits .2);
       biggest = data-biggest w clock s es c timestamp start n t (fits .0);
     })

@@ -139,5 +139,6 @@ write-reads = reading.write-reads
 -- afterwards, and no interval that the method can name, that covers c and lies in the pack with all its chunks held is bigger.
 pub take-acknowledges : (w : World) (clock id : ℕ) (s : List ℕ) {c timestamp start n k : ℕ}
     → layoutOf (orderFormat (w .channels .state)) s .layout ≡ MessagesAndData c timestamp start n k → takeSpec w clock id s .answer ≡ 0
-    → Acknowledges (w .channels .state) (rowAt (tableRows (w .channels .state)) (rowFor (w .channels .state) s) .peer) c (delay clock timestamp) (takeSpec w clock id s)
+    → Acknowledges (w .channels .state) (rowAt (tableRows (w .channels .state)) (rowFor (w .channels .state) s) .peer) c
+    (delay clock timestamp) (takeSpec w clock id s)
 take-acknowledges = acknowledging.take-acknowledges

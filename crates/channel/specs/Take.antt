@@ -1,4 +1,4 @@
--- Taking in a datagram (01, "Datagrams", the effects; "Numbers given back"). Assumes nothing.
+-- Taking in a datagram (01, "Datagrams", the effects; "Numbers given back"; 02, No. 2). Assumes nothing.
 use Prim.Native.Nat.{ℕ, _+_, _-_, _%_, _^_}
 use mathlib.Core.Bool.{Bool, false}
 use mathlib.Core.List.{List}
@@ -19,7 +19,8 @@ use Rattle.held.specs.declared.interval.Interval.{Interval}
 use Rattle.table.specs.declared.rows.Row.{Row}
 use Rattle.table.proofs.Promise.{rowOf, rowAt, rowAfter, putRow, messagesAnswer, handshakeAnswer}
 use Rattle.store.proofs.Promise.{Rooms, earlier, integrityOf, takeSpec as storeTake}
-use Rattle.channel.specs.World.{Channels, channelsOf, World, Out, outOf, unless, beside, orderRoot, orderLength, orderFormat, chunkCount, tableRows, rowBit}
+use Rattle.channel.specs.World.{Channels, channelsOf, World, Out, outOf, unless, beside}
+use Rattle.channel.specs.World.{orderRoot, orderLength, orderFormat, chunkCount, tableRows, rowBit}
 use Rattle.channel.specs.Answers.{ownRoomsAnswer}
 use Rattle.channel.specs.Opening.{openedRow, occupied}
 
@@ -29,15 +30,15 @@ rowFor st s = rowOf (tableRows st) (be32 s 0)
 
 -- ---- a HANDSHAKE
 
--- "An opening or answering HANDSHAKE carries exactly the bytes .., the root, ..": its options are the fixed ones around the
--- order's root.
+-- "An opening or answering HANDSHAKE carries exactly the bytes .., the root, ..": its options are the fixed ones around
+-- the order's root.
 unfoldable pub ours : (root s : List ℕ) → Options → Bool
 ours root s (Fixed p) = same (within s p 32) root
 ours root s EndOnly = false
 ours root s Other = false
 
--- A HANDSHAKE: to channel 0 it opens a channel under the ID that was passed; else it changes the row that it goes to. 5, 3,
--- 4, 14 and 6 before that.
+-- A HANDSHAKE: to channel 0 it opens a channel under the ID that was passed; else it changes the row that it goes to.
+-- 5, 3, 4, 14 and 6 before that.
 unfoldable pub handshakeTaken : Channels → (id : ℕ) (s : List ℕ) (source : ℕ) → Options → Out Channels
 handshakeTaken ch id s source o =
     unless (handshakeAnswer (tableRows (ch .state)) (be32 s 0) source (ours (orderRoot (ch .state)) s o) id) ch
@@ -109,8 +110,8 @@ acknowledgement st map s clock c timestamp =
 abbrev pub replied : Channels → (r : List ℕ) → Channels
 replied ch r = channelsOf (ch .state) (ch .has) (ch .wants) (placed (ch .reply) 0 r)
 
--- What taking the n bytes from `start` on as chunk c gives and leaves of the chunk rooms; `entries` has the nodes of the
--- INTEGRITY messages and the places of their hashes.
+-- What taking the n bytes from `start` on as chunk c gives and leaves of the chunk rooms; `entries` has the nodes of
+-- the INTEGRITY messages and the places of their hashes.
 abbrev pub storeOut : World → (s entries : List ℕ) (c start n : ℕ) → Out Rooms
 storeOut w s entries c start n =
     storeTake (w .rooms) (orderRoot (w .channels .state)) (orderLength (w .channels .state)) c (within s start n)
@@ -120,7 +121,7 @@ storeOut w s entries c start n =
 abbrev pub answered : Channels → (s : List ℕ) → Rooms → (r : List ℕ) → Out World
 answered ch s rooms r = outOf 0 (length r) (record { rooms = rooms; channels = replied (affected ch s) r })
 
--- DATA by that: refused with 8, 9 or 10; or answered with the ACK by the map as it is then.
+-- DATA by that: refused with 8, 9 or 10; or taken, and answered with the ACK of what the map has afterwards.
 unfoldable pub dataBy : World → (clock : ℕ) (s : List ℕ) (c timestamp : ℕ) → Out Rooms → Out World
 dataBy w clock s c timestamp out =
     unless (out .answer) w

@@ -116,8 +116,8 @@ pub(crate) fn take_messages(
     Outcome { answer: 0, len: 0 }
 }
 
-// The ACK of the biggest complete interval around chunk c, which is held, to the peer of the channel that it came on; its
-// length.
+// The ACK of the biggest complete interval around chunk c, which is held, to the peer of the channel that it came on;
+// its length.
 fn acknowledge(
     state: &[u32],
     format: Format,

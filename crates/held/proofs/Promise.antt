@@ -1,5 +1,5 @@
--- What the crates above know of this one: the names passed on here, what is counted where nothing is refused, which numbers
--- asking can give, and which interval an ACK names. Assumes nothing.
+-- What the crates above know of this one: the names passed on here, what is counted where nothing is refused, which
+-- numbers asking can give, and which interval an ACK names. Assumes nothing.
 use Prim.Native.Nat.{ℕ, _*_, _≤_, _<_}
 use mathlib.Core.Path.{_≡_}
 use mathlib.Core.Bool.{true}
@@ -26,7 +26,8 @@ held-counted = laws.held-counted
 pub ask-numbered : (L : ℕ) (map : List ℕ) → OneOf (0 ∷ 11 ∷ 12 ∷ []) (heldSpec L map .answer)
 ask-numbered = numbers.ask-one
 
--- 02, No. 2: "both that the interval is held and that no bigger one covering the chunk is", for every map, N and held chunk.
+-- 02, No. 2: "both that the interval is held and that no bigger one covering the chunk is", for every map and held chunk,
+-- and every N below 2 ^ 31, since bins have 32 bits.
 pub complete-biggest : (F : Format) (map : List ℕ) (N c : ℕ) → c < N → bitAt map c ≡ true → 2 * N ≤ emptyBin
     → Biggest F map N c (completeInterval F map N c)
 complete-biggest = intervals.interval-biggest

@@ -16,7 +16,7 @@ use Rattle.format.specs.declared.Format.{Format}
 use Rattle.tree.proofs.Promise.{above, levels, above-nested}
 use Rattle.held.specs.declared.interval.Interval.{Interval}
 use Rattle.held.specs.Interval.{interval, runAround, isWithin, heightWithin, completeInterval}
-use Rattle.held.proofs.IntervalLaws.{run-covers, within-if, height-le, height-in, height-most}
+use Rattle.held.proofs.IntervalLaws.{run-covers, Within, within-if, height-le, height-in, height-most}
 
 -- ---- the run
 
@@ -36,26 +36,28 @@ module _ (h c first last : ℕ) {from : ℕ} (e : from ≡ above h c) where
   within-no l = rw (lt-leb first (above h c) (omega arith))
 
   -- It does not.
-  pub within-by : {w : ℕ} → w ≡ 2 ^ h → first ≤ from → leb (from + w) (last + 1) ≡ isWithin h c (interval first last)
-  within-by we l = rw (le-leb first (above h c) (omega arith), e, we)
+  pub within-by : {w : ℕ} → w ≡ 2 ^ h → first ≤ from → leb (from + (w - 1)) last ≡ isWithin h c (interval first last)
+  within-by {w} we l =
+      let s : from + (w - 1) ≡ above h c + 2 ^ h - 1 = omega (arith, e, we, pow-pos h) in
+      rw (le-leb first (above h c) (omega arith), s)
 
 -- The leaf lies within chunks around c.
-pub leaf-in : (c : ℕ) (i : Interval) → (i .first ≤ c) × (c ≤ i .last) → (i .first ≤ above 0 c) × (above 0 c + 2 ^ 0 ≤ i .last + 1)
+pub leaf-in : (c : ℕ) (i : Interval) → (i .first ≤ c) × (c ≤ i .last) → Within 0 c i
 leaf-in c i k = omega arith
 
 -- The height to which the nodes above c lie within is the largest: a node within has all below it within.
-pub height-is : (c : ℕ) (i : Interval) → (i .first ≤ c) × (c ≤ i .last) → (d h : ℕ) → h ≤ d → i .first ≤ above h c → above h c + 2 ^ h ≤ i .last + 1
+pub height-is : (c : ℕ) (i : Interval) → (i .first ≤ c) × (c ≤ i .last) → (d h : ℕ) → h ≤ d → Within h c i
     → (isWithin (h + 1) c i ≡ false) ⊎ (d ≤ h) → h ≡ heightWithin d c i
-height-is c i k d h l f g stop = go stop (decLt h (heightWithin d c i))
+height-is c i k d h l w stop = go stop (decLt h (heightWithin d c i))
   where
     most : h ≤ heightWithin d c i
-    most = height-most c i k d h l f g
+    most = height-most c i k d h l w
 
     go : (isWithin (h + 1) c i ≡ false) ⊎ (d ≤ h) → Dec (h < heightWithin d c i) → h ≡ heightWithin d c i
     go (inl e) (yes b) =
         let n = above-nested (h + 1) (heightWithin d c i) c (omega arith) in
         let p = height-in c i k d in
-        absurd (true≢false (sym (within-if (h + 1) c i (omega (arith, n, p)) (omega (arith, n, p))) ∙ e))
+        absurd (true≢false (sym (within-if (h + 1) c i (omega (arith, n, p), omega (arith, n, p))) ∙ e))
     go (inr e) (yes b) = absurd (omega (arith, height-le c i d))
     go e (no b) = omega (arith, most)
 
@@ -71,7 +73,8 @@ module _ (map : List ℕ) (n c : ℕ) {run : Interval} (re : run ≡ runAround m
   ranges-are F e = rw e re
 
   -- The height found, the first chunk of the node, and its width.
-  module _ {d h a w : ℕ} (de : d ≡ levels n) (he : h ≡ heightWithin d c (interval (run .first) (run .last))) (ae : a ≡ above h c) (we : w ≡ 2 ^ h) where
+  module _ {d h a w : ℕ} (de : d ≡ levels n) (he : h ≡ heightWithin d c (interval (run .first) (run .last)))
+      (ae : a ≡ above h c) (we : w ≡ 2 ^ h) where
     found : h ≡ heightWithin (levels n) c (runAround map n c)
     found = he ∙ rw (de, re)
 

@@ -37,10 +37,10 @@ fn is_within(h: u32, c: u32, first: u32, last: u32) -> bool
     if from < first as u64 {
         return false;
     }
-    from + bin::pow2(h) <= last as u64 + 1
+    from + (bin::pow2(h) - 1) <= last as u64
 }
 
-// The largest height up to `most` at which it does, for chunks around c.
+// The largest height up to `most` at which it does, where c is one of them.
 fn height_within(most: u32, c: u32, first: u32, last: u32) -> u32
     requires { ⌜ (most < 59) × (first ≤ c) × (c ≤ last) ⌝ }
     ensures { λ r. ⌜ (r ≡ heightWithin most c (interval first last)) × (r ≤ most) ⌝ }
@@ -52,7 +52,7 @@ fn height_within(most: u32, c: u32, first: u32, last: u32) -> u32
     h
 }
 
-// The biggest complete interval around chunk c of n that the method names.
+// The biggest complete interval around the held chunk c of n that the method names.
 pub fn complete_interval(format: Format, map: &[u32], n: u32, c: u32) -> Interval
     ensures { λ r. ⌜ r ≡ completeInterval format (now (map .entry)) n c ⌝ }
 {

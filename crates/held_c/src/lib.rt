@@ -5,8 +5,8 @@ ghost use Rattle.format.specs.Format.{formatOf};
 ghost use Rattle.held.proofs.Promise.{completeInterval};
 use held::interval;
 
-// The biggest complete interval around chunk c of n: its first chunk, and its last in the upper half. Any number for a
-// method of addressing but that of bins counts as ranges.
+// The biggest complete interval around the held chunk c of n: its first chunk, and its last in the upper half. Any
+// number for a method of addressing but that of bins counts as ranges.
 #[no_mangle]
 pub extern "C" fn held_interval(addressing: u32, map: &[u32], n: u32, c: u32) -> u64
     ensures { λ r. ⌜ r ≡ completeInterval (formatOf addressing) (now (map .entry)) n c .last * 2 ^ 32

@@ -50,10 +50,14 @@ cast-first-2 : tie.Need-cast-first-2 Inv-loop μ-loop Inv-loop2 μ-loop2
 cast-first-2 c = record { fits = lt-of-le-of-lt (leading-le 32 _) (omega arith) }
 
 returns-3 : tie.Need-returns-3 Inv-loop μ-loop Inv-loop2 μ-loop2
-returns-3 c = let s = c .before .before .before .before .before .args in omega (arith, high-ones-below (s .ws .now) (s .c) (omega arith))
+returns-3 c =
+    let s = c .before .before .before .before .before .args in
+    omega (arith, high-ones-below (s .ws .now) (s .c) (omega arith))
 
 loop-holds : tie.Need-loop-holds Inv-loop μ-loop Inv-loop2 μ-loop2
-loop-holds c = let s = c .before .before .before .before .before .args in omega (arith, high-ones-below (s .ws .now) (s .c) (omega arith))
+loop-holds c =
+    let s = c .before .before .before .before .before .args in
+    omega (arith, high-ones-below (s .ws .now) (s .c) (omega arith))
 
 block-full-requires : tie.Need-block-full-requires Inv-loop μ-loop Inv-loop2 μ-loop2
 block-full-requires c κs = omega arith
@@ -62,7 +66,16 @@ loop-less : tie.Need-loop-less Inv-loop μ-loop Inv-loop2 μ-loop2
 loop-less c = omega arith
 
 loop-again : tie.Need-loop-again Inv-loop μ-loop Inv-loop2 μ-loop2
-loop-again c = let s = c .before .before .before .before .before .before .before .before .before .args in let l = c .before .before .before .loop in (omega arith, omega arith, block-below (s .ws .now) (λ i. c .before .before .before .before .before .before .before .before .shared-slice-known .given i .fits) (s .c) (l .w) (omega arith) (omega arith) (l .inv .2) (c .before .block-full .ensures) (c .if4 .taken))
+loop-again c =
+    let s = c .before .before .before .before .before .before .before .before .before .args in
+    let l = c .before .before .before .loop in
+    let known = c .before .before .before .before .before .before .before .before .shared-slice-known .given in (
+      omega arith,
+      omega arith,
+      block-below (s .ws .now) (λ i. known i .fits) (s .c) (l .w) (omega arith) (omega arith) (l .inv .2)
+          (c .before .block-full .ensures)
+          (c .if4 .taken),
+    )
 
 loop2-holds : tie.Need-loop2-holds Inv-loop μ-loop Inv-loop2 μ-loop2
 loop2-holds c = c .before .loop .inv
@@ -86,10 +99,19 @@ cast-result : tie.Need-cast-result Inv-loop μ-loop Inv-loop2 μ-loop2
 cast-result c = record { fits = lt-of-le-of-lt (leading-le 32 _) (omega arith) }
 
 add-result : tie.Need-add-result Inv-loop μ-loop Inv-loop2 μ-loop2
-add-result c = let l = c .before .before .before .loop2 in omega (arith, high-ones-word (c .before .before .before .before .before .before .before .before .before .before .before .args .ws .now) (l .w) (omega arith) (c .before .shared-slice-known3 .given (l .w - 1) .fits))
+add-result c =
+    let l = c .before .before .before .loop2 in
+    let s = c .before .before .before .before .before .before .before .before .before .before .before .args in
+    let known = c .before .shared-slice-known3 .given (l .w - 1) .fits in
+    omega (arith, high-ones-word (s .ws .now) (l .w) (omega arith) known)
 
 returns-4 : tie.Need-returns-4 Inv-loop μ-loop Inv-loop2 μ-loop2
-returns-4 c = let l = c .before .before .before .loop2 in let s = c .before .before .before .before .before .before .before .before .before .before .before .args in let rest = below-at (s .ws .now) (s .c) (32 * l .w) (omega arith) (l .inv .2) in omega (arith, high-ones-word (s .ws .now) (l .w) (omega arith) (c .before .shared-slice-known3 .given (l .w - 1) .fits))
+returns-4 c =
+    let l = c .before .before .before .loop2 in
+    let s = c .before .before .before .before .before .before .before .before .before .before .before .args in
+    let known = c .before .shared-slice-known3 .given (l .w - 1) .fits in
+    let rest = below-at (s .ws .now) (s .c) (32 * l .w) (omega arith) (l .inv .2) in
+    omega (arith, high-ones-word (s .ws .now) (l .w) (omega arith) known)
 
 sub-w : tie.Need-sub-w Inv-loop μ-loop Inv-loop2 μ-loop2
 sub-w c = omega arith
@@ -98,10 +120,20 @@ loop2-less : tie.Need-loop2-less Inv-loop μ-loop Inv-loop2 μ-loop2
 loop2-less c = omega arith
 
 loop2-again : tie.Need-loop2-again Inv-loop μ-loop Inv-loop2 μ-loop2
-loop2-again c = let l = c .before .before .before .loop2 in let s = c .before .before .before .before .before .before .before .before .before .before .before .args in let ones = high-ones-word (s .ws .now) (l .w) (omega arith) (c .before .shared-slice-known3 .given (l .w - 1) .fits) in (omega arith, omega arith, word-more-below (s .ws .now) (s .c) (l .w) (omega arith) (omega arith) (l .inv .2) (omega arith))
+loop2-again c =
+    let l = c .before .before .before .loop2 in
+    let s = c .before .before .before .before .before .before .before .before .before .before .before .args in
+    let known = c .before .shared-slice-known3 .given (l .w - 1) .fits in
+    let ones = high-ones-word (s .ws .now) (l .w) (omega arith) known in (
+      omega arith,
+      omega arith,
+      word-more-below (s .ws .now) (s .c) (l .w) (omega arith) (omega arith) (l .inv .2) (omega arith),
+    )
 
 returns-5 : tie.Need-returns-5 Inv-loop μ-loop Inv-loop2 μ-loop2
-returns-5 c = let s = c .before .before .before .before .before .before .before .before .before .args in omega (arith, held-below-le (s .ws .now) (s .c))
+returns-5 c =
+    let s = c .before .before .before .before .before .before .before .before .before .args in
+    omega (arith, held-below-le (s .ws .now) (s .c))
 
 pub run-below-spec : {M : Type 1} → statement M
 run-below-spec =

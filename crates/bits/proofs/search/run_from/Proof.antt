@@ -38,7 +38,9 @@ loop-holds : tie.Need-loop-holds Inv-loop μ-loop Inv-loop2 μ-loop2
 loop-holds c = omega arith
 
 add-loop : tie.Need-add-loop Inv-loop μ-loop Inv-loop2 μ-loop2
-add-loop c = let s = c .before .before .before .before .before .args in omega (arith, held-from-le (s .ws .now) (s .upto - s .x) (s .x))
+add-loop c =
+    let s = c .before .before .before .before .before .args in
+    omega (arith, held-from-le (s .ws .now) (s .upto - s .x) (s .x))
 
 block-full-requires : tie.Need-block-full-requires Inv-loop μ-loop Inv-loop2 μ-loop2
 block-full-requires c κs = omega arith
@@ -50,7 +52,15 @@ loop-less : tie.Need-loop-less Inv-loop μ-loop Inv-loop2 μ-loop2
 loop-less c = words-left (c .before .before .before .loop .w) _ 8 (omega arith) (omega arith)
 
 loop-again : tie.Need-loop-again Inv-loop μ-loop Inv-loop2 μ-loop2
-loop-again c = let s = c .before .before .before .before .before .before .before .before .args in let l = c .before .before .before .loop in (omega arith, block-more (s .ws .now) (λ i. c .before .before .before .before .before .before .before .shared-slice-known .given i .fits) (s .x) (l .w) (s .upto) (l .inv .0) (l .inv .1) (c .before .block-full .ensures) (c .if2 .taken) (omega arith))
+loop-again c =
+    let s = c .before .before .before .before .before .before .before .before .args in
+    let l = c .before .before .before .loop in
+    let known = c .before .before .before .before .before .before .before .shared-slice-known .given in (
+      omega arith,
+      block-more (s .ws .now) (λ i. known i .fits) (s .x) (l .w) (s .upto) (l .inv .0) (l .inv .1)
+          (c .before .block-full .ensures)
+          (c .if2 .taken) (omega arith),
+    )
 
 loop2-holds : tie.Need-loop2-holds Inv-loop μ-loop Inv-loop2 μ-loop2
 loop2-holds c = c .before .loop .inv
@@ -68,10 +78,17 @@ loop2-less : tie.Need-loop2-less Inv-loop μ-loop Inv-loop2 μ-loop2
 loop2-less c = words-left (c .before .before .before .loop2 .w) _ 1 (omega arith) (c .before .before .loop2-test .taken)
 
 loop2-again : tie.Need-loop2-again Inv-loop μ-loop Inv-loop2 μ-loop2
-loop2-again c = let l = c .before .before .before .loop2 in let s = c .before .before .before .before .before .before .before .before .before .before .args in let word = low-ones-word (s .ws .now) (l .w) (s .upto - 32 * l .w) (c .before .shared-slice-known2 .given (l .w) .fits) (omega arith) in (omega arith, word-more (s .ws .now) (s .x) (l .w) (s .upto) (l .inv .0) (l .inv .1) (omega (arith, eqb-true)))
+loop2-again c =
+    let l = c .before .before .before .loop2 in
+    let s = c .before .before .before .before .before .before .before .before .before .before .args in
+    let known = c .before .shared-slice-known2 .given (l .w) .fits in
+    let word = low-ones-word (s .ws .now) (l .w) (s .upto - 32 * l .w) known (omega arith) in
+    (omega arith, word-more (s .ws .now) (s .x) (l .w) (s .upto) (l .inv .0) (l .inv .1) (omega (arith, eqb-true)))
 
 mul-stop-in-word : tie.Need-mul-stop-in-word Inv-loop μ-loop Inv-loop2 μ-loop2
-mul-stop-in-word c = let s = c .before .before .before .before .before .before .before .before .args in omega (arith, held-from-le (s .ws .now) (s .upto - s .x) (s .x))
+mul-stop-in-word c =
+    let s = c .before .before .before .before .before .before .before .before .args in
+    omega (arith, held-from-le (s .ws .now) (s .upto - s .x) (s .x))
 
 stop-in-word-requires-2 : tie.Need-stop-in-word-requires-2 Inv-loop μ-loop Inv-loop2 μ-loop2
 stop-in-word-requires-2 c κs = search needs
@@ -80,7 +97,15 @@ sub-result-2 : tie.Need-sub-result-2 Inv-loop μ-loop Inv-loop2 μ-loop2
 sub-result-2 c = omega arith
 
 returns-2 : tie.Need-returns-2 Inv-loop μ-loop Inv-loop2 μ-loop2
-returns-2 c = let l = c .before .before .loop2 in let s = c .before .before .before .before .before .before .before .before .before .args in let e = c .before .before .before .before .before .least .ensures in word-last (s .ws .now) (s .x) (l .w) (s .upto) (l .inv .0) (l .inv .1) (c .stop-in-word2 .ensures) (⊎-elim (λ t. short-at-gap (s .ws .now) (l .w) (s .upto) e (t .1 .given (l .w) .fits) (t .0 .taken) (t .2 .left)) (λ t. short-at-end (s .ws .now) (l .w) (s .upto) e (t .left)) (c .before .loop2-test .came))
+returns-2 c =
+    let l = c .before .before .loop2 in
+    let s = c .before .before .before .before .before .before .before .before .before .args in
+    let e = c .before .before .before .before .before .least .ensures in
+    word-last (s .ws .now) (s .x) (l .w) (s .upto) (l .inv .0) (l .inv .1) (c .stop-in-word2 .ensures)
+    (⊎-elim
+    (λ t. short-at-gap (s .ws .now) (l .w) (s .upto) e (t .1 .given (l .w) .fits) (t .0 .taken) (t .2 .left))
+    (λ t. short-at-end (s .ws .now) (l .w) (s .upto) e (t .left))
+    (c .before .loop2-test .came))
 
 pub run-from-spec : {M : Type 1} → statement M
 run-from-spec =

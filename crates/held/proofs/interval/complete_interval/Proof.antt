@@ -37,13 +37,23 @@ add-t13 : tie.Need-add-t13
 add-t13 c =
     let s = c .before .before .before .before .before .before .before .before .args in
     let run = c .before .before .before .before .before .before .run-around .ensures in
-    omega (arith, node-in (s .map .now) (s .n) (s .c) run (c .before .before .before .levels .ensures .0) (c .before .before .height-within .ensures .0) (c .before .above .ensures .0) (c .pow2 .ensures .0))
+    omega (
+      arith,
+      node-in (s .map .now) (s .n) (s .c) run (c .before .before .before .levels .ensures .0)
+          (c .before .before .height-within .ensures .0) (c .before .above .ensures .0) (c .pow2 .ensures .0),
+    )
 
 cast-t14 : tie.Need-cast-t14
 cast-t14 c =
     let s = c .before .before .before .before .before .before .before .before .args in
     let run = c .before .before .before .before .before .before .run-around .ensures in
-    record { fits = omega (arith, node-in (s .map .now) (s .n) (s .c) run (c .before .before .before .levels .ensures .0) (c .before .before .height-within .ensures .0) (c .before .above .ensures .0) (c .pow2 .ensures .0)) }
+    record {
+      fits = omega (
+        arith,
+        node-in (s .map .now) (s .n) (s .c) run (c .before .before .before .levels .ensures .0)
+            (c .before .before .height-within .ensures .0) (c .before .above .ensures .0) (c .pow2 .ensures .0),
+      );
+    }
 
 returns : tie.Need-returns
 returns c =
@@ -54,7 +64,9 @@ returns-2 : tie.Need-returns-2
 returns-2 c =
     let s = c .before .before .before .before .before .before .before .before .args in
     let run = c .before .before .before .before .before .before .run-around .ensures in
-    bins-are (s .map .now) (s .n) (s .c) run (c .before .before .before .levels .ensures .0) (c .before .before .height-within .ensures .0) (c .before .above .ensures .0) (c .pow2 .ensures .0) (s .format) (c .before .before .before .before .enum-told2 .given .1)
+    bins-are (s .map .now) (s .n) (s .c) run (c .before .before .before .levels .ensures .0)
+    (c .before .before .height-within .ensures .0) (c .before .above .ensures .0) (c .pow2 .ensures .0) (s .format)
+    (c .before .before .before .before .enum-told2 .given .1)
 
 pub complete-interval-spec : {M : Type 1} → statement M
 complete-interval-spec =

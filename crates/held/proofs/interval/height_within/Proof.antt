@@ -1,16 +1,15 @@
-use Prim.Native.Nat.{_+_, _-_, _^_, _≤_}
+use Prim.Native.Nat.{_+_, _-_, _≤_}
 use native.Mathlib.Omega.{arith}
 use mathlib.Core.Logic.{inl, inr}
 use mathlib.Core.Path.{sym, _∙_}
-use Rattle.tree.proofs.Promise.{above}
 use Rattle.held.specs.Interval.{interval}
-use Rattle.held.proofs.IntervalLaws.{within-says}
+use Rattle.held.proofs.IntervalLaws.{Within, within-says}
 use Rattle.held.proofs.SearchLaws.{leaf-in, height-is}
 use Rattle.held.proofs.interval.height_within.Statement.{statement}
 use Rattle.held.proofs.interval.height_within.Tie as tie
 
 abbrev Inv-loop : tie.InvT-loop
-Inv-loop most c first last h₀ h = (h ≤ most) × (first ≤ above h c) × (above h c + 2 ^ h ≤ last + 1)
+Inv-loop most c first last h₀ h = (h ≤ most) × Within h c (interval first last)
 
 abbrev μ-loop : tie.MeasureT-loop
 μ-loop most c first last h₀ h = most - h
@@ -18,8 +17,7 @@ abbrev μ-loop : tie.MeasureT-loop
 loop-holds : tie.Need-loop-holds Inv-loop μ-loop
 loop-holds c =
     let s = c .args in
-    let l = leaf-in (s .c) (interval (s .first) (s .last)) (c .pre .1, c .pre .2) in
-    (omega arith, l .0, l .1)
+    (omega arith, leaf-in (s .c) (interval (s .first) (s .last)) (c .pre .1, c .pre .2))
 
 add-is-within : tie.Need-add-is-within Inv-loop μ-loop
 add-is-within c = omega arith
@@ -37,15 +35,15 @@ loop-again : tie.Need-loop-again Inv-loop μ-loop
 loop-again c =
     let s = c .before .before .before .before .args in
     let h = c .before .before .before .loop .h in
-    let w = within-says (h + 1) (s .c) (interval (s .first) (s .last)) (sym (c .before .is-within .ensures) ∙ c .if1 .taken) in
-    (omega arith, w .0, w .1)
+    let e = sym (c .before .is-within .ensures) ∙ c .if1 .taken in
+    (omega arith, within-says (h + 1) (s .c) (interval (s .first) (s .last)) e)
 
 returns : tie.Need-returns Inv-loop μ-loop
 returns c =
     let s = c .before .before .before .before .args in
     let p = c .before .before .before .before .pre in
     let l = c .before .before .before .loop in (
-      height-is (s .c) (interval (s .first) (s .last)) (p .1, p .2) (s .most) (l .h) (l .inv .0) (l .inv .1) (l .inv .2)
+      height-is (s .c) (interval (s .first) (s .last)) (p .1, p .2) (s .most) (l .h) (l .inv .0) (l .inv .1)
           (inl (sym (c .before .is-within .ensures) ∙ c .if1 .left)),
       l .inv .0,
     )
@@ -55,7 +53,7 @@ returns-2 c =
     let s = c .before .before .args in
     let p = c .before .before .pre in
     let l = c .before .loop in (
-      height-is (s .c) (interval (s .first) (s .last)) (p .1, p .2) (s .most) (l .h) (l .inv .0) (l .inv .1) (l .inv .2)
+      height-is (s .c) (interval (s .first) (s .last)) (p .1, p .2) (s .most) (l .h) (l .inv .0) (l .inv .1)
           (inr (omega arith)),
       l .inv .0,
     )
