@@ -63,9 +63,9 @@ pub fn run_below(ws: &[u32], c: usize) -> usize
     if ws.len() <= w {
         return 0;
     }
-    let first = u32::leading_zeros(!(ws[w] << (31 - top % 32))) as usize;
-    if first <= top % 32 {
-        return first;
+    let head = u32::leading_zeros(!(ws[w] << (31 - top % 32))) as usize;
+    if head <= top % 32 {
+        return head;
     }
     while 8 <= w && block_full(ws, w - 8) {
         w -= 8;

@@ -30,7 +30,8 @@ struct Ruling {
 
 // It is done, or refused.
 fn ruled(outcome: Outcome) -> Ruling
-    ensures { λ r. ⌜ (r .answer ≡ outcome .answer) × (r .len ≡ outcome .len) × (r .alone ≡ false) × (r .survey ≡ noSurvey) ⌝ }
+    ensures { λ r. ⌜ (r .answer ≡ outcome .answer) × (r .len ≡ outcome .len)
+        × (r .alone ≡ false) × (r .survey ≡ noSurvey) ⌝ }
 {
     Ruling {
         answer: outcome.answer,

@@ -1,7 +1,6 @@
 // The biggest complete interval of held chunks around one, which an ACK names.
 ghost use mathlib.Core.Path.{_≡_};
-ghost use Prim.Native.Nat.{_+_, _≤_, _<_};
-ghost use Rattle.tree.proofs.Promise.{above};
+ghost use Prim.Native.Nat.{_≤_, _<_};
 ghost use Rattle.held.specs.Interval.{interval, runAround, isWithin, heightWithin, completeInterval};
 use bits::search;
 use format::Addressing;

@@ -177,7 +177,8 @@ fn take_turn(
 ) -> Turn
     requires { ⌜ Standing (now datagram) (length (now entries)) at used ⌝ }
     ensures { λ r. ⌜ turnedOf r (now (entries .exit))
-        ≡ turnAt format (now (datagram .entry)) (now (entries .entry)) used at survey (stepAt format (now (datagram .entry)) at) ⌝ }
+        ≡ turnAt format (now (datagram .entry)) (now (entries .entry)) used at survey
+        (stepAt format (now (datagram .entry)) at) ⌝ }
 {
     let size = plain::any_size(format, datagram, at);
     if size != 0 {
@@ -208,7 +209,8 @@ fn take_turn(
 fn pass_behind(format: Format, datagram: &[u8], entries: &mut [u64], front: Front) -> Pass
     requires { ⌜ Fronted format (now datagram) front ⌝ }
     requires { ⌜ entryWords ≤ length (now entries) ⌝ }
-    ensures { λ r. ⌜ (checkedOf (r .layout) (now (entries .exit)) ≡ checkSpec format (now (entries .entry)) (now (datagram .entry)))
+    ensures { λ r. ⌜ (checkedOf (r .layout) (now (entries .exit))
+        ≡ checkSpec format (now (entries .entry)) (now (datagram .entry)))
         × (r .survey ≡ surveySpec format (now (datagram .entry))) ⌝ }
 {
     let mut at: usize = front.at;
@@ -242,7 +244,8 @@ fn pass_behind(format: Format, datagram: &[u8], entries: &mut [u64], front: Fron
 // scratch of the caller, from its front, as far as the messages were read.
 pub fn rest(format: Format, datagram: &[u8], entries: &mut [u64; ENTRIES], front: Front) -> Pass
     requires { ⌜ Fronted format (now datagram) front ⌝ }
-    ensures { λ r. ⌜ (checkedOf (r .layout) (now (entries .exit)) ≡ checkSpec format (now (entries .entry)) (now (datagram .entry)))
+    ensures { λ r. ⌜ (checkedOf (r .layout) (now (entries .exit))
+        ≡ checkSpec format (now (entries .entry)) (now (datagram .entry)))
         × (r .survey ≡ surveySpec format (now (datagram .entry))) ⌝ }
 {
     pass_behind(format, datagram, entries, front)

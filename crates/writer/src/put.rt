@@ -87,7 +87,8 @@ pub fn put_data(
     requires { ⌜ start + len ≤ length (now bytes) ⌝ }
     requires { ⌜ nameable format first last ≡ true ⌝ }
     ensures { λ _. ⌜ now (room .exit)
-        ≡ placed (now (room .entry)) at (bytesOf format (now (bytes .entry)) (Message.Data first last timestamp start len)) ⌝ }
+        ≡ placed (now (room .entry)) at
+        (bytesOf format (now (bytes .entry)) (Message.Data first last timestamp start len)) ⌝ }
 {
     let named = range::named_size(format);
     place::place_name(room, at, format, 1, first, last);

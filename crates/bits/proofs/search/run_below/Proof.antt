@@ -11,16 +11,16 @@ use Rattle.bits.proofs.search.run_below.Statement.{statement}
 use Rattle.bits.proofs.search.run_below.Tie as tie
 
 abbrev Inv-loop : tie.InvT-loop
-Inv-loop ws c top w₀ first w = (w < length ws) × (32 * w < c) × (c - 32 * w ≤ heldBelow ws c)
+Inv-loop ws c top w₀ head w = (w < length ws) × (32 * w < c) × (c - 32 * w ≤ heldBelow ws c)
 
 abbrev μ-loop : tie.MeasureT-loop
-μ-loop ws c top w₀ first w = w
+μ-loop ws c top w₀ head w = w
 
 abbrev Inv-loop2 : tie.InvT-loop2
 Inv-loop2 = Inv-loop
 
 abbrev μ-loop2 : tie.MeasureT-loop2
-μ-loop2 ws c top w₀ first w = w
+μ-loop2 ws c top w₀ head w = w
 
 returns : tie.Need-returns Inv-loop μ-loop Inv-loop2 μ-loop2
 returns c = omega (arith, held-below-le (c .before .before .args .ws .now) (c .before .before .args .c))
@@ -31,23 +31,23 @@ sub-top c = omega arith
 returns-2 : tie.Need-returns-2 Inv-loop μ-loop Inv-loop2 μ-loop2
 returns-2 c = let s = c .before .before .before .args in omega (arith, below-past (s .ws .now) (s .c) (omega arith))
 
-mul-first : tie.Need-mul-first Inv-loop μ-loop Inv-loop2 μ-loop2
-mul-first c = omega arith
+mul-head : tie.Need-mul-head Inv-loop μ-loop Inv-loop2 μ-loop2
+mul-head c = omega arith
 
-shared-slice-read-first : tie.Need-shared-slice-read-first Inv-loop μ-loop Inv-loop2 μ-loop2
-shared-slice-read-first c = omega arith
+shared-slice-read-head : tie.Need-shared-slice-read-head Inv-loop μ-loop Inv-loop2 μ-loop2
+shared-slice-read-head c = omega arith
 
-sub-first : tie.Need-sub-first Inv-loop μ-loop Inv-loop2 μ-loop2
-sub-first c = omega arith
+sub-head : tie.Need-sub-head Inv-loop μ-loop Inv-loop2 μ-loop2
+sub-head c = omega arith
 
-cast-first : tie.Need-cast-first Inv-loop μ-loop Inv-loop2 μ-loop2
-cast-first c = omega arith
+cast-head : tie.Need-cast-head Inv-loop μ-loop Inv-loop2 μ-loop2
+cast-head c = omega arith
 
-shl-first : tie.Need-shl-first Inv-loop μ-loop Inv-loop2 μ-loop2
-shl-first c = omega arith
+shl-head : tie.Need-shl-head Inv-loop μ-loop Inv-loop2 μ-loop2
+shl-head c = omega arith
 
-cast-first-2 : tie.Need-cast-first-2 Inv-loop μ-loop Inv-loop2 μ-loop2
-cast-first-2 c = record { fits = lt-of-le-of-lt (leading-le 32 _) (omega arith) }
+cast-head-2 : tie.Need-cast-head-2 Inv-loop μ-loop Inv-loop2 μ-loop2
+cast-head-2 c = record { fits = lt-of-le-of-lt (leading-le 32 _) (omega arith) }
 
 returns-3 : tie.Need-returns-3 Inv-loop μ-loop Inv-loop2 μ-loop2
 returns-3 c =
@@ -146,12 +146,12 @@ run-below-spec =
     returns
     sub-top
     returns-2
-    mul-first
-    shared-slice-read-first
-    sub-first
-    cast-first
-    shl-first
-    cast-first-2
+    mul-head
+    shared-slice-read-head
+    sub-head
+    cast-head
+    shl-head
+    cast-head-2
     returns-3
     loop-holds
     block-full-requires
