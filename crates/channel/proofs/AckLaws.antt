@@ -6,7 +6,7 @@ use native.Mathlib.Omega.{arith}
 use mathlib.Core.Path.{_≡_}
 use mathlib.Core.List.{List}
 use lib.ListN.{length, take}
-use Rattle.base.proofs.OutLaws.{unless-zero}
+use Rattle.base.proofs.OutLaws.{at-zero, unless-zero}
 use Rattle.wire.proofs.Promise.{placed, maxSize, place-most, placed-front}
 use Rattle.wire.specs.declared.layout.Layout.the-variants.{MessagesAndData}
 use Rattle.replies.proofs.Promise.{ack-long}
@@ -35,7 +35,7 @@ module _ (w : World) (clock : ℕ) (s entries : List ℕ) (c timestamp start n :
   data-left big =
       let st = w .channels .state in
       let p = unless-zero (messagesNumber st s) w _ z in
-      let q = unless-zero (storeOut w s entries c start n .answer) w _ (p .1) in
+      let q = at-zero _ (storeOut w s entries c start n .answer) w _ (p .1) in
       let F = orderFormat st in
       let map = storeOut w s entries c start n .after .map in
       let v = acknowledged st map c in
@@ -52,7 +52,7 @@ module _ (w : World) (clock : ℕ) (s entries : List ℕ) (c timestamp start n :
   data-biggest limit =
       let st = w .channels .state in
       let p = unless-zero (messagesNumber st s) w _ z in
-      let q = unless-zero (storeOut w s entries c start n .answer) w _ (p .1) in
+      let q = at-zero _ (storeOut w s entries c start n .answer) w _ (p .1) in
       let h = store-held (w .rooms) _ _ c _ _ (q .0) in
       rw (p .0, q .0) (acknowledged-biggest st (storeOut w s entries c start n .after .map) c limit (h .0) (h .1))
 

@@ -1,7 +1,7 @@
 -- DATA: the ACK, and the chunk taken by the store, return by return as the code has them. Assumes nothing.
 use Prim.Native.Nat.{ℕ, _+_, _-_, _%_, _^_, _<_}
 use native.Mathlib.Omega.{arith}
-use mathlib.Core.Path.{_≡_, refl, sym, ap, _∙_}
+use mathlib.Core.Path.{_≡_, refl, sym, ap, ap₂, _∙_}
 use mathlib.Core.Logic.{_≢_}
 use mathlib.Core.Bool.{true}
 use mathlib.Core.List.{List, []}
@@ -19,11 +19,12 @@ use Rattle.order.specs.declared.Order.{Order}
 use Rattle.hash.proofs.Promise.{bytesOf, words}
 use Rattle.store.proofs.Promise.{Rooms, Integrity, countOf, lengthAnswer, length-accepted, integrityOf}
 use Rattle.store.proofs.Promise.{takeSpec as storeTake, refused-same, taken-chunk, taken-map}
-use Rattle.channel.specs.World.{Channels, channelsOf, World, Out, outOf, orderRoot, orderLength, chunkCount}
+use Rattle.channel.specs.World.{Channels, channelsOf, World, Out, outAt, outOf, orderLength, chunkCount}
 use Rattle.channel.specs.World.{tableRows, orderFormat}
 use Rattle.channel.specs.Take.{rowFor, messagesNumber, affected, delay, acknowledged, acknowledgement, replied}
 use Rattle.channel.specs.Take.{dataBy, storeOut, dataTaken}
-use Rattle.base.proofs.OutLaws.{unless-not, unless-done}
+use Rattle.base.proofs.OutLaws.{at-not, at-done, unless-not, unless-done}
+use Rattle.base.specs.declared.Named.{Named}
 use Rattle.format.specs.declared.Format.{Format}
 
 -- ---- the ACK
@@ -84,9 +85,9 @@ module _ (w : World) (clock : ℕ) (s es : List ℕ) (c x b n : ℕ) {k : ℕ}
   data-refused d = ap (λ (y : ℕ). outOf y 0 w) ke ∙ unless-not _ w _ (λ z. d (ke ∙ z))
 
   module _ (z : k ≡ 0) {o : Order} (oe : o ≡ orderIn (w .channels .state)) {d : List ℕ} (de : d ≡ within s b n)
-      {m : ℕ} {after : Rooms}
-      (me : outOf m 0 after ≡ storeTake (w .rooms) (bytesOf (o .root .words)) (o .length) c d (integrityOf es s)) where
-    out-is : outOf m 0 after ≡ storeOut w s es c b n
+      {m : ℕ} {node : Named} {after : Rooms}
+      (me : outAt m 0 node after ≡ storeTake (w .rooms) (bytesOf (o .root .words)) (o .length) c d (integrityOf es s)) where
+    out-is : outAt m 0 node after ≡ storeOut w s es c b n
     out-is = me ∙ ap (λ (q : Order). by q d) oe ∙ ap (by (orderIn (w .channels .state))) de
       where
         by : Order → List ℕ → Out Rooms
@@ -94,6 +95,9 @@ module _ (w : World) (clock : ℕ) (s es : List ℕ) (c x b n : ℕ) {k : ℕ}
 
     answer-is : m ≡ storeOut w s es c b n .answer
     answer-is = ap (λ (o : Out Rooms). o .answer) out-is
+
+    node-is : node ≡ storeOut w s es c b n .node
+    node-is = ap (λ (o : Out Rooms). o .node) out-is
 
     after-is : after ≡ storeOut w s es c b n .after
     after-is = ap (λ (o : Out Rooms). o .after) out-is
@@ -111,14 +115,15 @@ module _ (w : World) (clock : ℕ) (s es : List ℕ) (c x b n : ℕ) {k : ℕ}
 
     -- 8, 9 or 10: the store left its rooms as they were.
     pub data-unfit : m ≢ 0
-        → outOf m 0 (record { rooms = after; channels = w .channels }) ≡ dataTaken w clock s es c x b n
+        → outAt m 0 node (record { rooms = after; channels = w .channels }) ≡ dataTaken w clock s es c x b n
     unfolding dataBy
     data-unfit d =
         let not : storeOut w s es c b n .answer ≢ 0 = λ q. d (answer-is ∙ q) in
         let same = after-is ∙ refused-same (w .rooms) _ _ c _ _ not in
         settled
-        (ap (λ (g : Rooms). outOf m 0 (record { rooms = g; channels = w .channels })) same
-        ∙ ap (λ (y : ℕ). outOf y 0 w) answer-is ∙ unless-not (storeOut w s es c b n .answer) w _ not)
+        (ap (λ (g : Rooms). outAt m 0 node (record { rooms = g; channels = w .channels })) same
+        ∙ ap₂ (λ (y : ℕ) (z : Named). outAt y 0 z w) answer-is node-is
+        ∙ at-not (storeOut w s es c b n .node) (storeOut w s es c b n .answer) w _ not)
 
     -- Stored, and acknowledged.
     pub data-done : m ≡ 0 → {len : ℕ} {p h v : List ℕ} {st : List ℕ}
@@ -130,4 +135,4 @@ module _ (w : World) (clock : ℕ) (s es : List ℕ) (c x b n : ℕ) {k : ℕ}
     data-done q a e =
         let r = acknowledgement (w .channels .state) (after .map) s clock c x in
         let ch = replied-is (w .channels) s r e (a .1) in
-        settled (rw (a .0, ch, after-is) (unless-done (storeOut w s es c b n .answer) w _ (sym answer-is ∙ q)))
+        settled (rw (a .0, ch, after-is) (at-done _ (storeOut w s es c b n .answer) w _ (sym answer-is ∙ q)))

@@ -16,7 +16,7 @@ use Rattle.channel.specs.World.{Channels, channelsOf, World, Out, outOf,
 use Rattle.channel.specs.Answers.{ownRoomsAnswer}
 use Rattle.channel.specs.Opening.{openedRow, occupied}
 use Rattle.channel.specs.Take.{ours, handshakeTaken, messagesNumber, affected, messagesTaken, replied, storeOut, dataBy, dataTaken, byLayout, takeSpec, layoutIn}
-use Rattle.base.proofs.OutLaws.{unless-keeps}
+use Rattle.base.proofs.OutLaws.{at-keeps, unless-keeps}
 
 module _ {A : Type 0} (f : Channels → A)
     (opening : (ch : Channels) (r : Row) → f (occupied ch r .after) ≡ f ch)
@@ -44,7 +44,7 @@ module _ {A : Type 0} (f : Channels → A)
   unfolding dataTaken dataBy
   data-keeps w clock s entries c timestamp start n =
       unless-keeps of-world (messagesNumber (w .channels .state) s) w _
-      (unless-keeps of-world (storeOut w s entries c start n .answer) w _ (replying (affected (w .channels) s) _ ∙ affecting (w .channels) s))
+      (at-keeps _ of-world (storeOut w s entries c start n .answer) w _ (replying (affected (w .channels) s) _ ∙ affecting (w .channels) s))
 
   layout-keeps : (w : World) (clock id : ℕ) (s : List ℕ) (l : Layout) → of-world (byLayout w clock id s l .after) ≡ of-world w
   unfolding byLayout

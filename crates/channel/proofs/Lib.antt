@@ -14,6 +14,7 @@ pub mod RefusedLaws
 pub mod ReplyLaws
 pub mod ShorterLaws
 pub mod NumberLaws
+pub mod NameLaws
 pub mod AckLaws
 pub mod ReadBackLaws
 pub mod Promise

@@ -7,7 +7,7 @@ use lib.Dec.{leb, ltb, eqb}
 use lib.ListN.{length}
 use Rattle.base.specs.Pick.{pick}
 use Rattle.base.specs.Among.{among, OneOf}
-use Rattle.base.proofs.OutLaws.{unless-one}
+use Rattle.base.proofs.OutLaws.{at-one, unless-one}
 use Rattle.base.proofs.AmongLaws.{allAmong, pick-one, earlier-one, one-of-more}
 use Rattle.bits.proofs.Promise.{bitAt}
 use Rattle.table.proofs.Promise.{stateWords, messagesAnswer, handshakeAnswer, writeAnswer, open-numbered, messages-numbered, handshake-numbered, write-numbered}
@@ -52,7 +52,7 @@ rooms-one L w =
     (order-numbered L (length (w .rooms .bytes)) (length (w .rooms .map)) (length (w .rooms .hashes)) (length (w .rooms .trusted)))
     (channel-rooms-one L (length (w .channels .state)) (length (w .channels .has)) (length (w .channels .wants)) (length (w .channels .reply)))
 
-own-one : (w : World) → OneOf roomNumbers (ownRoomsAnswer w)
+pub own-one : (w : World) → OneOf (0 ∷ 11 ∷ 12 ∷ []) (ownRoomsAnswer w)
 unfolding among
 own-one w = pick-one roomNumbers (ltb (length (w .channels .state)) stateWords) 11 _ refl (rooms-one (orderLength (w .channels .state)) w)
 
@@ -94,6 +94,38 @@ pub ask-one : (st map : List ℕ) → OneOf (0 ∷ 11 ∷ 12 ∷ []) (askSpec st
 unfolding askSpec among
 ask-one st map = either-asked (ltb (length st) stateWords) (askedOf 11 0 false) _ refl (ask-numbered (orderLength st) map)
 
+-- ---- messages, and a HANDSHAKE
+
+pub handshake-one : (ch : Channels) (id : ℕ) (s : List ℕ) (source : ℕ) (o : Options)
+    → OneOf (0 ∷ 3 ∷ 4 ∷ 5 ∷ 6 ∷ 14 ∷ []) (handshakeTaken ch id s source o .answer)
+unfolding handshakeTaken occupied among
+handshake-one ch id s source o =
+    let n = handshakeAnswer (tableRows (ch .state)) (be32 s 0) source (ours (orderRoot (ch .state)) s o) id in
+    unless-one ms n ch _
+    (handshake-numbered (tableRows (ch .state)) (be32 s 0) source (ours (orderRoot (ch .state)) s o) id)
+    (done (eqb (be32 s 0) 0) (occupied ch (openedRow id source)) _ refl refl)
+  where
+    ms : List ℕ
+    ms = 0 ∷ 3 ∷ 4 ∷ 5 ∷ 6 ∷ 14 ∷ []
+
+    done : (b : Bool) (x y : Out Channels) → x .answer ≡ 0 → y .answer ≡ 0 → OneOf ms (pick b x y .answer)
+    done true x y p q = rw p refl
+    done false x y p q = rw q refl
+
+pub messages-number-one : (st s : List ℕ) → OneOf (0 ∷ 3 ∷ 5 ∷ 7 ∷ []) (messagesNumber st s)
+unfolding messagesNumber among allAmong
+messages-number-one st s =
+    let ms : List ℕ = 0 ∷ 3 ∷ 5 ∷ 7 ∷ [] in
+    let n = messagesAnswer (tableRows st) (be32 s 0) (eqb (length s) minSize) in
+    let past = anyPast (orderFormat st) (chunkCount st) (messagesIn st s) in
+    earlier-one ms n (pick past 7 0)
+    (one-of-more (0 ∷ 3 ∷ 5 ∷ []) ms n refl (messages-numbered (tableRows st) (be32 s 0) (eqb (length s) minSize)))
+    (pick-one ms past 7 0 refl refl)
+
+pub messages-one : (ch : Channels) (s : List ℕ) → OneOf (0 ∷ 3 ∷ 5 ∷ 7 ∷ []) (messagesTaken ch s .answer)
+unfolding messagesTaken among
+messages-one ch s = unless-one (0 ∷ 3 ∷ 5 ∷ 7 ∷ []) (messagesNumber (ch .state) s) ch _ (messages-number-one (ch .state) s) refl
+
 -- ---- in rooms that suffice: neither 11 nor 12
 
 module _ (w : World) (enough : ownRoomsAnswer w ≡ 0) where
@@ -117,42 +149,24 @@ module _ (w : World) (enough : ownRoomsAnswer w ≡ 0) where
   abbrev takeNumbers : List ℕ
   takeNumbers = 0 ∷ 1 ∷ 2 ∷ 3 ∷ 4 ∷ 5 ∷ 6 ∷ 7 ∷ 8 ∷ 9 ∷ 10 ∷ 14 ∷ []
 
-  handshake-one : (ch : Channels) (id : ℕ) (s : List ℕ) (source : ℕ) (o : Options) → OneOf takeNumbers (handshakeTaken ch id s source o .answer)
-  unfolding handshakeTaken occupied among allAmong
-  handshake-one ch id s source o =
-      let n = handshakeAnswer (tableRows (ch .state)) (be32 s 0) source (ours (orderRoot (ch .state)) s o) id in
-      unless-one takeNumbers n ch _
-      (one-of-more (0 ∷ 3 ∷ 4 ∷ 5 ∷ 6 ∷ 14 ∷ []) takeNumbers n refl (handshake-numbered (tableRows (ch .state)) (be32 s 0) source (ours (orderRoot (ch .state)) s o) id))
-      (done (eqb (be32 s 0) 0) (occupied ch (openedRow id source)) _ refl refl)
-    where
-      done : (b : Bool) (x y : Out Channels) → x .answer ≡ 0 → y .answer ≡ 0 → OneOf takeNumbers (pick b x y .answer)
-      done true x y p q = rw p refl
-      done false x y p q = rw q refl
-
-  messages-number-one : (st s : List ℕ) → OneOf takeNumbers (messagesNumber st s)
-  unfolding messagesNumber among allAmong
-  messages-number-one st s =
-      let n = messagesAnswer (tableRows st) (be32 s 0) (eqb (length s) minSize) in
-      let past = anyPast (orderFormat st) (chunkCount st) (messagesIn st s) in
-      earlier-one takeNumbers n (pick past 7 0)
-      (one-of-more (0 ∷ 3 ∷ 5 ∷ []) takeNumbers n refl (messages-numbered (tableRows st) (be32 s 0) (eqb (length s) minSize)))
-      (pick-one takeNumbers past 7 0 refl refl)
-
   data-one : (clock : ℕ) (s entries : List ℕ) (c timestamp start n : ℕ) → OneOf takeNumbers (dataTaken w clock s entries c timestamp start n .answer)
   unfolding dataTaken dataBy among allAmong
   data-one clock s entries c timestamp start n =
       let out = storeOut w s entries c start n in
       let p = both-zero (roomsAnswer (orderLength (w .channels .state)) (w .rooms)) (channelsAnswer (orderLength (w .channels .state)) (w .channels)) (passed (ltb (length (w .channels .state)) stateWords) 10 _ enough .1) in
-      unless-one takeNumbers (messagesNumber (w .channels .state) s) w _ (messages-number-one (w .channels .state) s)
-      (unless-one takeNumbers (out .answer) w _
+      unless-one takeNumbers (messagesNumber (w .channels .state) s) w _
+      (one-of-more (0 ∷ 3 ∷ 5 ∷ 7 ∷ []) takeNumbers (messagesNumber (w .channels .state) s) refl (messages-number-one (w .channels .state) s))
+      (at-one (out .node) takeNumbers (out .answer) w _
       (one-of-more (0 ∷ 7 ∷ 8 ∷ 9 ∷ 10 ∷ []) takeNumbers (out .answer) refl (take-numbered (w .rooms) (orderRoot (w .channels .state)) (orderLength (w .channels .state)) c _ _ (p .0)))
       refl)
 
   by-layout-one : (clock id : ℕ) (s : List ℕ) (l : Layout) → OneOf (0 ∷ 1 ∷ 2 ∷ 3 ∷ []) (numberOf l) → OneOf takeNumbers (byLayout w clock id s l .answer)
-  unfolding byLayout messagesTaken among allAmong
+  unfolding byLayout among allAmong
   by-layout-one clock id s (Fault n) h = one-of-more (0 ∷ 1 ∷ 2 ∷ 3 ∷ []) takeNumbers n refl h
-  by-layout-one clock id s (HandshakeAlone source o) h = handshake-one (w .channels) id s source o
-  by-layout-one clock id s (Messages k) h = unless-one takeNumbers (messagesNumber (w .channels .state) s) (w .channels) _ (messages-number-one (w .channels .state) s) refl
+  by-layout-one clock id s (HandshakeAlone source o) h =
+      one-of-more (0 ∷ 3 ∷ 4 ∷ 5 ∷ 6 ∷ 14 ∷ []) takeNumbers (handshakeTaken (w .channels) id s source o .answer) refl (handshake-one (w .channels) id s source o)
+  by-layout-one clock id s (Messages k) h =
+      one-of-more (0 ∷ 3 ∷ 5 ∷ 7 ∷ []) takeNumbers (messagesTaken (w .channels) s .answer) refl (messages-one (w .channels) s)
   by-layout-one clock id s (MessagesAndData c timestamp start n k) h = data-one clock s (layoutIn (w .channels .state) s .entries) c timestamp start n
 
   pub take-enough : (clock id : ℕ) (s : List ℕ) → OneOf (0 ∷ 1 ∷ 2 ∷ 3 ∷ 4 ∷ 5 ∷ 6 ∷ 7 ∷ 8 ∷ 9 ∷ 10 ∷ 14 ∷ []) (takeSpec w clock id s .answer)

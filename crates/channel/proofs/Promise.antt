@@ -1,15 +1,17 @@
 -- What the crates above know of this one: of its definitions the names passed on here, which numbers a call can give, that a
 -- refused one alters nothing, and demand 2 of what is taken and sent. Assumes nothing.
-use mathlib.Core.Path.{_≡_}
+use mathlib.Core.Path.{_≡_, refl}
 use mathlib.Core.Option.{some}
 use mathlib.Core.List.{List, [], _∷_}
 use Prim.Native.Nat.{ℕ, _≤_, _<_, _^_}
 use lib.ListN.{length}
-use Rattle.base.specs.Among.{OneOf}
+use Rattle.base.specs.Among.{among, OneOf}
+use Rattle.base.proofs.OutLaws.{named-back}
+use Rattle.base.specs.declared.Named.the-variants.{NoNode}
 use Rattle.hash.proofs.Promise.{Words}
 use Rattle.wire.proofs.Promise.{be32, placed, maxSize, layoutOf}
 use Rattle.writer.proofs.Promise.{AreBytes, readAll, writeAll, datagramOf}
-use Rattle.store.proofs.Promise.{lengthAnswer}
+use Rattle.store.proofs.Promise.{lengthAnswer, NamesMissing, NamesMissed, named-missing, named-missed}
 use Rattle.order.specs.declared.Order.{Order}
 use Rattle.channel.proofs.NumberLaws as numbers
 use Rattle.channel.proofs.RefusedLaws as refused
@@ -17,12 +19,15 @@ use Rattle.channel.proofs.ReplyLaws as reply
 use Rattle.channel.proofs.ShorterLaws as shorter
 use Rattle.channel.proofs.ReadBackLaws as reading
 use Rattle.channel.proofs.AckLaws as acknowledging
-pub use Rattle.channel.specs.World.{Channels, channelsOf, World, worldOf, Out, outOf, Unaltered, orderRoot, orderLength, orderFormat, chunkCount, tableRows}
+use Rattle.channel.proofs.NameLaws as naming
+pub use Rattle.channel.specs.World.{Channels, channelsOf, World, worldOf, Out, outAt, outOf, Unaltered}
+pub use Rattle.channel.specs.World.{isNamed, namedBy, nodeNumber, orderRoot, orderLength, orderFormat, chunkCount, tableRows}
 pub use Rattle.channel.specs.Opening.{openSpec}
 pub use Rattle.channel.specs.Starting.{orderOf, startSpec, buildSpec}
 pub use Rattle.channel.specs.Take.{takeSpec, rowFor, delay}
 pub use Rattle.channel.specs.Write.{writeSpec}
 pub use Rattle.channel.specs.Ask.{Asked, askedOf, askSpec}
+pub use Rattle.channel.specs.Named.{Names}
 pub use Rattle.channel.specs.Reply.{Reply, replyOf, openReply, takeReply, writeReply, leftIn, Replies, Acknowledges}
 pub use Rattle.channel.specs.Adding.{addingSpec}
 pub use Rattle.channel.specs.Answers.{methodAnswer, peerWords, Suffice}
@@ -142,3 +147,40 @@ pub take-acknowledges : (w : World) (clock id : ℕ) (s : List ℕ) {c timestamp
     → Acknowledges (w .channels .state) (rowAt (tableRows (w .channels .state)) (rowFor (w .channels .state) s) .peer) c
     (delay clock timestamp) (takeSpec w clock id s)
 take-acknowledges = acknowledging.take-acknowledges
+
+-- ---- 02, No. 3: "Refusals 9 and 10 must tell the service desk the node .. Other numbers carry no node"
+
+pub start-nameless : (w : World) (o : Order) → startSpec w o .node ≡ NoNode
+start-nameless = naming.start-nameless
+
+pub build-nameless : (w : World) (o : Order) (s : List ℕ) → buildSpec w o s .node ≡ NoNode
+build-nameless = naming.build-nameless
+
+pub open-nameless : (w : World) (id : ℕ) → openSpec w id .node ≡ NoNode
+open-nameless = naming.open-nameless
+
+pub write-nameless : (w : World) (id c clock : ℕ) → writeSpec w id c clock .node ≡ NoNode
+write-nameless = naming.write-nameless
+
+module _ (w : World) (clock id : ℕ) (s : List ℕ) where
+  -- Taking in a datagram names a node with 9 and 10, and with no other number.
+  pub take-named : isNamed (takeSpec w clock id s .node) ≡ among (9 ∷ 10 ∷ []) (takeSpec w clock id s .answer)
+  take-named = naming.take-named w clock id s
+
+  -- With 9 "the first needed and missing one in 01's sending order",
+  pub take-missing : takeSpec w clock id s .answer ≡ 9
+      → Names (w .channels .state) s (takeSpec w clock id s .node)
+      (λ c d o b. NamesMissing (orderLength (w .channels .state)) (w .rooms) c o b)
+  unfolding among
+  take-missing = naming.take-names w clock id s 9 refl _ (λ c d o. named-missing (w .rooms) _ _ c d o)
+
+  -- with 10 "the trusted node missed, the root if the peaks fail".
+  pub take-missed : takeSpec w clock id s .answer ≡ 10
+      → Names (w .channels .state) s (takeSpec w clock id s .node)
+      (λ c d o b. NamesMissed (orderLength (w .channels .state)) (orderRoot (w .channels .state)) (w .rooms) c d o b)
+  unfolding among
+  take-missed = naming.take-names w clock id s 10 refl _ (λ c d o. named-missed (w .rooms) _ _ c d o)
+
+  -- Its number stands for it, since no node has the number that stands for none.
+  pub take-node : {n : ℕ} → n ≡ nodeNumber (takeSpec w clock id s .node) → namedBy n ≡ takeSpec w clock id s .node
+  take-node = named-back (takeSpec w clock id s .node) (naming.take-small w clock id s)

@@ -10,7 +10,6 @@ use borrow.Author.Tests.{le-leb, lt-leb, not-true, not-false}
 use lib.Dec.{leb, eqb}
 use lib.ListN.{length, take, drop}
 use Rattle.bits.proofs.Promise.{rowWords, row-words}
-use Rattle.tree.proofs.Promise.{chunks}
 use Rattle.wire.proofs.Promise.{be32, minSize, Checked, layoutOf, Says, layout-data, layout-entries, layout-passed, layout-told, length-told, entries-told, numberOf, checkedOf, checkSpec, entryWords, hasSize, size-refused, Fronted, front-layout, front-survey, noSurvey, surveyAll, surveySpec, survey-passed}
 use Rattle.wire.specs.declared.message.Options.{Options}
 use Rattle.wire.specs.declared.survey.Survey.{Survey}
@@ -21,13 +20,15 @@ use Rattle.writer.proofs.Promise.{readAll}
 use Rattle.effects.proofs.Promise.{anyPast, Peer, peerOf, effects, past-survey, quiet-survey}
 use Rattle.table.proofs.Promise.{rowCount, rowOf, rowAt, flag, putRow, messagesAnswer, flag-same, put-row-same}
 use Rattle.table.specs.declared.rows.Row.{Row}
-use Rattle.hash.proofs.Promise.{words}
 use Rattle.store.proofs.Promise.{earlier-not, countOf, lengthAnswer, length-accepted}
-use Rattle.channel.specs.World.{Channels, channelsOf, World, Out, outOf, beside, orderLength, chunkCount, tableRows, rowBit, orderFormat}
+use Rattle.channel.specs.World.{Channels, channelsOf, World, Out, outAt, outOf, beside, orderLength, chunkCount, tableRows, rowBit, orderFormat}
 use Rattle.channel.specs.Answers.{ownRoomsAnswer}
 use Rattle.channel.specs.Take.{rowFor, handshakeTaken, messagesNumber, withMark, affected, messagesTaken, dataTaken, byLayout, takeSpec, layoutIn, messagesIn}
 use Rattle.channel.specs.Steps.{Ruled, ruledOf, ruledBy}
 use Rattle.channel.specs.declared.outcome.Outcome.{Outcome}
+use Rattle.channel.specs.declared.outcome.Taken.{Taken}
+use Rattle.base.specs.declared.Named.{Named}
+use Rattle.base.specs.declared.Named.the-variants.{NoNode}
 use Rattle.base.proofs.OutLaws.{unless-not, unless-done}
 use Rattle.format.specs.declared.Format.{Format}
 
@@ -194,47 +195,57 @@ module _ (w : World) (clock id : ℕ) (s : List ℕ) where
   by-layout le p = p ∙ ap (ruledBy w clock id s) le
 
   -- Done, or refused.
-  module _ {answer len : ℕ} {alone : Bool} {v : Survey} {o : Outcome} (p : (answer ≡ o .answer) × (len ≡ o .len) × (alone ≡ false) × (v ≡ noSurvey)) where
-    settled-by : {after : World} {out : Out World} → outOf (o .answer) (o .len) after ≡ out
-        → ruledOf (outOf answer len after) alone (v .highest) (v .effective) ≡ record { out = out; alone = false; survey = noSurvey }
-    settled-by e = rw (p .0, p .1, p .2, p .3) (ap (λ (x : Out World). record { out = x; alone = false; survey = noSurvey }) e)
+  module _ {answer len : ℕ} {node : Named} {alone : Bool} {v : Survey} {o : Taken}
+      (p : (answer ≡ o .answer) × (len ≡ o .len) × (node ≡ o .node) × (alone ≡ false) × (v ≡ noSurvey)) where
+    settled-by : {after : World} {out : Out World} → outAt (o .answer) (o .len) (o .node) after ≡ out
+        → ruledOf (outAt answer len node after) alone (v .highest) (v .effective) ≡ record { out = out; alone = false; survey = noSurvey }
+    settled-by e = rw (p .0, p .1, p .2, p .3, p .4) (ap (λ (x : Out World). record { out = x; alone = false; survey = noSurvey }) e)
 
-    pub laid-fault : (n : ℕ) → o .answer ≡ n → o .len ≡ 0 → ruledOf (outOf answer len w) alone (v .highest) (v .effective) ≡ ruledBy w clock id s (Fault n)
+    pub laid-fault : (n : ℕ) → o .answer ≡ n → o .len ≡ 0 → o .node ≡ NoNode
+        → ruledOf (outAt answer len node w) alone (v .highest) (v .effective) ≡ ruledBy w clock id s (Fault n)
     unfolding byLayout
-    laid-fault n e f = settled-by (rw (e, f))
+    laid-fault n e f g = settled-by (rw (e, f, g))
 
-    pub laid-handshake : (a : ℕ) (h : Options) {after : Channels} → outOf (o .answer) (o .len) after ≡ handshakeTaken (w .channels) id s a h
-        → ruledOf (outOf answer len (record { rooms = w .rooms; channels = after })) alone (v .highest) (v .effective) ≡ ruledBy w clock id s (HandshakeAlone a h)
+    pub laid-handshake : (a : ℕ) (h : Options) {u : Outcome} → (o .answer ≡ u .answer) × (o .len ≡ u .len) × (o .node ≡ NoNode)
+        → {after : Channels} → outOf (u .answer) (u .len) after ≡ handshakeTaken (w .channels) id s a h
+        → ruledOf (outAt answer len node (record { rooms = w .rooms; channels = after })) alone (v .highest) (v .effective)
+        ≡ ruledBy w clock id s (HandshakeAlone a h)
     unfolding byLayout
-    laid-handshake a h e = settled-by (ap (beside (w .rooms)) e)
+    laid-handshake a h q e = settled-by (rw (q .0, q .1, q .2) (ap (beside (w .rooms)) e))
 
-    pub laid-data : (c x b n k : ℕ) (es : List ℕ) → es ≡ layoutIn (w .channels .state) s .entries → {after : World} → outOf (o .answer) (o .len) after ≡ dataTaken w clock s es c x b n
-        → ruledOf (outOf answer len after) alone (v .highest) (v .effective) ≡ ruledBy w clock id s (MessagesAndData c x b n k)
+    pub laid-data : (c x b n k : ℕ) (es : List ℕ) → es ≡ layoutIn (w .channels .state) s .entries → {after : World}
+        → outAt (o .answer) (o .len) (o .node) after ≡ dataTaken w clock s es c x b n
+        → ruledOf (outAt answer len node after) alone (v .highest) (v .effective) ≡ ruledBy w clock id s (MessagesAndData c x b n k)
     unfolding byLayout
     laid-data c x b n k es f e = settled-by (e ∙ ap (λ (y : List ℕ). dataTaken w clock s y c x b n) f)
 
   -- Messages are left.
-  pub laid-left : {answer len : ℕ} {alone : Bool} {v u : Survey} → (answer ≡ 0) × (len ≡ 0) × (alone ≡ true) × (v ≡ u) → u ≡ surveyAll (orderFormat (w .channels .state)) s
-      → (k : ℕ) → ruledOf (outOf answer len w) alone (v .highest) (v .effective) ≡ ruledBy w clock id s (Messages k)
-  laid-left p e k = rw (p .0, p .1, p .2, p .3, e)
+  pub laid-left : {answer len : ℕ} {node : Named} {alone : Bool} {v u : Survey}
+      → (answer ≡ 0) × (len ≡ 0) × (node ≡ NoNode) × (alone ≡ true) × (v ≡ u) → u ≡ surveyAll (orderFormat (w .channels .state)) s
+      → (k : ℕ) → ruledOf (outAt answer len node w) alone (v .highest) (v .effective) ≡ ruledBy w clock id s (Messages k)
+  laid-left p e k = rw (p .0, p .1, p .2, p .3, p .4, e)
 
   -- Plain messages alone.
-  pub laid-plain : {F : Format} → F ≡ orderFormat (w .channels .state) → (f : Front) → Fronted F s f → f .at ≡ length s → {answer len : ℕ} {alone : Bool} {v : Survey} → (answer ≡ 0) × (len ≡ 0) × (alone ≡ true) × (v ≡ f .survey)
-      → ruledOf (outOf answer len w) alone (v .highest) (v .effective) ≡ ruledBy w clock id s (layoutIn (w .channels .state) s .layout)
+  pub laid-plain : {F : Format} → F ≡ orderFormat (w .channels .state) → (f : Front) → Fronted F s f → f .at ≡ length s
+      → {answer len : ℕ} {node : Named} {alone : Bool} {v : Survey}
+      → (answer ≡ 0) × (len ≡ 0) × (node ≡ NoNode) × (alone ≡ true) × (v ≡ f .survey)
+      → ruledOf (outAt answer len node w) alone (v .highest) (v .effective) ≡ ruledBy w clock id s (layoutIn (w .channels .state) s .layout)
   laid-plain {F} fe f q h p =
       laid-left p (sym (front-survey F s f q h) ∙ ap (λ (G : Format). surveyAll G s) fe) 0
       ∙ ap (λ (c : Checked). ruledBy w clock id s (c .layout)) (sym (front-layout F s f q h) ∙ ap (λ (G : Format). layoutOf G s) fe)
 
   -- A ruling that is the call's outcome.
-  pub ruled-done : (l : Layout) {answer len : ℕ} {alone : Bool} {v : Survey} {after : World} → ruledOf (outOf answer len after) alone (v .highest) (v .effective) ≡ ruledBy w clock id s l
-      → not alone ≡ true → outOf answer len after ≡ byLayout w clock id s l
+  pub ruled-done : (l : Layout) {answer len : ℕ} {node : Named} {alone : Bool} {v : Survey} {after : World}
+      → ruledOf (outAt answer len node after) alone (v .highest) (v .effective) ≡ ruledBy w clock id s l
+      → not alone ≡ true → outAt answer len node after ≡ byLayout w clock id s l
   ruled-done (Fault n) e h = ap (λ (r : Ruled). r .out) e
   ruled-done (HandshakeAlone a o) e h = ap (λ (r : Ruled). r .out) e
   ruled-done (Messages k) {alone = alone} e h = absurd (true≢false (sym (ap (λ (r : Ruled). r .alone) e) ∙ not-true alone h))
   ruled-done (MessagesAndData c x b n k) e h = ap (λ (r : Ruled). r .out) e
 
   -- One that leaves messages: nothing is done yet, and their survey is told.
-  pub ruled-left : (l : Layout) {answer len : ℕ} {alone : Bool} {v : Survey} {after : World} → ruledOf (outOf answer len after) alone (v .highest) (v .effective) ≡ ruledBy w clock id s l
+  pub ruled-left : (l : Layout) {answer len : ℕ} {node : Named} {alone : Bool} {v : Survey} {after : World}
+      → ruledOf (outAt answer len node after) alone (v .highest) (v .effective) ≡ ruledBy w clock id s l
       → not alone ≡ false → (after ≡ w) × (v ≡ surveyAll (orderFormat (w .channels .state)) s) × (byLayout w clock id s l ≡ beside (w .rooms) (messagesTaken (w .channels) s))
   unfolding byLayout
   ruled-left (Fault n) {alone = alone} e h = absurd (true≢false (sym (not-false alone h) ∙ ap (λ (r : Ruled). r .alone) e))
@@ -244,5 +255,9 @@ module _ (w : World) (clock id : ℕ) (s : List ℕ) where
 
   -- The messages that were left, taken.
   pub left-taken : {after : World} → after ≡ w → byLayout w clock id s (layoutIn (w .channels .state) s .layout) ≡ beside (w .rooms) (messagesTaken (w .channels) s)
-      → {out : Out Channels} → out ≡ messagesTaken (after .channels) s → beside (after .rooms) out ≡ byLayout w clock id s (layoutIn (w .channels .state) s .layout)
-  left-taken {after} e f g = ap (beside (after .rooms)) g ∙ ap (λ (x : World). beside (x .rooms) (messagesTaken (x .channels) s)) e ∙ sym f
+      → {u : Outcome} {ch : Channels} → outOf (u .answer) (u .len) ch ≡ messagesTaken (after .channels) s
+      → {t : Taken} → (t .answer ≡ u .answer) × (t .len ≡ u .len) × (t .node ≡ NoNode)
+      → outAt (t .answer) (t .len) (t .node) (record { rooms = after .rooms; channels = ch }) ≡ byLayout w clock id s (layoutIn (w .channels .state) s .layout)
+  left-taken {after} e f g q =
+      rw (q .0, q .1, q .2)
+      (ap (beside (after .rooms)) g ∙ ap (λ (x : World). beside (x .rooms) (messagesTaken (x .channels) s)) e ∙ sym f)

@@ -7,4 +7,5 @@ pub mod Write
 pub mod Ask
 pub mod Adding
 pub mod Reply
+pub mod Named
 pub mod Steps

@@ -1,4 +1,4 @@
--- Taking in a datagram (01, "Datagrams", the effects; "Numbers given back"; 02, No. 2). Assumes nothing.
+-- Taking in a datagram (01, "Datagrams", the effects; "Numbers given back"; 02, No. 2 and No. 3). Assumes nothing.
 use Prim.Native.Nat.{ℕ, _+_, _-_, _%_, _^_}
 use mathlib.Core.Bool.{Bool, false}
 use mathlib.Core.List.{List}
@@ -19,7 +19,7 @@ use Rattle.held.specs.declared.interval.Interval.{Interval}
 use Rattle.table.specs.declared.rows.Row.{Row}
 use Rattle.table.proofs.Promise.{rowOf, rowAt, rowAfter, putRow, messagesAnswer, handshakeAnswer}
 use Rattle.store.proofs.Promise.{Rooms, earlier, integrityOf, takeSpec as storeTake}
-use Rattle.channel.specs.World.{Channels, channelsOf, World, Out, outOf, unless, beside}
+use Rattle.channel.specs.World.{Channels, channelsOf, World, Out, outOf, unlessAt, unless, beside}
 use Rattle.channel.specs.World.{orderRoot, orderLength, orderFormat, chunkCount, tableRows, rowBit}
 use Rattle.channel.specs.Answers.{ownRoomsAnswer}
 use Rattle.channel.specs.Opening.{openedRow, occupied}
@@ -121,10 +121,11 @@ storeOut w s entries c start n =
 abbrev pub answered : Channels → (s : List ℕ) → Rooms → (r : List ℕ) → Out World
 answered ch s rooms r = outOf 0 (length r) (record { rooms = rooms; channels = replied (affected ch s) r })
 
--- DATA by that: refused with 8, 9 or 10; or taken, and answered with the ACK of what the map has afterwards.
+-- DATA by that: refused with 8, or with 9 or 10 and the node that it names; or taken, and answered with the ACK of what
+-- the map has afterwards.
 unfoldable pub dataBy : World → (clock : ℕ) (s : List ℕ) (c timestamp : ℕ) → Out Rooms → Out World
 dataBy w clock s c timestamp out =
-    unless (out .answer) w
+    unlessAt (out .answer) (out .node) w
     (answered (w .channels) s (out .after) (acknowledgement (w .channels .state) (out .after .map) s clock c timestamp))
 
 -- Messages with DATA: 5, 3 and 7 come before that.

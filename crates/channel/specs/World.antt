@@ -8,7 +8,7 @@ use Rattle.format.specs.declared.Format.{Format}
 use Rattle.table.proofs.Promise.{rowsIn, orderIn}
 use Rattle.table.specs.declared.rows.Row.{Row}
 use Rattle.store.proofs.Promise.{Rooms, roomsOf, countOf}
-pub use Rattle.base.specs.Out.{Out, outOf, unless, Unaltered}
+pub use Rattle.base.specs.Out.{Out, outAt, outOf, isNamed, nodeNumber, namedBy, unlessAt, unless, Unaltered}
 
 -- The words of the store's state (its order and its channel table), the rooms for what the peers have and want, and the
 -- reply room.

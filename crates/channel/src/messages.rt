@@ -8,10 +8,12 @@ ghost use Rattle.wire.proofs.Promise.{placed, minSize, maxSize, surveyAll};
 ghost use Rattle.bits.proofs.Promise.{bitAt};
 ghost use Rattle.store.proofs.Promise.{lengthAnswer};
 ghost use Rattle.table.proofs.Promise.{rowCount};
-ghost use Rattle.channel.specs.World.{channelsOf, worldOf, outOf, orderLength, orderFormat, chunkCount};
+ghost use Rattle.channel.specs.World.{channelsOf, worldOf, outAt, outOf, orderLength, orderFormat, chunkCount};
 ghost use Rattle.channel.specs.Take.{rowFor, messagesNumber, affected, messagesTaken};
 ghost use Rattle.channel.specs.Take.{acknowledgement, dataTaken};
 use crate::outcome::Outcome;
+use crate::outcome::Taken;
+use base::Named;
 use format::Format;
 use held::interval;
 use store::calls;
@@ -165,14 +167,14 @@ pub(crate) fn take_chunk(
     entries: &[u64],
     datagram: &[u8],
     survey: Survey,
-) -> Outcome
+) -> Taken
     requires { ⌜ lengthAnswer (orderLength (now state)) ≡ 0 ⌝ }
     requires { ⌜ format ≡ orderFormat (now state) ⌝ }
     requires { ⌜ maxSize ≤ length (now reply) ⌝ }
     requires { ⌜ minSize ≤ length (now datagram) ⌝ }
     requires { ⌜ start + len ≤ length (now datagram) ⌝ }
     requires { ⌜ survey ≡ surveyAll (orderFormat (now state)) (now datagram) ⌝ }
-    ensures { λ r. ⌜ outOf (r .answer) (r .len)
+    ensures { λ r. ⌜ outAt (r .answer) (r .len) (r .node)
         (worldOf (now (state .exit)) (now (chunks .exit)) (now (map .exit)) (now (hashes .exit))
         (now (trusted .exit)) (now (has .exit)) (now (wants .exit)) (now (reply .exit)))
         ≡ dataTaken
@@ -184,13 +186,14 @@ pub(crate) fn take_chunk(
     let i = row_for(state, datagram);
     let refused = judge(state, i, datagram, survey);
     if refused != 0 {
-        return Outcome {
+        return Taken {
             answer: refused,
             len: 0,
+            node: Named::NoNode,
         };
     }
     let order = words::order_in(state);
-    let answer = calls::take(
+    let stored = calls::take(
         order,
         chunks,
         map,
@@ -201,19 +204,27 @@ pub(crate) fn take_chunk(
         entries,
         datagram,
     );
+    let answer = stored.answer;
     if answer != 0 {
-        return Outcome { answer, len: 0 };
+        let node = stored.node;
+        return Taken {
+            answer,
+            len: 0,
+            node,
+        };
     }
     let sent = acknowledge(state, format, i, map, reply, clock, c, timestamp, datagram);
     if !survey.effective {
-        return Outcome {
+        return Taken {
             answer: 0,
             len: sent,
+            node: Named::NoNode,
         };
     }
     apply_messages(state, format, i, has, wants, datagram);
-    Outcome {
+    Taken {
         answer: 0,
         len: sent,
+        node: Named::NoNode,
     }
 }

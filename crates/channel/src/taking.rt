@@ -5,13 +5,16 @@ ghost use Prim.Native.Nat.{_≤_};
 ghost use lib.ListN.{length};
 ghost use Rattle.wire.proofs.Promise.{maxSize, noSurvey, Fronted};
 ghost use Rattle.store.proofs.Promise.{lengthAnswer};
-ghost use Rattle.channel.specs.World.{worldOf, outOf, orderLength, orderFormat};
+ghost use Rattle.base.specs.declared.Named.the-variants.{NoNode};
+ghost use Rattle.channel.specs.World.{worldOf, outAt, orderLength, orderFormat};
 ghost use Rattle.channel.specs.Take.{layoutIn, takeSpec};
 ghost use Rattle.channel.specs.Steps.{ruledOf, ruledBy};
 use crate::handshakes;
 use crate::messages;
-use crate::outcome::Outcome;
+use crate::outcome;
+use crate::outcome::Taken;
 use crate::rooms;
+use base::Named;
 use format::Format;
 use table::words;
 use wire::layout::Layout;
@@ -24,18 +27,21 @@ use wire::survey::Survey;
 struct Ruling {
     answer: u32,
     len: usize,
+    node: Named,
     alone: bool,
     survey: Survey,
 }
 
 // It is done, or refused.
-fn ruled(outcome: Outcome) -> Ruling
-    ensures { λ r. ⌜ (r .answer ≡ outcome .answer) × (r .len ≡ outcome .len)
+fn ruled(taken: Taken) -> Ruling
+    ensures { λ r. ⌜ (r .answer ≡ taken .answer) × (r .len ≡ taken .len) × (r .node ≡ taken .node)
         × (r .alone ≡ false) × (r .survey ≡ noSurvey) ⌝ }
 {
+    let node = taken.node;
     Ruling {
-        answer: outcome.answer,
-        len: outcome.len,
+        answer: taken.answer,
+        len: taken.len,
+        node,
         alone: false,
         survey: Survey {
             highest: 0,
@@ -46,11 +52,13 @@ fn ruled(outcome: Outcome) -> Ruling
 
 // Messages are left.
 fn messages_left(survey: Survey) -> Ruling
-    ensures { λ r. ⌜ (r .answer ≡ 0) × (r .len ≡ 0) × (r .alone ≡ true) × (r .survey ≡ survey) ⌝ }
+    ensures { λ r. ⌜ (r .answer ≡ 0) × (r .len ≡ 0) × (r .node ≡ NoNode)
+        × (r .alone ≡ true) × (r .survey ≡ survey) ⌝ }
 {
     Ruling {
         answer: 0,
         len: 0,
+        node: Named::NoNode,
         alone: true,
         survey,
     }
@@ -76,7 +84,7 @@ fn rule_behind(
     requires { ⌜ format ≡ orderFormat (now state) ⌝ }
     requires { ⌜ maxSize ≤ length (now reply) ⌝ }
     requires { ⌜ Fronted format (now datagram) front ⌝ }
-    ensures { λ r. ⌜ ruledOf (outOf (r .answer) (r .len)
+    ensures { λ r. ⌜ ruledOf (outAt (r .answer) (r .len) (r .node)
         (worldOf (now (state .exit)) (now (chunks .exit)) (now (map .exit)) (now (hashes .exit))
         (now (trusted .exit)) (now (has .exit)) (now (wants .exit)) (now (reply .exit))))
         (r .alone) (r .survey .highest) (r .survey .effective)
@@ -90,11 +98,12 @@ fn rule_behind(
     let survey = pass.survey;
     let found = pass.layout;
     match found {
-        Layout::Fault { number } => ruled(Outcome {
+        Layout::Fault { number } => ruled(Taken {
             answer: number,
             len: 0,
+            node: Named::NoNode,
         }),
-        Layout::HandshakeAlone { source, options } => ruled(handshakes::handshake(
+        Layout::HandshakeAlone { source, options } => ruled(outcome::unnamed(handshakes::handshake(
             state,
             has,
             wants,
@@ -103,7 +112,7 @@ fn rule_behind(
             source,
             options,
             datagram,
-        )),
+        ))),
         Layout::Messages { entries: _ } => messages_left(survey),
         Layout::MessagesAndData {
             chunk,
@@ -154,7 +163,7 @@ fn rule(
     requires { ⌜ format ≡ orderFormat (now state) ⌝ }
     requires { ⌜ maxSize ≤ length (now reply) ⌝ }
     requires { ⌜ Fronted format (now datagram) front ⌝ }
-    ensures { λ r. ⌜ ruledOf (outOf (r .answer) (r .len)
+    ensures { λ r. ⌜ ruledOf (outAt (r .answer) (r .len) (r .node)
         (worldOf (now (state .exit)) (now (chunks .exit)) (now (map .exit)) (now (hashes .exit))
         (now (trusted .exit)) (now (has .exit)) (now (wants .exit)) (now (reply .exit))))
         (r .alone) (r .survey .highest) (r .survey .effective)
@@ -196,8 +205,8 @@ pub fn take(
     clock: u64,
     id: u32,
     datagram: &[u8],
-) -> Outcome
-    ensures { λ r. ⌜ outOf (r .answer) (r .len)
+) -> Taken
+    ensures { λ r. ⌜ outAt (r .answer) (r .len) (r .node)
         (worldOf (now (state .exit)) (now (chunks .exit)) (now (map .exit)) (now (hashes .exit))
         (now (trusted .exit)) (now (has .exit)) (now (wants .exit)) (now (reply .exit)))
         ≡ takeSpec
@@ -217,13 +226,18 @@ pub fn take(
         reply.len(),
     );
     if refused != 0 {
-        return Outcome {
+        return Taken {
             answer: refused,
             len: 0,
+            node: Named::NoNode,
         };
     }
     if !pass::has_size(datagram) {
-        return Outcome { answer: 1, len: 0 };
+        return Taken {
+            answer: 1,
+            len: 0,
+            node: Named::NoNode,
+        };
     }
     let format = words::format_in(state);
     let front = pass::plain_front(format, datagram);
@@ -243,10 +257,20 @@ pub fn take(
         front,
     );
     if !ruling.alone {
-        return Outcome {
+        let node = ruling.node;
+        return Taken {
             answer: ruling.answer,
             len: ruling.len,
+            node,
         };
     }
-    messages::take_messages(state, format, has, wants, reply, datagram, ruling.survey)
+    outcome::unnamed(messages::take_messages(
+        state,
+        format,
+        has,
+        wants,
+        reply,
+        datagram,
+        ruling.survey,
+    ))
 }

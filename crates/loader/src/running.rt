@@ -1,6 +1,6 @@
 // The calls on a running store: open a channel, take in a datagram, write a chunk, ask.
 ghost use mathlib.Core.Path.{_≡_};
-ghost use Rattle.channel.proofs.Promise.{outOf, worldOf, openSpec, takeSpec, writeSpec, askSpec};
+ghost use Rattle.channel.proofs.Promise.{outAt, outOf, namedBy, worldOf, openSpec, takeSpec, writeSpec, askSpec};
 ghost use Rattle.table.proofs.Promise.{flag};
 use channel::asking;
 use channel::opening;
@@ -35,7 +35,8 @@ pub extern "C" fn ppspp_open(
     outcome.answer
 }
 
-// Takes in a datagram at a clock; the ID is for a channel that it may open.
+// Takes in a datagram at a clock; the ID is for a channel that it may open. The node that 9 or 10 names is written as its
+// number, none as 2^64 - 1.
 #[no_mangle]
 pub extern "C" fn ppspp_take(
     state: &mut [u32],
@@ -50,8 +51,9 @@ pub extern "C" fn ppspp_take(
     id: u32,
     datagram: &[u8],
     written: &mut usize,
+    node: &mut u64,
 ) -> u32
-    ensures { λ r. ⌜ outOf r (now (written .exit))
+    ensures { λ r. ⌜ outAt r (now (written .exit)) (namedBy (now (node .exit)))
         (worldOf (now (state .exit)) (now (chunks .exit)) (now (map .exit)) (now (hashes .exit))
         (now (trusted .exit)) (now (has .exit)) (now (wants .exit)) (now (reply .exit)))
         ≡ takeSpec
@@ -59,7 +61,7 @@ pub extern "C" fn ppspp_take(
         (now (trusted .entry)) (now (has .entry)) (now (wants .entry)) (now (reply .entry)))
         clock id (now (datagram .entry)) ⌝ }
 {
-    let outcome = taking::take(
+    let taken = taking::take(
         state,
         chunks,
         map,
@@ -72,8 +74,10 @@ pub extern "C" fn ppspp_take(
         id,
         datagram,
     );
-    *written = outcome.len;
-    outcome.answer
+    *written = taken.len;
+    let named = taken.node;
+    *node = base::node_number(named);
+    taken.answer
 }
 
 // Writes the datagram of a chunk for the channel open under an ID, with the clock as its timestamp.

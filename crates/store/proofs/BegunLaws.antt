@@ -28,6 +28,7 @@ use Rattle.store.proofs.StartedLaws.{cleared, length-cleared, start-sou
 use Rattle.store.proofs.BuiltLaws.{map-built, build-sound}
 use Rattle.store.proofs.AnswerLaws.{both-zero, room-facts}
 use Rattle.store.proofs.CallLaws.{unless-same, unless-new, content-long}
+use Rattle.store.proofs.RootLaws.{start-root, build-root}
 
 -- ---- rooms that are large enough
 
@@ -82,6 +83,7 @@ module _ (w : Rooms) (r : List ℕ) (L : ℕ) where
       (record {
         enough = enough-sizes L w (startRooms w (countOf L) r) start-sizes R;
         sound = start-sound L w (countOf L) r refl D (omega (arith, R .hashes-in)) (omega (arith, row-room (w .trusted) (2 * leafPlaces (countOf L)) (R .trusted-in))) (row-room (w .map) (countOf L) (R .map-in));
+        root-trusted = start-root w L (R .trusted-in) r;
       })
 
   pub start-not-same : startSpec w r L .answer ≢ 0 → startSpec w r L .after ≡ w
@@ -139,6 +141,7 @@ module _ (w : Rooms) (L : ℕ) (s : List ℕ) where
       let G : Running (length s) (rootOf s) (buildRooms w (countOf (length s)) s) = record {
         enough = enough-sizes (length s) w (buildRooms w (countOf (length s)) s) (build-sizes (R .bytes-in)) R;
         sound = build-sound w s (R .bytes-in) (omega (arith, R .hashes-in)) (omega (arith, row-room (w .trusted) (2 * leafPlaces (countOf (length s))) (R .trusted-in))) (row-room (w .map) (countOf (length s)) (R .map-in));
+        root-trusted = build-root w (length s) (R .trusted-in) s;
       } in
       (m .0, rw (b .1, ← (m .0)) G)
 

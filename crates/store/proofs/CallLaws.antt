@@ -14,7 +14,7 @@ use Rattle.base.specs.Pick.{pick}
 use Rattle.bits.proofs.Promise.{setBit}
 use Rattle.hash.proofs.Promise.{sha256}
 use Rattle.tree.specs.Pack.{chunkSize, leafPlaces, rootNode}
-use Rattle.tree.specs.Verdicts.{number, peaksTrusted, reached}
+use Rattle.tree.specs.Verdicts.{number, named, peaksTrusted, reached}
 use Rattle.tree.specs.Verdicts as theory
 use Rattle.tree.specs.declared.verdict.Verdict.{Verdict}
 use Rattle.tree.specs.declared.verdict.Verdict.the-variants.{Fits, Missing, WrongPeaks, WrongClimb}
@@ -28,8 +28,9 @@ use Rattle.store.specs.Building.{clearRow, startRooms, buildRooms}
 use Rattle.store.specs.Answers.{earlier, lengthAnswer, contentAnswer, roomAnswer, orderAnswer, chunkAnswer}
 use Rattle.store.specs.Calls.{roomsAnswer, startSpec, buildAnswer, buildSpec, takeSpec}
 use Rattle.store.specs.Steps.{foundRoot, storeIfFits}
-use Rattle.base.proofs.OutLaws.{unless-not, unless-done, unless-zero, unless-earlier, done-unaltered, unless-unaltered}
-use Rattle.base.specs.Out.{Out, outOf, unless}
+use Rattle.base.proofs.OutLaws.{at-not, at-done, at-zero, at-unaltered, unless-not, unless-done, unless-zero, done-unaltered, unless-unaltered}
+use Rattle.base.specs.Out.{Out, outAt, outOf, unlessAt, unless}
+use Rattle.base.specs.declared.Named.{Named}
 use Rattle.store.proofs.AnswerLaws.{both-zero, room-facts, chunk-facts}
 use Rattle.tree.proofs.ChunkLaws.{chunk-inside}
 use Rattle.verdict.proofs.VerdictLaws.{fits-reached, verdict-sees}
@@ -42,6 +43,21 @@ module _ (n : ℕ) (w x : Rooms) where
 
   pub unless-new : unless n w (outOf 0 0 x) .answer ≡ 0 → (n ≡ 0) × (unless n w (outOf 0 0 x) .after ≡ x)
   unless-new e = let z = unless-zero n w (outOf 0 0 x) e .0 in (z, rw z)
+
+-- with a second number, which may name a node
+module _ (m n : ℕ) (b : Named) (w x : Rooms) where
+  abbrev twice : Out Rooms
+  twice = unless m w (unlessAt n b w (outOf 0 0 x))
+
+  pub twice-same : twice .answer ≢ 0 → twice .after ≡ w
+  twice-same d =
+      unless-unaltered m w (unlessAt n b w (outOf 0 0 x)) (at-unaltered b n w (outOf 0 0 x) (done-unaltered w x 0)) d .1
+
+  pub twice-new : twice .answer ≡ 0 → (m ≡ 0) × (n ≡ 0) × (twice .after ≡ x)
+  twice-new e =
+      let p = unless-zero m w (unlessAt n b w (outOf 0 0 x)) e in
+      let q = at-zero b n w (outOf 0 0 x) (p .1) .0 in
+      (p .0, q, rw (p .0, q))
 
 -- ---- starting
 
@@ -104,9 +120,9 @@ refusals = 1 ∷ 2 ∷ 3 ∷ []
 
 refuses : (v : Verdict) → OneOf refusals (tagOf verdict.the-type v) → number v ≢ 0
 refuses (Fits t) h e = absurd (miss refusals 0 tt h)
-refuses Missing h e = omega arith
-refuses WrongPeaks h e = omega arith
-refuses WrongClimb h e = omega arith
+refuses (Missing b) h e = omega arith
+refuses (WrongPeaks b) h e = omega arith
+refuses (WrongClimb b) h e = omega arith
 
 -- the height reached is found in the row of trusted nodes alone
 reached-in : (w : Rooms) (L N c : ℕ) → roomReached N (w .trusted) c ≡ reached N (stateOf L w) c
@@ -117,30 +133,34 @@ reached-in w L N c = refl
 pub fits-at : (w : Rooms) (r : List ℕ) (L N c : ℕ) (d : List ℕ) (o : Integrity) (t : ℕ) → roomVerdict N r (w .hashes) (w .trusted) c d o ≡ Fits t → t ≡ reached N (stateOf L w) c
 fits-at w r L N c d o t e = fits-reached N r (w .hashes) (w .trusted) c d o t e ∙ reached-in w L N c
 
-module _ (w : Rooms) (r : List ℕ) (N c : ℕ) (d : List ℕ) (o : Integrity) (v : Verdict) (vo : v ≡ roomVerdict N r (w .hashes) (w .trusted) c d o) where
-  pub if-fits : (n t : ℕ) (w′ : Rooms) → n ≡ number v → v ≡ Fits t → w′ ≡ storeSpec w N c t d o → outOf n 0 w′ ≡ storeIfFits w r N c d o
+module _ (w : Rooms) (r : List ℕ) (N c : ℕ) (d : List ℕ) (o : Integrity) (v : Verdict) (vo : v ≡ roomVerdict N r (w .hashes) (w .trusted) c d o)
+    (n : ℕ) (b : Named) (ne : n ≡ number v) (be : b ≡ named v) where
+  pub if-fits : (t : ℕ) (w′ : Rooms) → v ≡ Fits t → w′ ≡ storeSpec w N c t d o → outAt n 0 b w′ ≡ storeIfFits w r N c d o
   unfolding storeIfFits
-  if-fits n t w′ k e f =
+  if-fits t w′ e f =
       let z : number v ≡ 0 = ap number e in
-      ap₂ (λ (x : ℕ) (y : Rooms). outOf x 0 y) (k ∙ z) (f ∙ ap (λ (h : ℕ). storeSpec w N c h d o) (fits-at w r 0 N c d o t (sym vo ∙ e)))
-      ∙ unless-done _ w _ (ap number (sym vo) ∙ z)
+      rw (ne ∙ z, be ∙ ap named e)
+      (ap (outOf 0 0) (f ∙ ap (λ (h : ℕ). storeSpec w N c h d o) (fits-at w r 0 N c d o t (sym vo ∙ e)))
+      ∙ at-done _ _ w _ (ap number (sym vo) ∙ z))
 
-  pub if-refused : (n : ℕ) → n ≡ number v → OneOf refusals (tagOf verdict.the-type v) → outOf n 0 w ≡ storeIfFits w r N c d o
+  pub if-refused : OneOf refusals (tagOf verdict.the-type v) → outAt n 0 b w ≡ storeIfFits w r N c d o
   unfolding storeIfFits
-  if-refused n k h =
-      ap (λ (x : ℕ). outOf x 0 w) (k ∙ ap number vo) ∙ unless-not _ w _ (λ z. refuses v h (ap number vo ∙ z))
+  if-refused h =
+      ap₂ (λ (x : ℕ) (y : Named). outAt x 0 y w) (ne ∙ ap number vo) (be ∙ ap named vo)
+      ∙ at-not _ _ w _ (λ z. refuses v h (ap number vo ∙ z))
 
 module _ (w : Rooms) (r : List ℕ) (L c : ℕ) (d : List ℕ) (o : Integrity) (k : ℕ) (ke : k ≡ earlier (roomsAnswer L w) (chunkAnswer L c (length d))) where
   -- what follows the tests before the verdict
   take-is : unless k w (storeIfFits w r (countOf L) c d o) ≡ takeSpec w r L c d o
   unfolding takeSpec storeIfFits
   take-is =
-      ap₂ (λ (x h : ℕ). unless x w (unless (number (roomVerdict (countOf L) r (w .hashes) (w .trusted) c d o)) w (outOf 0 0 (storeSpec w (countOf L) c h d o))))
-      ke (sym (reached-in w 0 (countOf L) c) ∙ reached-in w L (countOf L) c)
-      ∙ ap (λ (v : Verdict). unless (earlier (roomsAnswer L w) (chunkAnswer L c (length d))) w (unless (number v) w (outOf 0 0 (storeSpec w (countOf L) c (reached (countOf L) (stateOf L w) c) d o))))
-      (verdict-sees (countOf L) r (w .hashes) (w .trusted) c d o L (w .bytes) (w .map))
-      ∙ unless-earlier (earlier (roomsAnswer L w) (chunkAnswer L c (length d))) (number (theory.verdict sha256 filler (countOf L) r (stateOf L w) c d (cameFrom o))) w
-      (outOf 0 0 (storeSpec w (countOf L) c (reached (countOf L) (stateOf L w) c) d o))
+      ap₂ (λ (x : ℕ) (v : Verdict). unless x w (unlessAt (number v) (named v) w (outOf 0 0 (storeSpec w (countOf L) c (reached (countOf L) (stateOf 0 w) c) d o))))
+      ke (verdict-sees (countOf L) r (w .hashes) (w .trusted) c d o L (w .bytes) (w .map))
+      ∙ ap (λ (h : ℕ). unless (earlier (roomsAnswer L w) (chunkAnswer L c (length d))) w (unlessAt (number seen) (named seen) w (outOf 0 0 (storeSpec w (countOf L) c h d o))))
+      (sym (reached-in w 0 (countOf L) c) ∙ reached-in w L (countOf L) c)
+    where
+      seen : Verdict
+      seen = theory.verdict sha256 filler (countOf L) r (stateOf L w) c d (cameFrom o)
 
   pub take-refused : k ≢ 0 → outOf k 0 w ≡ takeSpec w r L c d o
   take-refused q = unless-not k w (storeIfFits w r (countOf L) c d o) q ∙ take-is

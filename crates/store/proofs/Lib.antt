@@ -11,10 +11,12 @@ pub mod BuiltLaws
 pub mod AnswerLaws
 pub mod NumberLaws
 pub mod CallLaws
+pub mod RootLaws
 pub mod BegunLaws
 pub mod TakenLaws
 pub mod AlikeLaws
 pub mod AcceptLaws
+pub mod NameLaws
 pub mod ShorterLaws
 pub mod NeededLaws
 pub mod TrueLaws

@@ -13,7 +13,7 @@ use Rattle.tree.specs.Node.{siblingFrom, above}
 use Rattle.tree.specs.Pack.{chunkSize, levels}
 use Rattle.tree.specs.Peaks.{peaks}
 use Rattle.tree.specs.Tree.{climb}
-use Rattle.tree.specs.Verdicts.{every, number, peaksTrusted, reached, verdict}
+use Rattle.tree.specs.Verdicts.{every, number, named, peaksTrusted, reached, verdict}
 use Rattle.tree.specs.declared.verdict.Verdict.{Verdict}
 use Rattle.tree.proofs.PeakTests.{bit-peak}
 use Rattle.tree.proofs.TrueLaws as truth
@@ -26,7 +26,7 @@ use Rattle.store.specs.Storing.{Put, mark, putAll, copied, stored, store
 use Rattle.store.specs.Steps.{putPeaks}
 use Rattle.store.specs.Answers.{earlier, chunkAnswer}
 use Rattle.store.specs.Calls.{roomsAnswer, takeSpec}
-use Rattle.base.specs.Out.{outOf, unless}
+use Rattle.base.specs.Out.{outOf, unlessAt, unless}
 use Rattle.store.proofs.PutLaws.{all-is}
 use Rattle.store.proofs.StoringLaws.{peaks-alike, path-alike}
 use Rattle.store.specs.Needed.{SameNeeded}
@@ -77,5 +77,5 @@ module _ (w : Rooms) (L c : ℕ) (o p : Integrity) (A : SameNeeded L w c o p) wh
     pub take-same : takeSpec w r L c d o ≡ takeSpec w r L c d p
     unfolding takeSpec
     take-same =
-        ap₂ (λ (v : Verdict) (x : Rooms). unless (earlier (earlier (roomsAnswer L w) (chunkAnswer L c (length d))) (number v)) w (outOf 0 0 x))
+        ap₂ (λ (v : Verdict) (x : Rooms). unless (earlier (roomsAnswer L w) (chunkAnswer L c (length d))) w (unlessAt (number v) (named v) w (outOf 0 0 x)))
         verdicts-same (store-same (reached N (stateOf L w) c) refl)

@@ -6,11 +6,11 @@ use mathlib.Core.List.{List, [], _∷_}
 use lib.Dec.{leb, ltb, eqb}
 use lib.ListN.{length}
 use Rattle.base.specs.Among.{among, OneOf}
-use Rattle.base.proofs.OutLaws.{unless-one}
+use Rattle.base.proofs.OutLaws.{at-one, unless-one}
 use Rattle.base.proofs.AmongLaws.{allAmong, pick-one, earlier-one, one-of-more}
 use Rattle.hash.proofs.Promise.{sha256}
 use Rattle.tree.specs.Pack.{chunkSize, maxLength, size}
-use Rattle.tree.specs.Verdicts.{number, verdict}
+use Rattle.tree.specs.Verdicts.{number, named, verdict}
 use Rattle.tree.specs.declared.verdict.Verdict.{Verdict}
 use Rattle.tree.specs.declared.verdict.Verdict.the-variants.{Fits, Missing, WrongPeaks, WrongClimb}
 use Rattle.verdict.specs.Room.{filler}
@@ -52,22 +52,25 @@ build-one L n b m h t =
 abbrev chunkNumbers : List ℕ
 chunkNumbers = 0 ∷ 7 ∷ 8 ∷ 9 ∷ 10 ∷ []
 
-chunk-one : (L c n : ℕ) → OneOf chunkNumbers (chunkAnswer L c n)
+pub chunk-one : (L c n : ℕ) → OneOf (0 ∷ 7 ∷ 8 ∷ []) (chunkAnswer L c n)
 unfolding chunkAnswer among
-chunk-one L c n = pick-one chunkNumbers (leb (countOf L) c) 7 _ refl (pick-one chunkNumbers (not (eqb n (size chunkSize L c))) 8 0 refl refl)
+chunk-one L c n =
+    let ms : List ℕ = 0 ∷ 7 ∷ 8 ∷ [] in
+    pick-one ms (leb (countOf L) c) 7 _ refl (pick-one ms (not (eqb n (size chunkSize L c))) 8 0 refl refl)
 
 verdict-one : (v : Verdict) → OneOf chunkNumbers (number v)
 unfolding among
 verdict-one (Fits t) = refl
-verdict-one Missing = refl
-verdict-one WrongPeaks = refl
-verdict-one WrongClimb = refl
+verdict-one (Missing b) = refl
+verdict-one (WrongPeaks b) = refl
+verdict-one (WrongClimb b) = refl
 
 -- Where the rooms suffice.
 pub take-one : (w : Rooms) (r : List ℕ) (L c : ℕ) (d : List ℕ) (o : Integrity) → roomsAnswer L w ≡ 0 → OneOf (0 ∷ 7 ∷ 8 ∷ 9 ∷ 10 ∷ []) (takeSpec w r L c d o .answer)
-unfolding takeSpec among
+unfolding takeSpec among allAmong
 take-one w r L c d o e =
+    let v = verdict sha256 filler (countOf L) r (stateOf L w) c d (cameFrom o) in
     rw e
-    (unless-one chunkNumbers (earlier (chunkAnswer L c (length d)) (number (verdict sha256 filler (countOf L) r (stateOf L w) c d (cameFrom o)))) w _
-    (earlier-one chunkNumbers (chunkAnswer L c (length d)) (number (verdict sha256 filler (countOf L) r (stateOf L w) c d (cameFrom o))) (chunk-one L c (length d))
-    (verdict-one (verdict sha256 filler (countOf L) r (stateOf L w) c d (cameFrom o)))) refl)
+    (unless-one chunkNumbers (chunkAnswer L c (length d)) w _
+    (one-of-more (0 ∷ 7 ∷ 8 ∷ []) chunkNumbers (chunkAnswer L c (length d)) refl (chunk-one L c (length d)))
+    (at-one (named v) chunkNumbers (number v) w _ (verdict-one v) refl))

@@ -4,14 +4,16 @@ use mathlib.Core.Path.{_≡_}
 use mathlib.Core.Logic.{_≢_}
 use mathlib.Core.Bool.{Bool, true, false}
 use mathlib.Core.List.{List, [], _∷_}
-use Prim.Native.Nat.{ℕ, suc, _<_, _≤_}
+use Prim.Native.Nat.{ℕ, suc, _*_, _<_, _≤_}
 use lib.Dec.{eqb}
 use lib.ListN.{length, take}
 use Rattle.hash.proofs.Promise.{bytesOf}
 use Rattle.bits.proofs.Promise.{bitAt, rowWords}
 use Rattle.base.specs.Pick.{pick}
-use Rattle.base.specs.Among.{OneOf}
-use Rattle.tree.specs.Pack.{chunkSize, maxLength, size}
+use Rattle.base.specs.Among.{among, OneOf}
+use Rattle.base.specs.Out.{isNamed, noNode}
+use Rattle.base.specs.declared.Named.the-variants.{Node}
+use Rattle.tree.specs.Pack.{chunkSize, maxLength, size, leafPlaces, rootNode}
 use Rattle.verdict.proofs.RoomLaws.{digest-words}
 use Rattle.store.proofs.BegunLaws.{enough-order, start-running, start-not-same, start-same-sizes, start-empty, build-running, build-not-same, build-same-sizes, build-bytes, build-whole}
 use Rattle.store.proofs.TakenLaws.{take-refused-same, take-means, take-sizes, take-running, take-map, take-bytes}
@@ -21,6 +23,7 @@ use Rattle.store.proofs.TrueLaws.{start-true, take-true, keep-true}
 use Rattle.store.proofs.AnswerLaws as answers
 use Rattle.store.proofs.AcceptLaws as accept
 use Rattle.store.proofs.NumberLaws as numbers
+use Rattle.store.proofs.NameLaws as names
 use Rattle.store.proofs.ShorterLaws as shorter
 pub use Rattle.verdict.specs.Room.{filler, hashIn}
 unfoldable pub use Rattle.verdict.specs.Room.{Digest}
@@ -35,6 +38,7 @@ pub use Rattle.store.specs.Whole.{HangsIn, Alike}
 pub use Rattle.store.proofs.Running.{SameSizes, SoundRooms, Running}
 unfoldable pub use Rattle.store.specs.Whole.{Whole}
 pub use Rattle.store.specs.Needed.{SameNeeded, HoldsTrue, BringsTrue}
+pub use Rattle.store.specs.Named.{AllCame, NamesMissing, NamesMissed}
 
 -- The words of an order's root stand for 32 bytes.
 pub root-words : (u : List ℕ) → length u ≡ 8 → Digest (bytesOf u)
@@ -190,6 +194,37 @@ module _ (w : Rooms) (r : List ℕ) (L c : ℕ) (d : List ℕ) (o : Integrity) w
       → chunkIn L (takeSpec w r L c d o .after .bytes) x ≡ pick (bitAt (w .map) c) (chunkIn L (w .bytes) x) (pick (eqb x c) d (chunkIn L (w .bytes) x))
   taken-bytes = take-bytes w r L c d o
 
+-- The node that is named (02, No. 3).
+module _ (w : Rooms) (r : List ℕ) (L c : ℕ) (d : List ℕ) (o : Integrity) where
+  -- One is named with 9 and 10, and with no other number.
+  pub taken-named : isNamed (takeSpec w r L c d o .node) ≡ among (9 ∷ 10 ∷ []) (takeSpec w r L c d o .answer)
+  taken-named = names.take-named w r L c d o
+
+  -- With 9 it is the first needed and missing one in the sending order,
+  pub named-missing : takeSpec w r L c d o .answer ≡ 9
+      → (b : ℕ) × (takeSpec w r L c d o .node ≡ Node b) × NamesMissing L w c o b
+  named-missing = names.take-missing w r L c d o
+
+  -- with 10 the trusted node missed, or the root.
+  pub named-missed : takeSpec w r L c d o .answer ≡ 10
+      → (b : ℕ) × (takeSpec w r L c d o .node ≡ Node b) × NamesMissed L r w c d o b
+  named-missed = names.take-missed w r L c d o
+
+  -- 9 is given exactly where a needed hash did not come, once 12, 11, 7 and 8 are ruled out.
+  pub missing-nine : roomsAnswer L w ≡ 0 → chunkAnswer L c (length d) ≡ 0 → (AllCame L w c o → ⊥)
+      → takeSpec w r L c d o .answer ≡ 9
+  missing-nine p q = names.missing-nine w r L c d o (rw (p, q))
+
+  pub came-not-nine : AllCame L w c o → takeSpec w r L c d o .answer ≢ 9
+  came-not-nine = names.came-not-nine w r L c d o
+
+  -- It is a node of the tree, so its number is below that which stands for none.
+  pub named-inside : (b : ℕ) → takeSpec w r L c d o .node ≡ Node b → b < 2 * leafPlaces (countOf L)
+  named-inside = names.take-inside w r L c d o
+
+  pub named-small : (b : ℕ) → takeSpec w r L c d o .node ≡ Node b → b < noNode
+  named-small = names.take-small w r L c d o
+
 -- Two sets of hashes that agree on those that are needed give the same answer and the same rooms: hashes not needed aren't
 -- looked at.
 pub needed-only : (w : Rooms) (r : List ℕ) (L c : ℕ) (d : List ℕ) (o p : Integrity) → SameNeeded L w c o p → takeSpec w r L c d o ≡ takeSpec w r L c d p
@@ -210,6 +245,10 @@ module _ (w : Rooms) (s : List ℕ) (c : ℕ) (o : Integrity) (T : HoldsTrue w s
   stays-true = keep-true w s c o T B
 
 -- ---- what a running store holds
+
+-- Its root counts as trusted.
+pub running-root : (L : ℕ) (r : List ℕ) (w : Rooms) → Running L r w → bitAt (w .trusted) (rootNode (countOf L)) ≡ true
+running-root L r w R = R .root-trusted
 
 -- Every chunk in its map hangs from the root.
 pub running-hangs : (L : ℕ) (r : List ℕ) (w : Rooms) → Running L r w → (x : ℕ) → x < countOf L → bitAt (w .map) x ≡ true → HangsIn L r w x

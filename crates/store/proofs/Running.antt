@@ -2,9 +2,12 @@
 -- Assumes nothing.
 use Prim.Native.Nat.{ℕ}
 use mathlib.Core.Path.{_≡_}
+use mathlib.Core.Bool.{true}
 use mathlib.Core.List.{List}
 use lib.ListN.{length}
 use Rattle.hash.proofs.Promise.{sha256}
+use Rattle.bits.proofs.Promise.{bitAt}
+use Rattle.tree.specs.Pack.{rootNode}
 use Rattle.tree.proofs.Sound.{Sound}
 use Rattle.verdict.specs.Room.{filler}
 use Rattle.verdict.specs.Rooms.{Rooms, countOf, stateOf}
@@ -25,3 +28,4 @@ SoundRooms L r w = Sound sha256 filler (countOf L) r (stateOf L w)
 pub record Running (L : ℕ) (r : List ℕ) (w : Rooms) : Type 0 where
   pub enough : Enough L w
   pub sound : SoundRooms L r w
+  pub root-trusted : bitAt (w .trusted) (rootNode (countOf L)) ≡ true

@@ -13,11 +13,11 @@ use lib.Seq.{length-paste}
 use Rattle.bits.proofs.Promise.{bitAt, length-setBit, row-room}
 use Rattle.hash.proofs.Promise.{sha256}
 use Rattle.base.specs.Pick.{pick}
-use Rattle.tree.specs.Pack.{chunkSize, size, levels, leafPlaces}
+use Rattle.tree.specs.Pack.{chunkSize, size, levels, leafPlaces, rootNode}
 use Rattle.tree.specs.Peaks.{peaks}
 use Rattle.tree.specs.State.{State}
 use Rattle.tree.proofs.Sound.{adopted}
-use Rattle.tree.specs.Verdicts.{every, number, peaksTrusted, reached, verdict}
+use Rattle.tree.specs.Verdicts.{every, number, named, peaksTrusted, reached, verdict}
 use Rattle.tree.specs.declared.verdict.Verdict.{Verdict}
 use Rattle.tree.specs.declared.verdict.Verdict.the-variants.{Fits, Missing, WrongPeaks, WrongClimb}
 use Rattle.verdict.specs.Room.{filler, putHash}
@@ -34,8 +34,9 @@ use Rattle.store.proofs.PutLaws.{all-is}
 use Rattle.store.proofs.StoringLaws.{length-path, length-open, length-mark}
 use Rattle.store.proofs.AgreeLaws.{Fitting, stored-agrees, taken-sound}
 use Rattle.store.proofs.AnswerLaws.{both-zero, chunk-facts}
-use Rattle.store.proofs.CallLaws.{unless-same, unless-new, fits-at}
+use Rattle.store.proofs.CallLaws.{twice-same, twice-new, fits-at}
 use Rattle.store.proofs.BegunLaws.{enough-order, enough-sizes, same-sizes}
+use Rattle.store.proofs.RootLaws.{store-keeps}
 use Rattle.tree.proofs.ChunkLaws.{chunk-inside}
 
 -- ---- a refused chunk changes nothing, a taken one is stored
@@ -47,19 +48,19 @@ module _ (w : Rooms) (r : List ℕ) (L c : ℕ) (d : List ℕ) (o : Integrity) w
   abbrev left : Rooms
   left = takeSpec w r L c d o .after
 
-  abbrev number-given : ℕ
-  number-given = earlier (earlier (roomsAnswer L w) (chunkAnswer L c (length d))) (number told)
+  abbrev answer-before : ℕ
+  answer-before = earlier (roomsAnswer L w) (chunkAnswer L c (length d))
 
   abbrev height-reached : ℕ
   height-reached = reached (countOf L) (stateOf L w) c
 
   pub take-refused-same : takeSpec w r L c d o .answer ≢ 0 → left ≡ w
   unfolding takeSpec
-  take-refused-same = unless-same number-given w (storeSpec w (countOf L) c height-reached d o)
+  take-refused-same = twice-same answer-before (number told) (named told) w (storeSpec w (countOf L) c height-reached d o)
 
   -- the chunk fits below a node of height t, and the rooms are those that storing leaves
   pub record Taken : Type 0 where
-    pub answers-right : earlier (roomsAnswer L w) (chunkAnswer L c (length d)) ≡ 0
+    pub answers-right : answer-before ≡ 0
     pub height : ℕ
     pub fits-there : roomVerdict (countOf L) r (w .hashes) (w .trusted) c d o ≡ Fits height
     pub stored-so : left ≡ storeSpec w (countOf L) c height d o
@@ -69,16 +70,15 @@ module _ (w : Rooms) (r : List ℕ) (L c : ℕ) (d : List ℕ) (o : Integrity) w
 
   fits-zero : (v : Verdict) → told ≡ v → number v ≡ 0 → roomVerdict (countOf L) r (w .hashes) (w .trusted) c d o ≡ Fits height-reached
   fits-zero (Fits t) e z = told-is ∙ e ∙ ap Fits (fits-at w r L (countOf L) c d o t (told-is ∙ e))
-  fits-zero Missing e z = absurd (omega arith)
-  fits-zero WrongPeaks e z = absurd (omega arith)
-  fits-zero WrongClimb e z = absurd (omega arith)
+  fits-zero (Missing b) e z = absurd (omega arith)
+  fits-zero (WrongPeaks b) e z = absurd (omega arith)
+  fits-zero (WrongClimb b) e z = absurd (omega arith)
 
   pub taken : takeSpec w r L c d o .answer ≡ 0 → Taken
   unfolding takeSpec
   taken e =
-      let u = unless-new number-given w (storeSpec w (countOf L) c height-reached d o) e in
-      let p = both-zero (earlier (roomsAnswer L w) (chunkAnswer L c (length d))) (number told) (u .0) in
-      record { answers-right = p .0; height = height-reached; fits-there = fits-zero told refl (p .1); stored-so = u .1 }
+      let u = twice-new answer-before (number told) (named told) w (storeSpec w (countOf L) c height-reached d o) e in
+      record { answers-right = u .0; height = height-reached; fits-there = fits-zero told refl (u .1); stored-so = u .2 }
 
   -- what the answer 0 says of the order, the rooms and the chunk
   pub take-means : takeSpec w r L c d o .answer ≡ 0 → Enough L w × (c < countOf L) × (length d ≡ size chunkSize L c)
@@ -138,8 +138,19 @@ module _ (w : Rooms) (r : List ℕ) (L c : ℕ) (d : List ℕ) (o : Integrity) w
       go (no q) = rw (take-refused-same q) (same-sizes w)
       go (yes e) = let t = taken e in rw (t .stored-so) (store-sizes (t .height) (fitting e .bytes-in))
 
+  take-root : bitAt (w .trusted) (rootNode (countOf L)) ≡ true → bitAt (left .trusted) (rootNode (countOf L)) ≡ true
+  take-root b = go (ℕ-discrete (takeSpec w r L c d o .answer) 0)
+    where
+      go : Dec (takeSpec w r L c d o .answer ≡ 0) → bitAt (left .trusted) (rootNode (countOf L)) ≡ true
+      go (no q) = rw (take-refused-same q) b
+      go (yes e) = let t = taken e in rw (t .stored-so) (store-keeps w (countOf L) c (t .height) d o (rootNode (countOf L)) b)
+
   pub take-running : Running L r w → Running L r left
-  take-running R = record { enough = enough-sizes L w left take-sizes (R .enough); sound = take-sound (R .sound) }
+  take-running R = record {
+    enough = enough-sizes L w left take-sizes (R .enough);
+    sound = take-sound (R .sound);
+    root-trusted = take-root (R .root-trusted);
+  }
 
   -- ---- the map and the bytes
 

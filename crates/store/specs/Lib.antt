@@ -5,3 +5,4 @@ pub mod Answers
 pub mod Calls
 pub mod Whole
 pub mod Needed
+pub mod Named

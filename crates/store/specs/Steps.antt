@@ -5,12 +5,12 @@ use mathlib.Core.Bool.{Bool}
 use mathlib.Core.List.{List}
 use Rattle.hash.proofs.Promise.{sha256}
 use Rattle.base.specs.Pick.{pick}
-use Rattle.base.specs.Out.{Out, outOf, unless}
+use Rattle.base.specs.Out.{Out, outOf, unlessAt}
 use Rattle.tree.specs.Bin.{bin}
 use Rattle.tree.specs.Node.{above, siblingFrom}
 use Rattle.tree.specs.Steps.{peakBit}
 use Rattle.tree.specs.Tree.{climb}
-use Rattle.tree.specs.Verdicts.{number, reached}
+use Rattle.tree.specs.Verdicts.{number, named, reached}
 use Rattle.verdict.specs.Room.{filler, hashIn}
 use Rattle.verdict.specs.Integrity.{Integrity}
 use Rattle.verdict.specs.Rooms.{Rooms, stateOf}
@@ -61,8 +61,8 @@ Climbed scratch got v c t = (h : ℕ) → h < t → hashIn scratch h ≡ climb s
 -- Taking chunk c of N once 12, 11, 7 and 8 are ruled out: 9, 10, or it is stored.
 unfoldable pub storeIfFits : Rooms → List ℕ → ℕ → ℕ → List ℕ → Integrity → Out Rooms
 storeIfFits w r N c d o =
-    unless (number (roomVerdict N r (w .hashes) (w .trusted) c d o)) w
-    (outOf 0 0 (storeSpec w N c (reached N (stateOf 0 w) c) d o))
+    let v = roomVerdict N r (w .hashes) (w .trusted) c d o in
+    unlessAt (number v) (named v) w (outOf 0 0 (storeSpec w N c (reached N (stateOf 0 w) c) d o))
 
 -- The root that building gives back: a refused one finds none and gives the filler.
 abbrev pub foundRoot : ℕ → List ℕ → List ℕ

@@ -6,15 +6,15 @@ ghost use lib.ListN.{length};
 ghost use Rattle.hash.proofs.Promise.{bytesOf};
 ghost use Rattle.tree.specs.Pack.{chunkSize};
 ghost use Rattle.verdict.specs.Integrity.{integrityOf};
-ghost use Rattle.verdict.specs.Rooms.{roomsOf, countOf};
-ghost use Rattle.verdict.specs.Steps.{roomVerdict};
+ghost use Rattle.verdict.specs.Rooms.{roomsOf};
 ghost use Rattle.store.specs.Building.{rootOf};
 ghost use Rattle.store.specs.Calls.{startSpec, buildSpec, takeSpec};
 ghost use Rattle.store.specs.Steps.{foundRoot, storeIfFits};
-ghost use Rattle.base.specs.Out.{outOf};
+ghost use Rattle.base.specs.Out.{outAt, outOf};
 use crate::answers;
 use crate::building;
 use crate::storing;
+use base::Named;
 use hash::value;
 use hash::value::HashValue;
 use order::Order;
@@ -93,36 +93,13 @@ pub fn build(
     }
 }
 
-// The verdict on chunk c with the hashes that came, once 12, 11, 7 and 8 are ruled out; nothing is written.
-pub fn verdict(
-    order: Order,
-    hashes: &[u32],
-    trusted: &[u32],
-    c: u32,
-    chunk: &[u8],
-    entries: &[u64],
-    bytes: &[u8],
-) -> Verdict
-    ensures { λ r. ⌜ r ≡ roomVerdict (countOf (order .length)) (bytesOf (order .root .words)) (now (hashes .entry))
-        (now (trusted .entry)) c (now (chunk .entry)) (integrityOf (now (entries .entry)) (now (bytes .entry))) ⌝ }
-{
-    let root = order.root;
-    let n = tree::pack::chunk_count(order.length);
-    let mut scratch = [0u32; verdicts::SCRATCH];
-    verdicts::judge(
-        &mut scratch,
-        hashes,
-        trusted,
-        root,
-        n,
-        c,
-        chunk,
-        entries,
-        bytes,
-    )
+// What taking a chunk gives back: the number, and the node that 9 or 10 names.
+pub struct Taken {
+    pub answer: u32,
+    pub node: Named,
 }
 
-// The verdict's number, and the chunk stored where it fits.
+// The verdict's number and node, and the chunk stored where it fits.
 fn store_if_fits(
     chunks: &mut [u8],
     map: &mut [u32],
@@ -134,9 +111,9 @@ fn store_if_fits(
     chunk: &[u8],
     entries: &[u64],
     bytes: &[u8],
-) -> u32
+) -> Taken
     requires { ⌜ (c < n) × (chunkSize * c + length (now chunk) ≤ length (now chunks)) ⌝ }
-    ensures { λ r. ⌜ outOf r 0
+    ensures { λ r. ⌜ outAt (r .answer) 0 (r .node)
         (roomsOf (now (chunks .exit)) (now (map .exit)) (now (hashes .exit)) (now (trusted .exit)))
         ≡ storeIfFits (roomsOf (now (chunks .entry)) (now (map .entry)) (now (hashes .entry)) (now (trusted .entry)))
         (bytesOf (root .words)) n c (now (chunk .entry)) (integrityOf (now (entries .entry)) (now (bytes .entry))) ⌝ }
@@ -154,6 +131,7 @@ fn store_if_fits(
         bytes,
     );
     let answer = tree::verdict::number(v);
+    let node = tree::verdict::named(v);
     match v {
         Verdict::Fits(t) => {
             storing::store(
@@ -169,9 +147,9 @@ fn store_if_fits(
                 entries,
                 bytes,
             );
-            answer
+            Taken { answer, node }
         }
-        _ => answer,
+        _ => Taken { answer, node },
     }
 }
 
@@ -186,8 +164,8 @@ pub fn take(
     chunk: &[u8],
     entries: &[u64],
     bytes: &[u8],
-) -> u32
-    ensures { λ r. ⌜ outOf r 0
+) -> Taken
+    ensures { λ r. ⌜ outAt (r .answer) 0 (r .node)
         (roomsOf (now (chunks .exit)) (now (map .exit)) (now (hashes .exit)) (now (trusted .exit)))
         ≡ takeSpec (roomsOf (now (chunks .entry)) (now (map .entry)) (now (hashes .entry)) (now (trusted .entry)))
         (bytesOf (order .root .words)) (order .length) c (now (chunk .entry))
@@ -205,7 +183,10 @@ pub fn take(
         chunk.len(),
     );
     if refused != 0 {
-        return refused;
+        return Taken {
+            answer: refused,
+            node: Named::NoNode,
+        };
     }
     let n = tree::pack::chunk_count(length);
     store_if_fits(

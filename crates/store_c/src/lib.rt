@@ -2,12 +2,13 @@
 // link. An order's root is eight words; a call with another number of them is refused with 11, before all else. No call
 // here looks at the order's method.
 ghost use mathlib.Core.Path.{_≡_};
-ghost use Rattle.base.specs.Out.{outOf};
+ghost use Rattle.base.specs.Out.{outAt, outOf, namedBy};
 ghost use Rattle.store.proofs.Promise.{hashIn, roomsOf, integrityOf, rootOf, startSpec, buildSpec, takeSpec};
 ghost use Rattle.store_c.specs.Root.{rooted, rootPut};
 
 pub mod nodes;
 
+use base::NO_NODE;
 use order::Order;
 use store::calls;
 use verdict::room;
@@ -72,7 +73,8 @@ pub extern "C" fn store_build(
     answer
 }
 
-// Takes chunk c with the hashes that came: entries has a node's number and the place of its hash in bytes in turn.
+// Takes chunk c with the hashes that came: entries has a node's number and the place of its hash in bytes in turn. The
+// node that 9 or 10 names is written as its number, none as 2^64 - 1.
 #[no_mangle]
 pub extern "C" fn store_take(
     root: &[u32],
@@ -85,8 +87,9 @@ pub extern "C" fn store_take(
     chunk: &[u8],
     entries: &[u64],
     bytes: &[u8],
+    node: &mut u64,
 ) -> u32
-    ensures { λ r. ⌜ outOf r 0
+    ensures { λ r. ⌜ outAt r 0 (namedBy (now (node .exit)))
         (roomsOf (now (chunks .exit)) (now (map .exit)) (now (hashes .exit)) (now (trusted .exit)))
         ≡ rooted (now (root .entry))
         (roomsOf (now (chunks .entry)) (now (map .entry)) (now (hashes .entry)) (now (trusted .entry)))
@@ -95,6 +98,7 @@ pub extern "C" fn store_take(
         (integrityOf (now (entries .entry)) (now (bytes .entry)))) ⌝ }
 {
     if root.len() != 8 {
+        *node = NO_NODE;
         return 11;
     }
     let order = Order {
@@ -102,7 +106,7 @@ pub extern "C" fn store_take(
         length: length,
         method: format::RANGES,
     };
-    calls::take(
+    let taken = calls::take(
         order,
         chunks,
         map,
@@ -112,5 +116,8 @@ pub extern "C" fn store_take(
         chunk,
         entries,
         bytes,
-    )
+    );
+    let named = taken.node;
+    *node = base::node_number(named);
+    taken.answer
 }

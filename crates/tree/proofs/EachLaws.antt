@@ -1,5 +1,5 @@
 -- Tests passed by every node of a list, and what holds of each. Assumes nothing.
-use mathlib.Core.Path.{_≡_, refl, sym, ap₂}
+use mathlib.Core.Path.{_≡_, refl}
 use mathlib.Core.Logic.{_⊎_, inl, inr}
 use mathlib.Core.Bool.{Bool, true, false}
 use mathlib.Core.List.{List, [], _∷_, _++_}
@@ -10,6 +10,7 @@ use Rattle.base.proofs.PickLaws.{both-true}
 use Rattle.tree.specs.Node.{Node}
 use Rattle.tree.specs.Peaks.{siblings, before, insert, sort}
 use Rattle.tree.specs.Verdicts.{every, Each}
+use Rattle.tree.specs.Named.{In}
 use Rattle.tree.specs.Steps.{siblingAt}
 use Rattle.tree.proofs.NodeLaws.{split}
 
@@ -20,31 +21,6 @@ unfolding every
 every-each f [] e = tt
 every-each f (n ∷ ns) e = let p = both-true (f n) (every f ns) e in (p .0, every-each f ns (p .1))
 
-pub each-every : (f : Node → Bool) (ns : List Node) → Each (λ n. f n ≡ true) ns → every f ns ≡ true
-unfolding every
-each-every f [] e = refl
-each-every f (n ∷ ns) e = rw (e .0) (each-every f ns (e .1))
-
-pub every-same : (f g : Node → Bool) (ns : List Node) → Each (λ n. f n ≡ g n) ns → every f ns ≡ every g ns
-unfolding every
-every-same f g [] e = refl
-every-same f g (n ∷ ns) e = ap₂ (λ (x y : Bool). pick x y false) (e .0) (every-same f g ns (e .1))
-
-every-append : (f : Node → Bool) (ms ns : List Node) → every f (ms ++ ns) ≡ pick (every f ms) (every f ns) false
-unfolding every
-every-append f [] ns = refl
-every-append f (m ∷ ms) ns = go (f m) (every-append f ms ns)
-  where
-    go : (b : Bool) → every f (ms ++ ns) ≡ pick (every f ms) (every f ns) false
-        → pick b (every f (ms ++ ns)) false ≡ pick (pick b (every f ms) false) (every f ns) false
-    go true e = e
-    go false e = refl
-
--- as a loop tests them: one list where a test doesn't spare it, then another
-pub every-unless : (f : Node → Bool) (b : Bool) (ms ns : List Node) → pick (pick b true (every f ms)) (every f ns) false ≡ every f (pick b [] ms ++ ns)
-every-unless f true ms ns = refl
-every-unless f false ms ns = sym (every-append f ms ns)
-
 pub each-map : (P Q : Node → Type 0) → ((n : Node) → P n → Q n) → (ns : List Node) → Each P ns → Each Q ns
 each-map P Q f [] e = tt
 each-map P Q f (n ∷ ns) e = (f n (e .0), each-map P Q f ns (e .1))
@@ -52,6 +28,15 @@ each-map P Q f (n ∷ ns) e = (f n (e .0), each-map P Q f ns (e .1))
 -- ---- each of two lists, of a sorted one, and of the siblings
 
 module _ (P : Node → Type 0) where
+  pub each-in : (ns : List Node) → Each P ns → (k : Node) → In k ns → P k
+  each-in [] p k i = absurd i
+  each-in (n ∷ ns) p k (inl e) = rw e (p .0)
+  each-in (n ∷ ns) p k (inr i) = each-in ns (p .1) k i
+
+  pub each-of : (ns : List Node) → ((k : Node) → In k ns → P k) → Each P ns
+  each-of [] f = tt
+  each-of (n ∷ ns) f = (f n (inl refl), each-of ns (λ k i. f k (inr i)))
+
   pub each-append : (ms ns : List Node) → Each P ms → Each P ns → Each P (ms ++ ns)
   each-append [] ns p q = q
   each-append (m ∷ ms) ns p q = (p .0, each-append ms ns (p .1) q)
@@ -68,6 +53,20 @@ module _ (P : Node → Type 0) where
       go : (b : Bool) → Each P (pick b (m ∷ n ∷ ns) (n ∷ insert m ns)) → (Each P (insert m ns) → P m × Each P ns) → P m × Each P (n ∷ ns)
       go true p ih = p
       go false p ih = let q = ih (p .1) in (q .0, (p .0, q .1))
+
+  pub insert-each : (m : Node) (ns : List Node) → P m → Each P ns → Each P (insert m ns)
+  unfolding insert
+  insert-each m [] p q = (p, tt)
+  insert-each m (n ∷ ns) p q = go (before m n) (insert-each m ns p (q .1))
+    where
+      go : (b : Bool) → Each P (insert m ns) → Each P (pick b (m ∷ n ∷ ns) (n ∷ insert m ns))
+      go true ih = (p, q)
+      go false ih = (q .0, ih)
+
+  pub sort-each : (ns : List Node) → Each P ns → Each P (sort ns)
+  unfolding sort
+  sort-each [] p = tt
+  sort-each (n ∷ ns) p = insert-each n (sort ns) (p .0) (sort-each ns (p .1))
 
   pub each-sort : (ns : List Node) → Each P (sort ns) → Each P ns
   unfolding sort

@@ -17,9 +17,11 @@ pub mod HungLaws
 pub mod TakeLaws
 pub mod BeginLaws
 pub mod WalkLaws
+pub mod FirstLaws
 pub mod SentLaws
 pub mod StepLaws
 pub mod SentNumberLaws
+pub mod NamedLaws
 pub mod TrueLaws
 pub mod NeededLaws
 pub mod Tried

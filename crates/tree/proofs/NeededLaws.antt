@@ -2,7 +2,7 @@
 -- same verdict. Assumes nothing.
 use mathlib.Core.Path.{_≡_, refl, ap, ap₂}
 use mathlib.Core.Logic.{_⊎_, inl, inr}
-use mathlib.Core.Bool.{Bool, true, false}
+use mathlib.Core.Bool.{Bool, true, false, not}
 use mathlib.Core.List.{List, []}
 use mathlib.Core.Option.{Option, Option·getD}
 use Prim.Native.Nat.{ℕ, _<_}
@@ -10,12 +10,14 @@ use Rattle.base.specs.Same.{same}
 use Rattle.base.specs.Pick.{pick}
 use Rattle.base.proofs.PickLaws.{either}
 use Rattle.tree.specs.Node.{Node, siblingFrom, above}
-use Rattle.tree.specs.Peaks.{peaks, siblings}
+use Rattle.tree.specs.Peaks.{peaks, siblings, sort}
 use Rattle.tree.specs.Tree.{combined}
 use Rattle.tree.specs.State.{State, isPeak}
-use Rattle.tree.specs.Verdicts.{Came, isThere, got, Each, peaksTrusted, reached, needed, complete, rooted, met, verdict}
+use Rattle.tree.specs.Verdicts.{Came, isThere, isMissing, got, Each, peaksTrusted, reached, needed}
+use Rattle.tree.specs.Verdicts.{firstMissing, rooted, met, verdict}
 use Rattle.tree.proofs.NodeLaws.{above-aligned}
-use Rattle.tree.proofs.EachLaws.{every-same, each-map, each-split, siblings-at}
+use Rattle.tree.proofs.EachLaws.{each-map, each-split, sort-each, siblings-at}
+use Rattle.tree.proofs.FirstLaws.{first-same}
 use Rattle.tree.proofs.PeakTests.{each-peak}
 use Rattle.tree.proofs.SoundLaws.{combined-peaks}
 use Rattle.tree.proofs.TrueLaws.{climb-agree}
@@ -35,13 +37,14 @@ module _ (N : ℕ) (s : State) (c : ℕ) (m k : Came) (A : Each (SameAt m k) (ne
   pub siblings-agree : (h : ℕ) → h < reached N s c → m h (siblingFrom h c) ≡ k h (siblingFrom h c)
   siblings-agree = siblings-at (SameAt m k) c (reached N s c) (parts .1)
 
-  module _ (H : List ℕ → List ℕ) (Z r d : List ℕ) where
-    complete-same : complete H Z N r s c d m ≡ complete H Z N r s c d k
-    unfolding complete
-    complete-same =
-        every-same (λ n. isThere (m (n .high) (n .from))) (λ n. isThere (k (n .high) (n .from))) (needed N s c)
-        (each-map (SameAt m k) (λ n. isThere (m (n .high) (n .from)) ≡ isThere (k (n .high) (n .from))) (λ n. ap isThere) (needed N s c) A)
+  missing-same : firstMissing N s c m ≡ firstMissing N s c k
+  unfolding firstMissing
+  missing-same =
+      first-same (isMissing m) (isMissing k) (sort (needed N s c))
+      (each-map (SameAt m k) (λ n. isMissing m n ≡ isMissing k n) (λ n. ap (λ (o : Option (List ℕ)). not (isThere o)))
+      (sort (needed N s c)) (sort-each (SameAt m k) (needed N s c) A))
 
+  module _ (H : List ℕ → List ℕ) (Z r d : List ℕ) where
     rooted-same : rooted H Z N r s c d m ≡ rooted H Z N r s c d k
     unfolding rooted
     rooted-same = go (either (peaksTrusted N s))
@@ -72,4 +75,4 @@ module _ (N : ℕ) (s : State) (c : ℕ) (m k : Came) (A : Each (SameAt m k) (ne
 
     pub needed-only : verdict H Z N r s c d m ≡ verdict H Z N r s c d k
     unfolding verdict
-    needed-only = rw (complete-same, rooted-same, met-same)
+    needed-only = rw (missing-same, rooted-same, met-same)

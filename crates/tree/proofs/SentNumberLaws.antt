@@ -17,10 +17,11 @@ use Rattle.tree.specs.Peaks.{sent}
 use Rattle.tree.specs.Steps.{peakBit, peakAt, siblingAt, peakTurn}
 use Rattle.tree.proofs.Below.{sentBelow}
 use Rattle.tree.specs.Verdicts.{Each}
+use Rattle.tree.specs.Named.{Precedes}
 use Rattle.tree.proofs.BinLaws.{bin-inj}
 use Rattle.tree.proofs.NodeLaws.{above-in, above-right}
 use Rattle.tree.proofs.PackLaws.{levels-small}
-use Rattle.tree.proofs.SentLaws.{sent-is, Later, Sorted, sent-sorted}
+use Rattle.tree.proofs.SentLaws.{sent-is, Sorted, sent-sorted}
 use Rattle.tree.proofs.StepLaws.{sent-short}
 
 -- ---- how many
@@ -105,15 +106,15 @@ below-aligned N c (suc h) =
     (turn-aligned (peakBit N h) (peakAt N h) (sentBelow N c h) (peak-aligned N h) (below-aligned N c h))
 
 -- So of two nodes of which one comes later the numbers differ.
-later-differs : (n m : Node) → Aligned n → Aligned m → Later n m → num n ≢ num m
+later-differs : (n m : Node) → Aligned n → Aligned m → Precedes n m → num n ≢ num m
 later-differs n m a b l e =
     go l (bin-inj (n .high) (a .0) (m .high) (b .0) (ap (bin (n .high)) (sym (a .1)) ∙ e ∙ ap (bin (m .high)) (b .1)))
   where
-    go : Later n m → (n .high ≡ m .high) × (a .0 * 2 ^ (n .high) ≡ b .0 * 2 ^ (m .high)) → ⊥
+    go : Precedes n m → (n .high ≡ m .high) × (a .0 * 2 ^ (n .high) ≡ b .0 * 2 ^ (m .high)) → ⊥
     go (inl lower) i = omega (arith, lower, i .0)
     go (inr right) i = omega (arith, right .1, i .1, a .1, b .1)
 
-all-differ : (n : Node) (ms : List Node) → Aligned n → Each Aligned ms → Each (Later n) ms → Differs (num n) (map num ms)
+all-differ : (n : Node) (ms : List Node) → Aligned n → Each Aligned ms → Each (Precedes n) ms → Differs (num n) (map num ms)
 all-differ n [] a b l = tt
 all-differ n (m ∷ ms) a b l = (later-differs n m a (b .0) (l .0), all-differ n ms a (b .1) (l .1))
 

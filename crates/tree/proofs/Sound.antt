@@ -68,9 +68,9 @@ module _ (H : List ℕ → List ℕ) (Z : List ℕ) (N : ℕ) (r : List ℕ) (s 
   -- other verdict.
   abbrev pub afterBy : Verdict → State
   afterBy (Fits t) = pick (s .inMap c) s (hung H c t d (got Z m) counted)
-  afterBy Missing = s
-  afterBy WrongPeaks = s
-  afterBy WrongClimb = s
+  afterBy (Missing b) = s
+  afterBy (WrongPeaks b) = s
+  afterBy (WrongClimb b) = s
 
   unfoldable pub after : State
   after = afterBy (verdict H Z N r s c d m)

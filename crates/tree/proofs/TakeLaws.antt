@@ -1,19 +1,22 @@
 -- Taking a chunk, whatever comes, keeps a store sound. Assumes nothing.
-use mathlib.Core.Path.{_≡_, refl, sym, _∙_}
+use mathlib.Core.Path.{_≡_, refl, _∙_}
 use mathlib.Core.Bool.{Bool, true, false}
 use mathlib.Core.List.{List}
+use mathlib.Core.Option.{Option, none, some}
 use Prim.Native.Nat.{ℕ, suc, _+_, _^_, _≤_, _<_}
 use native.Mathlib.Omega.{arith}
 use Rattle.base.specs.Same.{same}
 use Rattle.base.proofs.SameLaws.{same-is}
 use Rattle.base.specs.Pick.{pick}
-use Rattle.tree.specs.Node.{above}
-use Rattle.tree.specs.Pack.{leastFrom, levels}
+use Rattle.tree.specs.Bin.{bin}
+use Rattle.tree.specs.Node.{Node, num, above}
+use Rattle.tree.specs.Pack.{leastFrom, levels, rootNode}
 use Rattle.tree.specs.Peaks.{peaks, peakHeight}
 use Rattle.tree.specs.Tree.{combined, climb}
 use Rattle.tree.specs.State.{State, isPeak, AllPeaks}
 use Rattle.tree.proofs.Sound.{adopted, hung, Sound, counted, afterBy, after}
-use Rattle.tree.specs.Verdicts.{Came, got, every, peaksTrusted, countedHash, reached, complete, rooted, met, verdict}
+use Rattle.tree.specs.Verdicts.{Came, got, every, peaksTrusted, counts, countedHash, reached}
+use Rattle.tree.specs.Verdicts.{firstMissing, unlessMissing, rooted, met, verdict}
 use Rattle.tree.specs.declared.verdict.Verdict.{Verdict}
 use Rattle.tree.specs.declared.verdict.Verdict.the-variants.{Fits, Missing, WrongPeaks, WrongClimb}
 use Rattle.tree.proofs.NodeLaws.{whole-below, above-aligned}
@@ -55,37 +58,67 @@ counted-hash H Z N r s c d m h a = go (peaksTrusted N s)
     go true = refl
     go false = refl
 
--- what a verdict that the chunk fits says
+-- what each verdict says
 pub record FitsMeans (H : List ℕ → List ℕ) (Z : List ℕ) (N : ℕ) (r : List ℕ) (s : State) (c : ℕ) (d : List ℕ) (m : Came) (t : ℕ) : Type 0 where
-  pub complete-is : complete H Z N r s c d m ≡ true
   pub rooted-is : rooted H Z N r s c d m ≡ true
   pub reached-is : t ≡ reached N s c
   pub met-is : climb H (got Z m) (H d) c t ≡ counted H Z N r s c d m .hash t (above t c)
 
-pub fits-means : (H : List ℕ → List ℕ) (Z : List ℕ) (N : ℕ) (r : List ℕ) (s : State) (c : ℕ) (d : List ℕ) (m : Came) (t : ℕ) → verdict H Z N r s c d m ≡ Fits t
-    → FitsMeans H Z N r s c d m t
-unfolding verdict met
-fits-means H Z N r s c d m t =
-    go (complete H Z N r s c d m) (rooted H Z N r s c d m) (same (climb H (got Z m) (H d) c u) (countedHash N s (got Z m) u (above u c))) u refl refl refl refl
-  where
-    u : ℕ
-    u = reached N s c
+module _ (H : List ℕ → List ℕ) (Z : List ℕ) (N : ℕ) (r : List ℕ) (s : State) (c : ℕ) (d : List ℕ) (m : Came) where
+  abbrev u : ℕ
+  u = reached N s c
 
-    go : (x y z : Bool) (h : ℕ) → complete H Z N r s c d m ≡ x → rooted H Z N r s c d m ≡ y
-        → same (climb H (got Z m) (H d) c u) (countedHash N s (got Z m) u (above u c)) ≡ z → u ≡ h
-        → pick x (pick y (pick z (Fits h) WrongClimb) WrongPeaks) Missing ≡ Fits t → FitsMeans H Z N r s c d m t
-    go false y z h p q i k e = absurd (let w : _≡_ {A = ℕ} 0 1 = cc in omega arith)
-    go true false z h p q i k e = absurd (let w : _≡_ {A = ℕ} 0 1 = cc in omega arith)
-    go true true false h p q i k e = absurd (let w : _≡_ {A = ℕ} 0 1 = cc in omega arith)
-    go true true true h p q i k e =
-        let f : h ≡ t = cc in
-        let g : u ≡ t = k ∙ f in
-        record {
-          complete-is = p;
-          rooted-is = q;
-          reached-is = sym g;
-          met-is = rw g at (same-is (climb H (got Z m) (H d) c u) (countedHash N s (got Z m) u (above u c)) i ∙ counted-hash H Z N r s c d m u (above u c));
-        }
+  abbrev pub Means : Verdict → Type 0
+  Means (Fits t) = FitsMeans H Z N r s c d m t
+  Means (Missing b) = (n : Node) × (b ≡ num n) × (firstMissing N s c m ≡ some n)
+  Means (WrongPeaks b) = (b ≡ rootNode N) × (rooted H Z N r s c d m ≡ false)
+  Means (WrongClimb b) = (b ≡ bin (reached N s c) (above (reached N s c) c)) × (met H Z N r s c d m ≡ false)
+
+  fits-so : rooted H Z N r s c d m ≡ true → met H Z N r s c d m ≡ true → FitsMeans H Z N r s c d m u
+  unfolding met
+  fits-so q i = record {
+    rooted-is = q;
+    reached-is = refl;
+    met-is = same-is (climb H (got Z m) (H d) c u) (countedHash N s (got Z m) u (above u c)) i ∙ counted-hash H Z N r s c d m u (above u c);
+  }
+
+  pub verdict-means : (v : Verdict) → verdict H Z N r s c d m ≡ v → Means v
+  unfolding verdict
+  verdict-means v =
+      go (firstMissing N s c m) (rooted H Z N r s c d m) (met H Z N r s c d m) refl refl refl
+    where
+      go : (o : Option Node) (y z : Bool) → firstMissing N s c m ≡ o → rooted H Z N r s c d m ≡ y → met H Z N r s c d m ≡ z
+          → unlessMissing o (pick y (pick z (Fits u) (WrongClimb (bin u (above u c)))) (WrongPeaks (rootNode N))) ≡ v → Means v
+      go (some n) y z p q i e = rw (← e) (n, refl, p)
+      go none false z p q i e = rw (← e) (refl, q)
+      go none true false p q i e = rw (← e) (refl, i)
+      go none true true p q i e = rw (← e) (fits-so q i)
+
+  pub fits-means : (t : ℕ) → verdict H Z N r s c d m ≡ Fits t → FitsMeans H Z N r s c d m t
+  fits-means t e = verdict-means (Fits t) e
+
+-- the node reached is the first above the chunk that counts as trusted
+pub reached-least : (N : ℕ) (s : State) (c : ℕ) → c < N → Least (λ h. counts N s h (above h c)) 0 (peakHeight N c) (reached N s c)
+unfolding reached peaksTrusted
+reached-least N s c l =
+    let k = peak-of N c l in
+    let p = peakHeight N c in
+    let w : above p c + 2 ^ p ≤ N = k .whole in
+    least-finds (λ h. counts N s h (above h c)) p (peak-counts (peaksTrusted N s) refl) (suc (levels N)) 0
+    (omega arith) (omega (arith, high-bound N p (omega arith)))
+  where
+    peak-counts : (b : Bool) → peaksTrusted N s ≡ b
+        → pick b (s .trust (peakHeight N c) (above (peakHeight N c) c))
+        (pick (isPeak N (peakHeight N c) (above (peakHeight N c) c)) true (s .trust (peakHeight N c) (above (peakHeight N c) c))) ≡ true
+    peak-counts true e =
+        all-peaks (λ n. s .trust (n .high) (n .from)) N e (peakHeight N c) (above (peakHeight N c) c)
+        (above-aligned (peakHeight N c) c) (peak-test N c l)
+    peak-counts false e = rw (peak-test N c l)
+
+-- it lies within 0..N-1
+pub reached-inside : (N : ℕ) (s : State) (c : ℕ) → c < N → above (reached N s c) c + 2 ^ reached N s c ≤ N
+reached-inside N s c l =
+    whole-below N c (reached N s c) (peakHeight N c) (reached-least N s c l .within .1) (peak-of N c l .whole)
 
 -- the node reached is the first that is trusted with the peaks that came
 pub reached-counted : (H : List ℕ → List ℕ) (Z : List ℕ) (N : ℕ) (r : List ℕ) (s : State) (c : ℕ) (d : List ℕ) (m : Came)
@@ -132,6 +165,6 @@ module _ (H : List ℕ → List ℕ) (Z : List ℕ) (N : ℕ) (r : List ℕ) (s 
 
       go : (v : Verdict) → verdict H Z N r s c d m ≡ v → Sound H Z N r (afterBy H Z N r s c d m v)
       go (Fits t) e = held-or-not (s .inMap c) t e
-      go Missing e = S
-      go WrongPeaks e = S
-      go WrongClimb e = S
+      go (Missing b) e = S
+      go (WrongPeaks b) e = S
+      go (WrongClimb b) e = S

@@ -3,7 +3,7 @@ use mathlib.Core.Path.{_≡_, refl, sym, ap, ap₂, _∙_}
 use mathlib.Core.Logic.{_⊎_, inl, inr, _≢_}
 use mathlib.Core.Bool.{Bool, true, false}
 use mathlib.Core.List.{List, [], _++_}
-use mathlib.Core.Option.{Option, some, Option·getD}
+use mathlib.Core.Option.{Option, none, some, Option·getD}
 use Prim.Native.Nat.{ℕ, zero, suc, _+_, _/_, _%_, _^_, _≤_, _<_}
 use native.Mathlib.Omega.{arith}
 use native.Mathlib.Decide.{ℕ-discrete}
@@ -18,7 +18,7 @@ use Rattle.tree.specs.Peaks.{peaks, peakHeight, siblings, sent}
 use Rattle.tree.specs.Tree.{tree, root, combined, joined, climb}
 use Rattle.tree.specs.State.{State, isPeak}
 use Rattle.tree.proofs.Sound.{onPath, adopted, hung, counted}
-use Rattle.tree.specs.Verdicts.{Came, isThere, got, every, Each, peaksTrusted, reached, needed, complete, rooted, met, verdict}
+use Rattle.tree.specs.Verdicts.{Came, isThere, got, every, Each, peaksTrusted, reached, needed, firstMissing, rooted, met, verdict}
 use Rattle.tree.specs.Steps.{siblingAt}
 use Rattle.tree.specs.declared.verdict.Verdict.the-variants.{Fits}
 use Rattle.tree.proofs.NodeLaws.{above-left, above-right, beside-left, beside-right, whole-below, above-aligned, child-cases}
@@ -26,10 +26,11 @@ use Rattle.tree.proofs.LeastLaws.{Least, least-finds}
 use Rattle.tree.proofs.PackLaws.{high-bound}
 use Rattle.tree.proofs.TreeLaws.{combined-root, climb-true}
 use Rattle.base.proofs.PickLaws.{both-true}
-use Rattle.tree.proofs.EachLaws.{each-every, each-map, each-append, each-split, each-sort, siblings-at, siblings-each}
+use Rattle.tree.proofs.EachLaws.{each-map, each-append, each-split, each-sort, siblings-at, siblings-each}
 use Rattle.tree.proofs.PeakTests.{each-peak, all-peaks, peak-test}
 use Rattle.tree.proofs.SoundLaws.{combined-peaks}
 use Rattle.tree.proofs.TakeLaws.{reached-counted, counted-hash}
+use Rattle.tree.proofs.NamedLaws.{all-came}
 
 -- the climb looks at the siblings on its way alone
 pub climb-agree : (H : List ℕ → List ℕ) (x y : ℕ → ℕ → List ℕ) (v : List ℕ) (c t : ℕ)
@@ -124,18 +125,15 @@ module _ (H : List ℕ → List ℕ) (Z : List ℕ) (N : ℕ) (chunk : ℕ → L
         (least-finds (λ h. counted H Z N r s c d m .trust h (above h c)) p peak-trusted (suc (levels N)) 0 (omega arith)
         (omega (arith, high-bound N p (omega (arith, peak-in p (above p c) (peak-test N c l))))))
 
-    completes : complete H Z N r s c d m ≡ true
-    unfolding complete needed
+    completes : firstMissing N s c m ≡ none
+    unfolding needed
     completes =
-        each-every came (pick (peaksTrusted N s) [] (peaks N) ++ siblings c (reached N s c))
+        all-came N s c m
         (each-append There (pick (peaksTrusted N s) [] (peaks N)) (siblings c (reached N s c)) (go (peaksTrusted N s))
         (siblings-each There c (reached N s c) (λ h u. ap isThere (sibling-true h (omega (arith, reach .within))))))
       where
-        came : Node → Bool
-        came n = isThere (m (n .high) (n .from))
-
         There : Node → Type 0
-        There n = came n ≡ true
+        There n = isThere (m (n .high) (n .from)) ≡ true
 
         go : (b : Bool) → Each There (pick b [] (peaks N))
         go true = tt

@@ -6,5 +6,6 @@ pub mod Range
 pub mod Tree
 pub mod State
 pub mod Verdicts
+pub mod Named
 pub mod Walk
 pub mod Steps

@@ -1,16 +1,17 @@
 // What becomes of a chunk that came.
 ghost use mathlib.Core.Path.{_≡_};
-ghost use Rattle.tree.specs.Verdicts.{number};
+ghost use Rattle.tree.specs.Verdicts.{number, named};
+use base::Named;
 
 pub enum Verdict {
     // It hangs from the trusted node of this height, which may be its own leaf.
     Fits(u32),
-    // A needed hash isn't there.
-    Missing,
-    // The peaks don't give the root.
-    WrongPeaks,
-    // The climb misses the trusted node.
-    WrongClimb,
+    // This node's hash is needed and isn't there.
+    Missing(u64),
+    // The peaks don't give the root, this node.
+    WrongPeaks(u64),
+    // The climb misses this trusted node.
+    WrongClimb(u64),
 }
 
 // The verdict's number in 01's table.
@@ -19,8 +20,20 @@ pub fn number(v: Verdict) -> u32
 {
     match v {
         Verdict::Fits(_) => 0,
-        Verdict::Missing => 9,
-        Verdict::WrongPeaks => 10,
-        Verdict::WrongClimb => 10,
+        Verdict::Missing(_) => 9,
+        Verdict::WrongPeaks(_) => 10,
+        Verdict::WrongClimb(_) => 10,
+    }
+}
+
+// The node that it names.
+pub fn named(v: Verdict) -> Named
+    ensures { λ r. ⌜ r ≡ named v ⌝ }
+{
+    match v {
+        Verdict::Fits(_) => Named::NoNode,
+        Verdict::Missing(b) => Named::Node(b),
+        Verdict::WrongPeaks(b) => Named::Node(b),
+        Verdict::WrongClimb(b) => Named::Node(b),
     }
 }

@@ -3,20 +3,25 @@ use mathlib.Core.Path.{_≡_, refl, sym, ap, _∙_}
 use mathlib.Core.Logic.{_≢_}
 use mathlib.Core.Bool.{Bool, true, false}
 use mathlib.Core.List.{List, [], _∷_, _++_}
+use mathlib.Core.Option.{some}
 use Prim.Native.Nat.{ℕ, zero, suc, _+_, _-_, _/_, _%_, _^_, _≤_, _<_}
 use native.Mathlib.Numerals.{add-one}
 use native.Mathlib.Omega.{arith}
 use borrow.Author.Tests.{eq-eqb, ne-eqb}
-use lib.Dec.{eqb}
+use lib.Dec.{ltb, eqb}
 use Rattle.base.specs.Pick.{pick}
-use Rattle.tree.specs.Node.{Node}
+use Rattle.base.specs.declared.Named.the-variants.{Node as NodeNamed, NoNode}
+use Rattle.tree.specs.Node.{Node, num, above}
 use Rattle.tree.specs.Pack.{levels, leastFrom}
-use Rattle.tree.specs.Peaks.{peaks, siblings}
+use Rattle.tree.specs.Peaks.{peaks, siblings, sort}
 use Rattle.tree.specs.Tree.{given}
-use Rattle.tree.specs.Verdicts.{every}
-use Rattle.tree.specs.Steps.{peakAt, siblingAt}
-use Rattle.tree.proofs.Below.{peaksBelow}
+use Rattle.tree.specs.Verdicts.{every, firstOf}
+use Rattle.tree.specs.Steps.{peakBit, peakAt, siblingAt}
+use Rattle.tree.proofs.Below.{peaksBelow, neededBelow}
+use Rattle.tree.proofs.PackLaws.{high-bound}
 use Rattle.tree.proofs.PeakLaws.{peaks-bits}
+use Rattle.tree.proofs.SentLaws.{inside-below, needed-is}
+use Rattle.verdict.specs.Steps.{namedNode}
 use Rattle.tree.proofs.TreeLaws.{given-whole}
 
 -- ---- a test of every peak, height by height
@@ -46,17 +51,60 @@ every-peak f N h r ok e q = rw (add-one h) (e ∙ go (eqb (N / 2 ^ h % 2) 1))
 pub every-end : (f : Node → Bool) (N h : ℕ) (ok : Bool) → h ≡ suc (levels N) → ok ≡ every f (peaksBelow N h) → ok ≡ every f (peaks N)
 every-end f N h ok e q = q ∙ ap (λ (x : ℕ). every f (peaksBelow N x)) e ∙ ap (every f) (sym (peaks-bits N))
 
--- ---- and of every sibling
+-- ---- the first that is missing, height by height from the top
 
-pub sibs-none : (f : Node → Bool) (c : ℕ) → true ≡ every f (siblings c 0)
-unfolding every siblings
-sibs-none f c = refl
+module _ (f : Node → Bool) (opened : Bool) (N c t : ℕ) where
+  abbrev left : ℕ → List Node
+  left h = neededBelow opened N c t h
 
-pub sibs-more : (f : Node → Bool) (c h : ℕ) (r ok : Bool) → r ≡ pick (f (siblingAt c h)) ok false → ok ≡ every f (siblings c h)
-    → r ≡ every f (siblings c (h + 1))
-unfolding every siblings
-sibs-more f c h r ok e q =
-    rw (add-one h) (e ∙ ap (λ (x : Bool). pick (f (siblingAt c h)) x false) q)
+  pub missing-begin : {top h : ℕ} → top ≡ levels N → h ≡ top + 1 → above t c + 2 ^ t ≤ N
+      → firstOf f (sort (pick opened [] (peaks N) ++ siblings c t)) ≡ firstOf f (left h)
+  missing-begin {top} e q w =
+      ap (firstOf f) (needed-is opened N c t (inside-below N c t w) (omega (arith, high-bound N t (omega arith))))
+      ∙ ap (λ (x : ℕ). firstOf f (left x)) (sym (q ∙ ap (λ (x : ℕ). x + 1) e ∙ add-one (levels N)))
+
+  pub missing-end : (h : ℕ) → h ≤ 0 → NoNode ≡ namedNode (firstOf f (left h))
+  unfolding neededBelow firstOf
+  missing-end zero l = refl
+  missing-end (suc h) l = absurd (omega arith)
+
+  -- one turn: the sibling, then the peak
+  abbrev sib : ℕ → Bool
+  sib h = pick (ltb h t) (f (siblingAt c h)) false
+
+  abbrev top-peak : ℕ → Bool
+  top-peak h = pick opened false (pick (peakBit N h) (f (peakAt N h)) false)
+
+  turn : (h : ℕ) → firstOf f (left (suc h)) ≡ pick (sib h) (some (siblingAt c h)) (pick (top-peak h) (some (peakAt N h)) (firstOf f (left h)))
+  unfolding neededBelow firstOf
+  turn h = go (ltb h t) opened (peakBit N h) (left h)
+    where
+      go : (p o q : Bool) (rest : List Node)
+          → firstOf f (pick p (siblingAt c h ∷ []) [] ++ (pick o [] (pick q (peakAt N h ∷ []) []) ++ rest))
+          ≡ pick (pick p (f (siblingAt c h)) false) (some (siblingAt c h))
+          (pick (pick o false (pick q (f (peakAt N h)) false)) (some (peakAt N h)) (firstOf f rest))
+      go true true q rest = refl
+      go true false true rest = refl
+      go true false false rest = refl
+      go false true q rest = refl
+      go false false true rest = refl
+      go false false false rest = refl
+
+  module _ (h : ℕ) (l : 0 < h) where
+    here : firstOf f (left h)
+        ≡ pick (sib (h - 1)) (some (siblingAt c (h - 1))) (pick (top-peak (h - 1)) (some (peakAt N (h - 1))) (firstOf f (left (h - 1))))
+    here = ap (λ (x : ℕ). firstOf f (left x)) (let e : h ≡ suc (h - 1) = omega arith in e) ∙ turn (h - 1)
+
+    pub missing-sibling : {x : Bool} → x ≡ sib (h - 1) → x ≡ true → {b : ℕ} → b ≡ num (siblingAt c (h - 1))
+        → NodeNamed b ≡ namedNode (firstOf f (left h))
+    missing-sibling e g q = rw (q, here, sym e ∙ g)
+
+    module _ {x y : Bool} (xe : x ≡ sib (h - 1)) (xf : x ≡ false) (ye : y ≡ top-peak (h - 1)) where
+      pub missing-peak : y ≡ true → {b : ℕ} → b ≡ num (peakAt N (h - 1)) → NodeNamed b ≡ namedNode (firstOf f (left h))
+      missing-peak g q = rw (q, here, sym xe ∙ xf, sym ye ∙ g)
+
+      pub missing-none : y ≡ false → firstOf f (left h) ≡ firstOf f (left (h - 1))
+      missing-none g = here ∙ rw (sym xe ∙ xf, sym ye ∙ g)
 
 -- ---- the least height that passes
 
@@ -110,11 +158,3 @@ module _ (o p : Bool) (x y : List ℕ) where
 
 pub right : (q : ℕ) → q % 2 ≢ 0 → q % 2 ≡ 1
 right q d = omega arith
-
--- ---- both tests, or one
-
-pub complete-yes : (p s r q : Bool) → q ≡ true → q ≡ p → r ≡ s → r ≡ pick p s false
-complete-yes p s r q e f g = rw (← f, e) g
-
-pub complete-no : (p s q : Bool) → q ≡ false → q ≡ p → false ≡ pick p s false
-complete-no p s q e f = rw (← f, e)

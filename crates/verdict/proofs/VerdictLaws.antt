@@ -1,29 +1,33 @@
 -- The verdict in the rooms' words: what the code computes is the theory's verdict on the rooms. Assumes nothing.
 use mathlib.Core.Path.{_≡_, refl, sym, ap, ap₂, _∙_}
 use mathlib.Core.Bool.{Bool, true, false}
-use mathlib.Core.List.{List, [], map}
+use mathlib.Core.List.{List, [], map, _++_}
+use mathlib.Core.Option.{Option, none, some}
 use Prim.Native.Nat.{ℕ, suc, _+_, _^_, _≤_, _<_}
 use native.Mathlib.Omega.{arith}
 use Rattle.hash.proofs.Promise.{same, sha256}
 use Rattle.base.specs.Pick.{pick}
-use Rattle.tree.specs.Node.{above}
-use Rattle.tree.specs.Pack.{levels, leastFrom}
-use Rattle.tree.specs.Peaks.{peaks, peakHeight, siblings}
+use Rattle.base.specs.declared.Named.{Named}
+use Rattle.base.specs.declared.Named.the-variants.{Node as NodeNamed, NoNode}
+use Rattle.tree.specs.Bin.{bin}
+use Rattle.tree.specs.Node.{Node, num, above}
+use Rattle.tree.specs.Pack.{levels, leastFrom, rootNode}
+use Rattle.tree.specs.Peaks.{peaks, peakHeight, siblings, sort}
 use Rattle.tree.specs.Tree.{given, combined, climb}
-use Rattle.tree.specs.Verdicts.{every, peaksTrusted, reached, needed, complete, rooted, met, verdict}
+use Rattle.tree.specs.Verdicts.{every, isMissing, firstOf, peaksTrusted, reached, needed, firstMissing, unlessMissing, rooted, met, verdict}
 use Rattle.tree.specs.declared.verdict.Verdict.{Verdict}
 use Rattle.tree.specs.declared.verdict.Verdict.the-variants.{Fits, Missing, WrongPeaks, WrongClimb}
 use Rattle.verdict.specs.Room.{filler}
 use Rattle.verdict.specs.Integrity.{Integrity, cameFrom}
 use Rattle.verdict.specs.Rooms.{roomsOf, stateOf}
-use Rattle.verdict.specs.Steps.{trustedIn, cameIn, gotBy, roomCounts, roomCounted, roomReached, kept, judgedOf, scratchBy, judgeSpec, roomVerdict}
+use Rattle.verdict.specs.Steps.{trustedIn, gotBy, roomCounts, roomCounted, namedNode, roomReached, kept, Judged, judgedOf, scratchBy}
+use Rattle.verdict.specs.Steps.{weighing, weighed, judgeSpec, roomVerdict}
 use Rattle.tree.proofs.NodeLaws.{whole-below, above-aligned}
 use Rattle.tree.proofs.LeastLaws.{least-finds}
 use Rattle.tree.proofs.PackLaws.{high-bound}
-use Rattle.tree.proofs.EachLaws.{every-unless}
 use Rattle.tree.proofs.PeakLaws.{peak-of}
 use Rattle.tree.proofs.PeakTests.{all-peaks, peak-test}
-use Rattle.tree.proofs.TakeLaws.{fits-means}
+use Rattle.tree.proofs.TakeLaws.{fits-means, reached-inside}
 
 -- the height reached lies within the tree, and the node complete within the pack
 module _ (N : ℕ) (trusted : List ℕ) (c : ℕ) (l : c < N) where
@@ -41,79 +45,30 @@ module _ (N : ℕ) (trusted : List ℕ) (c : ℕ) (l : c < N) where
       let R = rw (← q) at (least-finds (λ h. roomCounts b N trusted h (above h c)) p (peak-counts b e) (suc (levels N)) 0 (omega arith) (omega arith)) in
       (omega (arith, R .within), whole-below N c t p (R .within .1) w, R .passes)
 
-module _ (L : ℕ) (bytes map : List ℕ) (N : ℕ) (r hashes trusted : List ℕ) (c : ℕ) (d : List ℕ) (o : Integrity) (b : Bool) (t : ℕ) where
-  module _ (bo : b ≡ every (trustedIn trusted) (peaks N)) (tr : t ≡ leastFrom (λ h. roomCounts b N trusted h (above h c)) (suc (levels N)) 0) where
-    is-peaksTrusted : b ≡ peaksTrusted N (stateOf L (roomsOf bytes map hashes trusted))
-    unfolding peaksTrusted
-    is-peaksTrusted = bo
+module _ (L : ℕ) (bytes map : List ℕ) (N : ℕ) (r hashes trusted : List ℕ) (c : ℕ) (d : List ℕ) (o : Integrity) (b : Bool) (t : ℕ)
+    (bo : b ≡ every (trustedIn trusted) (peaks N)) (tr : t ≡ leastFrom (λ h. roomCounts b N trusted h (above h c)) (suc (levels N)) 0) where
+  is-peaksTrusted : b ≡ peaksTrusted N (stateOf L (roomsOf bytes map hashes trusted))
+  unfolding peaksTrusted
+  is-peaksTrusted = bo
 
-    is-reached : t ≡ reached N (stateOf L (roomsOf bytes map hashes trusted)) c
-    unfolding reached
-    is-reached = tr ∙ ap (λ (x : Bool). leastFrom (λ h. roomCounts x N trusted h (above h c)) (suc (levels N)) 0) is-peaksTrusted
+  is-reached : t ≡ reached N (stateOf L (roomsOf bytes map hashes trusted)) c
+  unfolding reached
+  is-reached = tr ∙ ap (λ (x : Bool). leastFrom (λ h. roomCounts x N trusted h (above h c)) (suc (levels N)) 0) is-peaksTrusted
 
-    is-complete : pick (pick b true (every (cameIn o) (peaks N))) (every (cameIn o) (siblings c t)) false ≡ complete sha256 filler N r (stateOf L (roomsOf bytes map hashes trusted)) c d (cameFrom o)
-    unfolding complete needed
-    is-complete = every-unless (cameIn o) b (peaks N) (siblings c t) ∙ rw (is-peaksTrusted, is-reached)
+  -- the verdict, once it is known whether the peaks are trusted, and which node is reached
+  is-verdict : unlessMissing (firstOf (isMissing (cameFrom o)) (sort (pick b [] (peaks N) ++ siblings c t))) (weighing N r hashes b c t d o)
+      ≡ verdict sha256 filler N r (stateOf L (roomsOf bytes map hashes trusted)) c d (cameFrom o)
+  unfolding verdict firstMissing needed rooted met combined
+  is-verdict = rw (is-peaksTrusted, is-reached)
 
-    is-rooted : pick b true (same (given sha256 filler N (gotBy o) (levels N) 0) r) ≡ rooted sha256 filler N r (stateOf L (roomsOf bytes map hashes trusted)) c d (cameFrom o)
-    unfolding combined rooted
-    is-rooted = rw is-peaksTrusted
-
-    is-met : same (climb sha256 (gotBy o) (sha256 d) c t) (roomCounted b N hashes o t (above t c)) ≡ met sha256 filler N r (stateOf L (roomsOf bytes map hashes trusted)) c d (cameFrom o)
-    unfolding met
-    is-met = rw (is-peaksTrusted, is-reached)
-
-    module _ (u : Bool) (uo : u ≡ pick (pick b true (every (cameIn o) (peaks N))) (every (cameIn o) (siblings c t)) false) where
-      pub at-missing : u ≡ false → Missing ≡ verdict sha256 filler N r (stateOf L (roomsOf bytes map hashes trusted)) c d (cameFrom o)
-      unfolding verdict
-      at-missing e = sym (rw (sym is-complete ∙ sym uo ∙ e))
-
-      module _ (v : Bool) (vo : v ≡ pick b true (same (given sha256 filler N (gotBy o) (levels N) 0) r)) (ut : u ≡ true) where
-        pub at-peaks : v ≡ false → WrongPeaks ≡ verdict sha256 filler N r (stateOf L (roomsOf bytes map hashes trusted)) c d (cameFrom o)
-        unfolding verdict
-        at-peaks e = sym (cases (complete sha256 filler N r (stateOf L (roomsOf bytes map hashes trusted)) c d (cameFrom o)) (rooted sha256 filler N r (stateOf L (roomsOf bytes map hashes trusted)) c d (cameFrom o)) (sym is-complete ∙ sym uo ∙ ut) (sym is-rooted ∙ sym vo ∙ e))
-          where
-            cases : (x y : Bool) → x ≡ true → y ≡ false → pick x (pick y (pick (met sha256 filler N r (stateOf L (roomsOf bytes map hashes trusted)) c d (cameFrom o)) (Fits (reached N (stateOf L (roomsOf bytes map hashes trusted)) c)) WrongClimb) WrongPeaks) Missing ≡ WrongPeaks
-            cases x y p q = rw (p, q)
-
-        module _ (w : Bool) (wo : w ≡ same (climb sha256 (gotBy o) (sha256 d) c t) (roomCounted b N hashes o t (above t c))) (vt : v ≡ true) where
-          pick-last : pick (complete sha256 filler N r (stateOf L (roomsOf bytes map hashes trusted)) c d (cameFrom o)) (pick (rooted sha256 filler N r (stateOf L (roomsOf bytes map hashes trusted)) c d (cameFrom o)) (pick (met sha256 filler N r (stateOf L (roomsOf bytes map hashes trusted)) c d (cameFrom o)) (Fits (reached N (stateOf L (roomsOf bytes map hashes trusted)) c)) WrongClimb) WrongPeaks) Missing
-              ≡ pick w (Fits t) WrongClimb
-          pick-last = cases _ _ _ _ (sym is-complete ∙ sym uo ∙ ut) (sym is-rooted ∙ sym vo ∙ vt) (sym is-met ∙ sym wo) (sym is-reached)
-            where
-              cases : (x y z : Bool) (h : ℕ) → x ≡ true → y ≡ true → z ≡ w → h ≡ t → pick x (pick y (pick z (Fits h) WrongClimb) WrongPeaks) Missing ≡ pick w (Fits t) WrongClimb
-              cases x y z h p q m n = rw (p, q, m, n)
-
-          pub at-climb : w ≡ false → WrongClimb ≡ verdict sha256 filler N r (stateOf L (roomsOf bytes map hashes trusted)) c d (cameFrom o)
-          unfolding verdict
-          at-climb e = sym (pick-last ∙ rw e)
-
-          pub at-fits : w ≡ true → Fits t ≡ verdict sha256 filler N r (stateOf L (roomsOf bytes map hashes trusted)) c d (cameFrom o)
-          unfolding verdict
-          at-fits e = sym (pick-last ∙ rw e)
-
--- what the verdict is, in the rooms' words; it looks at the hashes and the trusted bits alone
-module _ (N : ℕ) (r hashes trusted : List ℕ) (c : ℕ) (d : List ℕ) (o : Integrity) (L : ℕ) (bytes map : List ℕ) where
-  abbrev openly : Bool
-  openly = every (trustedIn trusted) (peaks N)
-
-  abbrev reaches : ℕ
-  reaches = leastFrom (λ h. roomCounts openly N trusted h (above h c)) (suc (levels N)) 0
-
-  in-rooms : verdict sha256 filler N r (stateOf L (roomsOf bytes map hashes trusted)) c d (cameFrom o)
-      ≡ pick (pick (pick openly true (every (cameIn o) (peaks N))) (every (cameIn o) (siblings c reaches)) false)
-      (pick (pick openly true (same (given sha256 filler N (gotBy o) (levels N) 0) r))
-      (pick (same (climb sha256 (gotBy o) (sha256 d) c reaches) (roomCounted openly N hashes o reaches (above reaches c))) (Fits reaches) WrongClimb) WrongPeaks) Missing
-  unfolding verdict
-  in-rooms = sym (cases _ _ _ _ _ _ _ _ (is-complete L bytes map N r hashes trusted c d o openly reaches refl refl) (is-rooted L bytes map N r hashes trusted c d o openly reaches refl refl) (is-met L bytes map N r hashes trusted c d o openly reaches refl refl) (is-reached L bytes map N r hashes trusted c d o openly reaches refl refl))
-    where
-      cases : (u u′ v v′ w w′ : Bool) (h h′ : ℕ) → u ≡ u′ → v ≡ v′ → w ≡ w′ → h ≡ h′ → pick u (pick v (pick w (Fits h) WrongClimb) WrongPeaks) Missing ≡ pick u′ (pick v′ (pick w′ (Fits h′) WrongClimb) WrongPeaks) Missing
-      cases u u′ v v′ w w′ h h′ e f g i = rw (e, f, g, i)
-
+-- the verdict looks at the hashes and the trusted bits alone
 pub verdict-sees : (N : ℕ) (r hashes trusted : List ℕ) (c : ℕ) (d : List ℕ) (o : Integrity) (L : ℕ) (bytes map : List ℕ)
     → roomVerdict N r hashes trusted c d o ≡ verdict sha256 filler N r (stateOf L (roomsOf bytes map hashes trusted)) c d (cameFrom o)
 unfolding roomVerdict
-verdict-sees N r hashes trusted c d o L bytes map = in-rooms N r hashes trusted c d o 0 [] [] ∙ sym (in-rooms N r hashes trusted c d o L bytes map)
+verdict-sees N r hashes trusted c d o L bytes map =
+    let b = every (trustedIn trusted) (peaks N) in
+    let t = leastFrom (λ h. roomCounts b N trusted h (above h c)) (suc (levels N)) 0 in
+    sym (is-verdict 0 [] [] N r hashes trusted c d o b t refl refl) ∙ is-verdict L bytes map N r hashes trusted c d o b t refl refl
 
 -- a chunk that fits hangs below the node reached, a node of the tree
 pub fits-reached : (N : ℕ) (r hashes trusted : List ℕ) (c : ℕ) (d : List ℕ) (o : Integrity) (t : ℕ) → roomVerdict N r hashes trusted c d o ≡ Fits t → t ≡ roomReached N trusted c
@@ -128,6 +83,15 @@ fits-within N r hashes trusted c d o t l e =
 
 -- ---- test by test, as the code has them
 
+-- a node is named, or none
+named-some : (f : Option Node) (v : Verdict) {b : ℕ} → NodeNamed b ≡ namedNode f → Missing b ≡ unlessMissing f v
+named-some none v e = absurd (let w : _≡_ {A = ℕ} 0 1 = cc in omega arith)
+named-some (some n) v {b} e = let q : b ≡ num n = cc in ap Missing q
+
+named-none : (f : Option Node) (v : Verdict) → NoNode ≡ namedNode f → v ≡ unlessMissing f v
+named-none none v e = refl
+named-none (some n) v e = absurd (let w : _≡_ {A = ℕ} 0 1 = cc in omega arith)
+
 -- the verdict, and the scratch that it leaves
 judge-by : (s : List ℕ) (N : ℕ) (r hashes trusted : List ℕ) (c : ℕ) (d : List ℕ) (o : Integrity) (v : Verdict) {s′ : List ℕ} → v ≡ roomVerdict N r hashes trusted c d o
     → s′ ≡ scratchBy v s (kept s (gotBy o) (sha256 d) c (roomReached N trusted c)) → judgedOf v s′ ≡ judgeSpec s N r hashes trusted c d o
@@ -136,8 +100,7 @@ judge-by s N r hashes trusted c d o v e f =
     ap₂ judgedOf e (f ∙ ap (λ (x : Verdict). scratchBy x s (kept s (gotBy o) (sha256 d) c (roomReached N trusted c))) e)
 
 module _ (s : List ℕ) (N : ℕ) (r hashes trusted : List ℕ) (c : ℕ) (d : List ℕ) (o : Integrity) (b : Bool) (t top : ℕ) (te : top ≡ levels N)
-    (bo : b ≡ every (trustedIn trusted) (peaks N)) (tr : t ≡ leastFrom (λ h. roomCounts b N trusted h (above h c)) (suc top) 0)
-    (u : Bool) (uo : u ≡ pick (pick b true (every (cameIn o) (peaks N))) (every (cameIn o) (siblings c t)) false) where
+    (bo : b ≡ every (trustedIn trusted) (peaks N)) (tr : t ≡ leastFrom (λ h. roomCounts b N trusted h (above h c)) (suc top) 0) where
   at-levels : t ≡ leastFrom (λ h. roomCounts b N trusted h (above h c)) (suc (levels N)) 0
   at-levels = tr ∙ ap (λ (x : ℕ). leastFrom (λ h. roomCounts b N trusted h (above h c)) (suc x) 0) te
 
@@ -145,30 +108,54 @@ module _ (s : List ℕ) (N : ℕ) (r hashes trusted : List ℕ) (c : ℕ) (d : L
   unfolding roomReached
   room-reached = is-reached 0 [] [] N r [] trusted c d o b t bo at-levels
 
-  pub judge-missing : u ≡ false → judgedOf Missing s ≡ judgeSpec s N r hashes trusted c d o
-  unfolding roomVerdict
-  judge-missing e = judge-by s N r hashes trusted c d o Missing (at-missing 0 [] [] N r hashes trusted c d o b t bo at-levels u uo e) refl
+  -- the node reached lies within the pack
+  pub judge-inside : c < N → above t c + 2 ^ t ≤ N
+  unfolding roomReached
+  judge-inside l = rw room-reached (reached-inside N (stateOf 0 (roomsOf [] [] [] trusted)) c l)
 
-  module _ (v : Bool) (vo : v ≡ pick b true (same (given sha256 filler N (gotBy o) top 0) r)) (ut : u ≡ true) where
-    roots : v ≡ pick b true (same (given sha256 filler N (gotBy o) (levels N) 0) r)
-    roots = vo ∙ ap (λ (x : ℕ). pick b true (same (given sha256 filler N (gotBy o) x 0) r)) te
+  module _ {x : Named} (xe : x ≡ namedNode (firstOf (isMissing (cameFrom o)) (sort (pick b [] (peaks N) ++ siblings c t)))) where
+    abbrev first : Option Node
+    first = firstOf (isMissing (cameFrom o)) (sort (pick b [] (peaks N) ++ siblings c t))
 
-    pub judge-peaks : v ≡ false → judgedOf WrongPeaks s ≡ judgeSpec s N r hashes trusted c d o
+    by-verdict : {v : Verdict} → v ≡ unlessMissing first (weighing N r hashes b c t d o) → v ≡ roomVerdict N r hashes trusted c d o
     unfolding roomVerdict
-    judge-peaks e = judge-by s N r hashes trusted c d o WrongPeaks (at-peaks 0 [] [] N r hashes trusted c d o b t bo at-levels u uo v roots ut e) refl
+    by-verdict e = e ∙ is-verdict 0 [] [] N r hashes trusted c d o b t bo at-levels
 
-    module _ (x : List ℕ) (xe : x ≡ sha256 d) (w : Bool) {s′ : List ℕ}
-        (wo : (w ≡ same (climb sha256 (gotBy o) x c t) (roomCounted b N hashes o t (above t c))) × (s′ ≡ kept s (gotBy o) x c t)) (vt : v ≡ true) where
-      meets : w ≡ same (climb sha256 (gotBy o) (sha256 d) c t) (roomCounted b N hashes o t (above t c))
-      meets = wo .0 ∙ ap (λ (y : List ℕ). same (climb sha256 (gotBy o) y c t) (roomCounted b N hashes o t (above t c))) xe
+    pub judge-missing : {n : ℕ} → x ≡ NodeNamed n → judgedOf (Missing n) s ≡ judgeSpec s N r hashes trusted c d o
+    judge-missing {n} e =
+        judge-by s N r hashes trusted c d o (Missing n) (by-verdict (named-some first (weighing N r hashes b c t d o) (sym e ∙ xe))) refl
 
-      keeps : s′ ≡ kept s (gotBy o) (sha256 d) c (roomReached N trusted c)
-      keeps = wo .1 ∙ ap₂ (λ (y : List ℕ) (h : ℕ). kept s (gotBy o) y c h) xe room-reached
+    pub judge-weighed : x ≡ NoNode → {v : Verdict} {s′ : List ℕ} → judgedOf v s′ ≡ weighed s N r hashes b c t d o
+        → judgedOf v s′ ≡ judgeSpec s N r hashes trusted c d o
+    unfolding weighed
+    judge-weighed e {v} q =
+        let p = ap (λ (j : Judged). j .told) q in
+        judge-by s N r hashes trusted c d o v (by-verdict (p ∙ named-none first (weighing N r hashes b c t d o) (sym e ∙ xe)))
+        (ap (λ (j : Judged). j .scratch) q
+        ∙ ap₂ (λ (y : Verdict) (h : ℕ). scratchBy y s (kept s (gotBy o) (sha256 d) c h)) (sym p) room-reached)
 
-      pub judge-climb : w ≡ false → judgedOf WrongClimb s′ ≡ judgeSpec s N r hashes trusted c d o
-      unfolding roomVerdict
-      judge-climb e = judge-by s N r hashes trusted c d o WrongClimb (at-climb 0 [] [] N r hashes trusted c d o b t bo at-levels u uo v roots ut w meets vt e) keeps
+-- once no hash is missing
+module _ (s : List ℕ) (N : ℕ) (r hashes : List ℕ) (b : Bool) (c t : ℕ) (d : List ℕ) (o : Integrity) {top : ℕ} (te : top ≡ levels N)
+    {v : Bool} (vo : v ≡ pick b true (same (given sha256 filler N (gotBy o) top 0) r)) where
+  roots : v ≡ pick b true (same (given sha256 filler N (gotBy o) (levels N) 0) r)
+  roots = vo ∙ ap (λ (x : ℕ). pick b true (same (given sha256 filler N (gotBy o) x 0) r)) te
 
-      pub judge-fits : w ≡ true → judgedOf (Fits t) s′ ≡ judgeSpec s N r hashes trusted c d o
-      unfolding roomVerdict
-      judge-fits e = judge-by s N r hashes trusted c d o (Fits t) (at-fits 0 [] [] N r hashes trusted c d o b t bo at-levels u uo v roots ut w meets vt e) keeps
+  pub weigh-peaks : v ≡ false → {n : ℕ} → n ≡ rootNode N → judgedOf (WrongPeaks n) s ≡ weighed s N r hashes b c t d o
+  unfolding weighed
+  weigh-peaks e q = rw (q, sym roots ∙ e)
+
+  module _ (vt : v ≡ true) {x : List ℕ} (xe : x ≡ sha256 d) {w : Bool} {s′ : List ℕ}
+      (wo : (w ≡ same (climb sha256 (gotBy o) x c t) (roomCounted b N hashes o t (above t c))) × (s′ ≡ kept s (gotBy o) x c t)) where
+    meets : same (climb sha256 (gotBy o) (sha256 d) c t) (roomCounted b N hashes o t (above t c)) ≡ w
+    meets = sym (wo .0 ∙ ap (λ (y : List ℕ). same (climb sha256 (gotBy o) y c t) (roomCounted b N hashes o t (above t c))) xe)
+
+    keeps : s′ ≡ kept s (gotBy o) (sha256 d) c t
+    keeps = wo .1 ∙ ap (λ (y : List ℕ). kept s (gotBy o) y c t) xe
+
+    pub weigh-climb : w ≡ false → {n : ℕ} → n ≡ bin t (above t c) → judgedOf (WrongClimb n) s′ ≡ weighed s N r hashes b c t d o
+    unfolding weighed
+    weigh-climb e q = rw (q, sym roots ∙ vt, meets ∙ e, keeps)
+
+    pub weigh-fits : w ≡ true → judgedOf (Fits t) s′ ≡ weighed s N r hashes b c t d o
+    unfolding weighed
+    weigh-fits e = rw (sym roots ∙ vt, meets ∙ e, keeps)

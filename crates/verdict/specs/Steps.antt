@@ -2,14 +2,17 @@
 use Prim.Native.Nat.{ℕ, zero, suc}
 use mathlib.Core.List.{List, []}
 use mathlib.Core.Bool.{Bool, true, false}
-use mathlib.Core.Option.{Option·getD}
+use mathlib.Core.Option.{Option, none, some, Option·getD}
 use Rattle.bits.proofs.Promise.{bitAt}
-use Rattle.hash.proofs.Promise.{sha256}
+use Rattle.hash.proofs.Promise.{sha256, same}
 use Rattle.base.specs.Pick.{pick}
+use Rattle.base.specs.declared.Named.{Named}
+use Rattle.base.specs.declared.Named.the-variants.{Node as NodeNamed, NoNode}
 use Rattle.tree.specs.Bin.{bin}
-use Rattle.tree.specs.Node.{Node, num}
+use Rattle.tree.specs.Node.{Node, num, above}
+use Rattle.tree.specs.Pack.{levels, rootNode}
 use Rattle.tree.specs.State.{isPeak}
-use Rattle.tree.specs.Tree.{climb}
+use Rattle.tree.specs.Tree.{given, climb}
 use Rattle.tree.specs.Verdicts.{isThere, got, reached, verdict}
 use Rattle.tree.specs.declared.verdict.Verdict.{Verdict}
 use Rattle.tree.specs.declared.verdict.Verdict.the-variants.{Fits, Missing, WrongPeaks, WrongClimb}
@@ -28,9 +31,6 @@ gotAt o b = Option·getD (hashFor o b) filler
 
 abbrev pub gotBy : Integrity → ℕ → ℕ → List ℕ
 gotBy o = got filler (cameFrom o)
-
-abbrev pub cameIn : Integrity → Node → Bool
-cameIn o n = came o (num n)
 
 abbrev pub trustedIn : List ℕ → Node → Bool
 trustedIn trusted n = bitAt trusted (num n)
@@ -51,6 +51,11 @@ roomCounts peaksTrusted N trusted h a =
 abbrev pub roomCounted : Bool → ℕ → List ℕ → Integrity → ℕ → ℕ → List ℕ
 roomCounted peaksTrusted N hashes o h a =
     pick peaksTrusted (hashIn hashes (bin h a)) (pick (isPeak N h a) (gotBy o h a) (hashIn hashes (bin h a)))
+
+-- A node of a list, if there is one, as it is named.
+abbrev pub namedNode : Option Node → Named
+namedNode none = NoNode
+namedNode (some n) = NodeNamed (num n)
 
 -- The height of the first node at or above chunk c that counts as trusted.
 unfoldable pub roomReached : ℕ → List ℕ → ℕ → ℕ
@@ -80,9 +85,23 @@ judgedOf v s = record { told = v; scratch = s }
 -- Where a hash is missing or the peaks are wrong there is no climb, and the scratch stays.
 abbrev pub scratchBy : Verdict → List ℕ → List ℕ → List ℕ
 scratchBy (Fits t) old new = new
-scratchBy Missing old new = old
-scratchBy WrongPeaks old new = old
-scratchBy WrongClimb old new = new
+scratchBy (Missing b) old new = old
+scratchBy (WrongPeaks b) old new = old
+scratchBy (WrongClimb b) old new = new
+
+-- Once no hash is missing: by what is known of the peaks, and by the height of the node reached.
+abbrev pub weighing : ℕ → List ℕ → List ℕ → Bool → ℕ → ℕ → List ℕ → Integrity → Verdict
+weighing N r hashes peaksTrusted c t d o =
+    pick (pick peaksTrusted true (same (given sha256 filler N (gotBy o) (levels N) 0) r))
+    (pick (same (climb sha256 (gotBy o) (sha256 d) c t) (roomCounted peaksTrusted N hashes o t (above t c)))
+    (Fits t)
+    (WrongClimb (bin t (above t c))))
+    (WrongPeaks (rootNode N))
+
+unfoldable pub weighed : List ℕ → ℕ → List ℕ → List ℕ → Bool → ℕ → ℕ → List ℕ → Integrity → Judged
+weighed scratch N r hashes peaksTrusted c t d o =
+    judgedOf (weighing N r hashes peaksTrusted c t d o)
+    (scratchBy (weighing N r hashes peaksTrusted c t d o) scratch (kept scratch (gotBy o) (sha256 d) c t))
 
 unfoldable pub judgeSpec : List ℕ → ℕ → List ℕ → List ℕ → List ℕ → ℕ → List ℕ → Integrity → Judged
 judgeSpec scratch N r hashes trusted c d o =

@@ -1,4 +1,4 @@
-// The peaks of n: trusted, come with a chunk, combined to the root.
+// The peaks of n: trusted, combined to the root.
 ghost use mathlib.Core.Path.{_≡_};
 ghost use Prim.Native.Nat.{_≤_, _<_, _^_};
 ghost use mathlib.Core.Bool.{false};
@@ -11,7 +11,7 @@ ghost use Rattle.tree.specs.Tree.{given};
 ghost use Rattle.tree.specs.Verdicts.{every};
 ghost use Rattle.verdict.specs.Room.{filler};
 ghost use Rattle.verdict.specs.Integrity.{integrityOf};
-ghost use Rattle.verdict.specs.Steps.{trustedIn, cameIn, source, sourceBy};
+ghost use Rattle.verdict.specs.Steps.{trustedIn, source, sourceBy};
 use crate::integrity;
 use crate::room;
 use hash::node;
@@ -42,36 +42,6 @@ pub fn all_trusted(trusted: &[u32], n: u32, top: u32) -> bool
     let mut h = 0u32;
     while h <= top {
         ok = peak_trusted(trusted, n, h, ok);
-        h = h + 1;
-    }
-    ok
-}
-
-// One height of all_came.
-fn peak_came(entries: &[u64], bytes: &[u8], n: u32, h: u32, ok: bool) -> bool
-    requires { ⌜ h < 59 ⌝ }
-    ensures { λ r. ⌜ r ≡ pick (peakBit n h)
-        (pick (cameIn (integrityOf (now (entries .entry)) (now (bytes .entry))) (peakAt n h)) ok false) ok ⌝ }
-{
-    if tree::peaks::side(n, h) != 1 {
-        return ok;
-    }
-    let b = tree::peaks::peak(n, h);
-    if integrity::has(entries, bytes, b) {
-        return ok;
-    }
-    false
-}
-
-// Whether all peaks of n came.
-pub(crate) fn all_came(entries: &[u64], bytes: &[u8], n: u32, top: u32) -> bool
-    requires { ⌜ (top ≡ levels n) × (top ≤ 32) ⌝ }
-    ensures { λ r. ⌜ r ≡ every (cameIn (integrityOf (now (entries .entry)) (now (bytes .entry)))) (peaks n) ⌝ }
-{
-    let mut ok = true;
-    let mut h = 0u32;
-    while h <= top {
-        ok = peak_came(entries, bytes, n, h, ok);
         h = h + 1;
     }
     ok

@@ -1,21 +1,25 @@
 // Whether a chunk that came may be stored: the climb to the first trusted node, and the verdict.
 ghost use mathlib.Core.Path.{_≡_};
-ghost use Prim.Native.Nat.{suc, _≤_, _<_, _^_};
+ghost use Prim.Native.Nat.{suc, _+_, _≤_, _<_, _^_};
 ghost use mathlib.Core.Bool.{true, false};
+ghost use mathlib.Core.List.{[], _++_};
+ghost use lib.Dec.{ltb};
 ghost use Rattle.hash.proofs.Promise.{bytesOf, sha256, same};
 ghost use Rattle.base.specs.Pick.{pick};
 ghost use Rattle.tree.specs.Node.{above, siblingFrom};
 ghost use Rattle.tree.specs.Pack.{levels, leastFrom};
-ghost use Rattle.tree.specs.Peaks.{peaks, siblings};
-ghost use Rattle.tree.specs.Steps.{siblingAt};
+ghost use Rattle.tree.specs.Peaks.{peaks, siblings, sort};
+ghost use Rattle.tree.specs.Steps.{peakBit, peakAt, siblingAt};
 ghost use Rattle.tree.specs.Tree.{given, joined, climb};
-ghost use Rattle.tree.specs.Verdicts.{every};
+ghost use Rattle.tree.specs.Verdicts.{isMissing, firstOf};
 ghost use Rattle.verdict.specs.Room.{filler};
-ghost use Rattle.verdict.specs.Integrity.{integrityOf};
-ghost use Rattle.verdict.specs.Steps.{cameIn, gotBy, roomCounts, roomCounted, kept, judgedOf, judgeSpec};
+ghost use Rattle.verdict.specs.Integrity.{integrityOf, cameFrom};
+ghost use Rattle.verdict.specs.Steps.{gotBy, roomCounts, roomCounted, namedNode, kept, judgedOf, weighed};
+ghost use Rattle.verdict.specs.Steps.{judgeSpec};
 use crate::integrity;
 use crate::peaks;
 use crate::room;
+use base::Named;
 use hash::message;
 use hash::node;
 use hash::value;
@@ -25,32 +29,59 @@ use tree::verdict::Verdict;
 // The words of a scratch: eight for a climb's node of each height from 0 to 32, so that storing hashes none again.
 pub const SCRATCH: usize = 264;
 
-// One height of siblings_came.
-fn sibling_came(entries: &[u64], bytes: &[u8], c: u32, h: u32, ok: bool) -> bool
+// Whether the sibling of the node of height h above chunk c is needed, h being below t, and did not come.
+fn sibling_missing(entries: &[u64], bytes: &[u8], c: u32, t: u32, h: u32) -> bool
     requires { ⌜ h < 59 ⌝ }
-    ensures { λ r. ⌜ r
-        ≡ pick (cameIn (integrityOf (now (entries .entry)) (now (bytes .entry))) (siblingAt c h)) ok false ⌝ }
+    ensures { λ r. ⌜ r ≡ pick (ltb h t)
+        (isMissing (cameFrom (integrityOf (now (entries .entry)) (now (bytes .entry)))) (siblingAt c h)) false ⌝ }
 {
-    let b = tree::peaks::sibling(c, h);
-    if integrity::has(entries, bytes, b) {
-        return ok;
+    if h < t {
+        return !integrity::has(entries, bytes, tree::peaks::sibling(c, h));
     }
     false
 }
 
-// Whether the sibling of each node above chunk c of a height below t came.
-fn siblings_came(entries: &[u64], bytes: &[u8], c: u32, t: u32) -> bool
-    requires { ⌜ t ≤ 33 ⌝ }
-    ensures { λ r. ⌜ r ≡ every (cameIn (integrityOf (now (entries .entry)) (now (bytes .entry))))
-        (siblings c t) ⌝ }
+// Whether n has a peak of height h that is needed, the peaks not being trusted, and did not come.
+fn peak_missing(entries: &[u64], bytes: &[u8], opened: bool, n: u32, h: u32) -> bool
+    requires { ⌜ h < 59 ⌝ }
+    ensures { λ r. ⌜ r ≡ pick opened false (pick (peakBit n h)
+        (isMissing (cameFrom (integrityOf (now (entries .entry)) (now (bytes .entry)))) (peakAt n h)) false) ⌝ }
 {
-    let mut ok = true;
-    let mut h = 0u32;
-    while h < t {
-        ok = sibling_came(entries, bytes, c, h, ok);
-        h = h + 1;
+    if opened {
+        return false;
     }
-    ok
+    if tree::peaks::side(n, h) != 1 {
+        return false;
+    }
+    !integrity::has(entries, bytes, tree::peaks::peak(n, h))
+}
+
+// The first node in the sending order that chunk c of n needs and that did not come.
+fn first_missing(
+    entries: &[u64],
+    bytes: &[u8],
+    opened: bool,
+    n: u32,
+    c: u32,
+    top: u32,
+    t: u32,
+) -> Named
+    requires { ⌜ (top ≡ levels n) × (top ≤ 32) × (above t c + 2 ^ t ≤ n) ⌝ }
+    ensures { λ r. ⌜ r ≡ namedNode (firstOf
+        (isMissing (cameFrom (integrityOf (now (entries .entry)) (now (bytes .entry)))))
+        (sort (pick opened [] (peaks n) ++ siblings c t))) ⌝ }
+{
+    let mut h = top + 1;
+    while 0 < h {
+        h = h - 1;
+        if sibling_missing(entries, bytes, c, t, h) {
+            return Named::Node(tree::peaks::sibling(c, h));
+        }
+        if peak_missing(entries, bytes, opened, n, h) {
+            return Named::Node(tree::peaks::peak(n, h));
+        }
+    }
+    Named::NoNode
 }
 
 // Whether the node of height h above chunk c counts as trusted.
@@ -152,22 +183,6 @@ fn target(
     room::read(hashes, b)
 }
 
-// Whether each hash that is needed came.
-fn complete(entries: &[u64], bytes: &[u8], opened: bool, n: u32, c: u32, top: u32, t: u32) -> bool
-    requires { ⌜ (top ≡ levels n) × (top ≤ 32) × (t ≤ 33) ⌝ }
-    ensures { λ r. ⌜ r ≡ pick
-        (pick opened true (every (cameIn (integrityOf (now (entries .entry)) (now (bytes .entry)))) (peaks n)))
-        (every (cameIn (integrityOf (now (entries .entry)) (now (bytes .entry)))) (siblings c t)) false ⌝ }
-{
-    if opened {
-        return siblings_came(entries, bytes, c, t);
-    }
-    if peaks::all_came(entries, bytes, n, top) {
-        return siblings_came(entries, bytes, c, t);
-    }
-    false
-}
-
 // Whether the peaks are trusted, or give the root.
 fn rooted(
     entries: &[u64],
@@ -216,8 +231,37 @@ fn met(
     value::same(x, y)
 }
 
-// What becomes of chunk c of n that came with these hashes. The chunk is hashed once, and only where that decides; the
-// scratch then keeps the climb.
+// What becomes of chunk c of n where no hash is missing, to be hung from the node of height t. The chunk is hashed once,
+// and only where that decides; the scratch then keeps the climb.
+fn weigh(
+    scratch: &mut [u32; SCRATCH],
+    hashes: &[u32],
+    opened: bool,
+    root: HashValue,
+    n: u32,
+    c: u32,
+    top: u32,
+    t: u32,
+    chunk: &[u8],
+    entries: &[u64],
+    bytes: &[u8],
+) -> Verdict
+    requires { ⌜ (top ≡ levels n) × (top ≤ 32) × (t ≤ 33) ⌝ }
+    ensures { λ r. ⌜ judgedOf r (now (scratch .exit))
+        ≡ weighed (now (scratch .entry)) n (bytesOf (root .words)) (now (hashes .entry)) opened c t
+        (now (chunk .entry)) (integrityOf (now (entries .entry)) (now (bytes .entry))) ⌝ }
+{
+    if !rooted(entries, bytes, hashes, opened, root, n, top) {
+        return Verdict::WrongPeaks(tree::pack::root_node(n));
+    }
+    let leaf = message::sha256(chunk);
+    if !met(scratch, hashes, entries, bytes, opened, n, c, t, leaf) {
+        return Verdict::WrongClimb(tree::peaks::node(c, t));
+    }
+    Verdict::Fits(t)
+}
+
+// What becomes of chunk c of n that came with these hashes.
 pub fn judge(
     scratch: &mut [u32; SCRATCH],
     hashes: &[u32],
@@ -229,6 +273,7 @@ pub fn judge(
     entries: &[u64],
     bytes: &[u8],
 ) -> Verdict
+    requires { ⌜ c < n ⌝ }
     ensures { λ r. ⌜ judgedOf r (now (scratch .exit))
         ≡ judgeSpec (now (scratch .entry)) n (bytesOf (root .words)) (now (hashes .entry)) (now (trusted .entry)) c
         (now (chunk .entry)) (integrityOf (now (entries .entry)) (now (bytes .entry))) ⌝ }
@@ -236,15 +281,21 @@ pub fn judge(
     let top = tree::pack::levels(n);
     let opened = peaks::all_trusted(trusted, n, top);
     let t = reach(trusted, opened, n, c, top);
-    if !complete(entries, bytes, opened, n, c, top, t) {
-        return Verdict::Missing;
+    let missing = first_missing(entries, bytes, opened, n, c, top, t);
+    match missing {
+        Named::Node(b) => Verdict::Missing(b),
+        Named::NoNode => weigh(
+            scratch,
+            hashes,
+            opened,
+            root,
+            n,
+            c,
+            top,
+            t,
+            chunk,
+            entries,
+            bytes,
+        ),
     }
-    if !rooted(entries, bytes, hashes, opened, root, n, top) {
-        return Verdict::WrongPeaks;
-    }
-    let leaf = message::sha256(chunk);
-    if !met(scratch, hashes, entries, bytes, opened, n, c, t, leaf) {
-        return Verdict::WrongClimb;
-    }
-    Verdict::Fits(t)
 }
