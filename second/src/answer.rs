@@ -1,4 +1,4 @@
-//! The numbers a store gives back.
+//! The numbers a store gives back, and the nodes that go with two of them.
 
 /// Done.
 pub const DONE: u8 = 0;
@@ -35,3 +35,41 @@ pub const BAD_METHOD: u8 = 12;
 pub const NOT_HELD: u8 = 13;
 /// A channel is to be opened under ID 0 or one in use.
 pub const BAD_ID: u8 = 14;
+
+/// Why a call is refused.
+#[derive(Clone, Copy, Debug, PartialEq, Eq)]
+pub(crate) enum Refusal {
+    /// With another number than 9 and 10, which names no node.
+    Number(u8),
+    /// With 9: the first node in the sending order whose hash is needed and missing.
+    HashMissing(u64),
+    /// With 10: the trusted node that the climb missed, or the root if the peaks
+    /// do not give it.
+    HashWrong(u64),
+}
+
+impl Refusal {
+    /// The number given back.
+    pub fn number(self) -> u8 {
+        match self {
+            Refusal::Number(number) => number,
+            Refusal::HashMissing(_) => HASH_MISSING,
+            Refusal::HashWrong(_) => HASH_WRONG,
+        }
+    }
+
+    /// The node that is named with it, if any.
+    pub fn node(self) -> Option<u64> {
+        match self {
+            Refusal::Number(_) => None,
+            Refusal::HashMissing(node) | Refusal::HashWrong(node) => Some(node),
+        }
+    }
+}
+
+impl From<u8> for Refusal {
+    /// A number without a node.
+    fn from(number: u8) -> Self {
+        Refusal::Number(number)
+    }
+}

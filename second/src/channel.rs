@@ -19,7 +19,7 @@ mod tests;
 pub use calls::{add, ask, begin, build, open, start, take, write};
 pub use rooms::{Rooms, Sizes};
 
-use crate::answer;
+use crate::answer::{self, Refusal};
 use crate::sha256::Digest;
 use crate::store::check_length;
 use crate::wire::Addressing;
@@ -110,17 +110,31 @@ pub struct Outcome {
     pub number: u8,
     /// The bytes of the reply, from the front of the reply room; 0 for none.
     pub length: usize,
+    /// The node that 9 and 10 name (02, No. 3), as a bin number under either
+    /// method; none with any other number.
+    pub node: Option<u64>,
 }
 
-impl From<Result<usize, u8>> for Outcome {
-    fn from(result: Result<usize, u8>) -> Self {
+impl From<Result<usize, Refusal>> for Outcome {
+    fn from(result: Result<usize, Refusal>) -> Self {
         match result {
             Ok(length) => Outcome {
                 number: answer::DONE,
                 length,
+                node: None,
             },
-            Err(number) => Outcome { number, length: 0 },
+            Err(refusal) => Outcome {
+                number: refusal.number(),
+                length: 0,
+                node: refusal.node(),
+            },
         }
+    }
+}
+
+impl From<Result<usize, u8>> for Outcome {
+    fn from(result: Result<usize, u8>) -> Self {
+        result.map_err(Refusal::from).into()
     }
 }
 

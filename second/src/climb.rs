@@ -2,12 +2,12 @@
 //! against those that are trusted ("Taking a chunk" in 01). Who keeps the
 //! hashes, and in which form, is left open.
 
-use crate::answer;
+use crate::answer::{self, Refusal};
 use crate::sha256::{self, sha256, Digest};
 use crate::tree::{self, CHUNK_SIZE};
 
 /// The most steps from a leaf to the root: 512 leaf places are 2^9. There are
-/// at most as many peaks, for 511 chunks.
+/// at most as many peaks, for 511 chunks, and none is higher.
 const MOST_STEPS: usize = 9;
 
 /// What stands at every node over leaves past the end, whatever its height:
@@ -66,15 +66,38 @@ pub struct Proof<'a> {
 
 /// The hashes that had to come with a chunk, and the one it must lead to.
 struct Needed<'a> {
-    /// The peaks' hashes, the largest first, if they had to come.
-    peaks: Option<[&'a Digest; MOST_STEPS]>,
-    /// How many nodes are climbed from, the leaf first: those below the first
-    /// trusted node.
-    steps: usize,
-    /// The hashes of their siblings.
-    siblings: [&'a Digest; MOST_STEPS],
-    /// The hash of the first trusted node.
+    /// The peaks' hashes, by height, if they had to come.
+    peaks: Option<[&'a Digest; MOST_STEPS + 1]>,
+    /// The first trusted node at or above the leaf.
+    top: u64,
+    /// Its hash.
     wanted: Digest,
+    /// The hashes of the siblings below it, by height.
+    siblings: [&'a Digest; MOST_STEPS],
+}
+
+impl Needed<'_> {
+    /// How many nodes are climbed from, the leaf first.
+    fn steps(&self) -> usize {
+        tree::height(self.top) as usize
+    }
+
+    /// The hash that the climb from a chunk's leaf gives for the first trusted
+    /// node; those of the nodes climbed from are written to `climbed`.
+    fn climb(&self, chunk: u32, bytes: &[u8], climbed: &mut [Digest; MOST_STEPS]) -> Digest {
+        let mut hash = sha256(bytes);
+        let mut node = tree::leaf(chunk);
+        for (own, sibling) in climbed.iter_mut().zip(self.siblings).take(self.steps()) {
+            *own = hash;
+            hash = if tree::is_right(node) {
+                sha256::node(sibling, own)
+            } else {
+                sha256::node(own, sibling)
+            };
+            node = tree::parent(node);
+        }
+        hash
+    }
 }
 
 impl<'o> Order<'o> {
@@ -90,86 +113,86 @@ impl<'o> Order<'o> {
     }
 
     /// Checks a chunk against what is trusted; `came` gives the hash of a node
-    /// if it came with the chunk. The error is 7, 8, 9 or 10.
+    /// if it came with the chunk. The error is 7, 8, 9 or 10, the latter two with
+    /// their node (02, No. 3).
     pub fn check<'a>(
         &self,
         hashes: &impl Hashes,
         chunk: u32,
         bytes: &[u8],
         came: impl Fn(u64) -> Option<&'a Digest>,
-    ) -> Result<Proof<'a>, u8> {
+    ) -> Result<Proof<'a>, Refusal> {
         if chunk >= self.count {
-            return Err(answer::PAST_THE_END);
+            return Err(answer::PAST_THE_END.into());
         }
         if bytes.len() != tree::chunk_size(self.length, chunk) as usize {
-            return Err(answer::WRONG_LENGTH);
+            return Err(answer::WRONG_LENGTH.into());
         }
         // Every needed hash must be there before the value of any is judged.
         let needed = self
             .needed(hashes, chunk, came)
-            .ok_or(answer::HASH_MISSING)?;
+            .map_err(Refusal::HashMissing)?;
         if let Some(came) = &needed.peaks {
-            let came = came[..self.peaks.count].iter().map(|&&hash| hash);
-            if root_over(self.peaks.list(), came) != *self.root {
-                return Err(answer::HASH_WRONG);
+            let peaks = self.peaks.list();
+            let came = peaks.iter().map(|&peak| *came[tree::height(peak) as usize]);
+            if root_over(peaks, came) != *self.root {
+                return Err(Refusal::HashWrong(tree::root(self.count)));
             }
         }
         let mut climbed = [FILLER; MOST_STEPS];
-        let mut hash = sha256(bytes);
-        let mut node = tree::leaf(chunk);
-        for (own, sibling) in climbed.iter_mut().zip(needed.siblings).take(needed.steps) {
-            *own = hash;
-            hash = if tree::is_right(node) {
-                sha256::node(sibling, own)
-            } else {
-                sha256::node(own, sibling)
-            };
-            node = tree::parent(node);
-        }
-        if hash != needed.wanted {
-            return Err(answer::HASH_WRONG);
+        if needed.climb(chunk, bytes, &mut climbed) != needed.wanted {
+            return Err(Refusal::HashWrong(needed.top));
         }
         Ok(Proof { needed, climbed })
     }
 
-    /// The hashes that a chunk needs; none if one of them did not come.
+    /// The hashes that a chunk needs, looked for in the sending order: "by height
+    /// falling, then by first chunk rising". The error is the first node whose
+    /// hash did not come.
     fn needed<'a>(
         &self,
         hashes: &impl Hashes,
         chunk: u32,
         came: impl Fn(u64) -> Option<&'a Digest>,
-    ) -> Option<Needed<'a>> {
+    ) -> Result<Needed<'a>, u64> {
+        let find = |node| came(node).ok_or(node);
         let list = self.peaks.list();
-        let peaks = if list.iter().all(|&peak| hashes.is_trusted(peak)) {
-            None
-        } else {
-            let mut all = [&FILLER; MOST_STEPS];
-            for (hash, &peak) in all.iter_mut().zip(list) {
-                *hash = came(peak)?;
-            }
-            Some(all)
-        };
-        // Up to the first trusted node. A peak is one by now, or counts as one.
-        let index = tree::peak_over(list, chunk);
-        let peak = list[index];
+        let must_come = !list.iter().all(|&peak| hashes.is_trusted(peak));
+        let top = self.first_trusted(hashes, chunk);
+        let steps = tree::height(top);
+        let mut peaks = [&FILLER; MOST_STEPS + 1];
         let mut siblings = [&FILLER; MOST_STEPS];
-        let mut steps = 0;
-        let mut node = tree::leaf(chunk);
-        while node != peak && !hashes.is_trusted(node) {
-            siblings[steps] = came(tree::sibling(node))?;
-            steps += 1;
-            node = tree::parent(node);
+        for height in (0..=self.count.ilog2()).rev() {
+            let at = height as usize;
+            if height < steps {
+                siblings[at] = find(tree::over(chunk ^ 1 << height, height))?;
+            }
+            // A peak as high as a sibling stands right of it.
+            match tree::peak_of_height(self.count, height) {
+                Some(peak) if must_come => peaks[at] = find(peak)?,
+                _ => {}
+            }
         }
-        let wanted = match &peaks {
-            Some(all) if node == peak => *all[index],
-            _ => hashes.kept(node),
+        let wanted = if must_come && list.contains(&top) {
+            *peaks[steps as usize]
+        } else {
+            hashes.kept(top)
         };
-        Some(Needed {
-            peaks,
-            steps,
-            siblings,
+        Ok(Needed {
+            peaks: must_come.then_some(peaks),
+            top,
             wanted,
+            siblings,
         })
+    }
+
+    /// The first trusted node at or above a chunk's leaf. Its peak is trusted or
+    /// counts as such.
+    fn first_trusted(&self, hashes: &impl Hashes, chunk: u32) -> u64 {
+        let peak = tree::peak_height(self.count, chunk);
+        let mut below = (0..peak).map(|height| tree::over(chunk, height));
+        let trusted = below.find(|&node| hashes.is_trusted(node));
+        trusted.unwrap_or(tree::over(chunk, peak))
     }
 
     /// Keeps and trusts the hashes that a good chunk was checked with. A leaf
@@ -178,12 +201,12 @@ impl<'o> Order<'o> {
     pub fn keep(&self, hashes: &mut impl Hashes, chunk: u32, proof: &Proof) {
         let Proof { needed, climbed } = proof;
         if let Some(came) = &needed.peaks {
-            for (&peak, hash) in self.peaks.list().iter().zip(came) {
-                hashes.trust(peak, hash);
+            for &peak in self.peaks.list() {
+                hashes.trust(peak, came[tree::height(peak) as usize]);
             }
         }
         let mut node = tree::leaf(chunk);
-        for (own, sibling) in climbed.iter().zip(needed.siblings).take(needed.steps) {
+        for (own, sibling) in climbed.iter().zip(needed.siblings).take(needed.steps()) {
             hashes.trust(node, own);
             hashes.trust(tree::sibling(node), sibling);
             node = tree::parent(node);

@@ -107,7 +107,7 @@ mod tests {
 
     #[test]
     fn digits_of_every_number() {
-        let bytes: Vec<u8> = (0..100).map(|i| 37 * i + 11).collect();
+        let bytes: Vec<u8> = (0..100).map(|i: u32| (37 * i + 11) as u8).collect();
         let digits = encode(&bytes).into_bytes();
         for count in 0..=digits.len() {
             let mut got = Vec::new();

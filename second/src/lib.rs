@@ -1,5 +1,5 @@
 //! An independent implementation, written from FIPS 180-4, RFC 7574, the yard
-//! profile (01) and the changes requested after it (02, No. 1 and No. 2), against
+//! profile (01) and the changes requested after it (02, No. 1 to No. 3), against
 //! which the proved crates are compared. It uses the standard library only, shares
 //! no code with any other package, and is meant to be read beside those papers.
 

@@ -130,9 +130,10 @@ impl Store {
     }
 
     /// Takes a chunk with the hashes that came in its datagram, each node at
-    /// most once, and gives the number for it. A refusal changes nothing, nor
-    /// does a chunk that is held already: that one is only checked again.
-    pub fn take(&mut self, chunk: u32, bytes: &[u8], came: &[NodeHash]) -> u8 {
+    /// most once, and gives the number for it, 9 and 10 with the node that they
+    /// name (02, No. 3). A refusal changes nothing, nor does a chunk that is held
+    /// already: that one is only checked again.
+    pub fn take(&mut self, chunk: u32, bytes: &[u8], came: &[NodeHash]) -> (u8, Option<u64>) {
         let root = self.root;
         let order = Order::new(&root, self.length);
         let find = |node| {
@@ -147,9 +148,9 @@ impl Store {
                     self.map[chunk as usize] = true;
                     order.keep(self, chunk, &proof);
                 }
-                answer::DONE
+                (answer::DONE, None)
             }
-            Err(refusal) => refusal,
+            Err(refusal) => (refusal.number(), refusal.node()),
         }
     }
 

@@ -103,9 +103,15 @@ pub fn each_peak(count: u32) -> impl Iterator<Item = u64> {
 
 /// The peak of a height over `count` chunks, if there is one: its first chunk
 /// is the number that the bits above its own one bit make.
-fn peak_of_height(count: u32, height: u32) -> Option<u64> {
+pub(crate) fn peak_of_height(count: u32, height: u32) -> Option<u64> {
     let bit = 1 << height;
     (count & bit != 0).then(|| over(count ^ bit, height))
+}
+
+/// The height of the peak over a chunk, one of `count`. The highest bit that
+/// differs is 1 in the count and 0 in the chunk: the peak is the one of that bit.
+pub(crate) fn peak_height(count: u32, chunk: u32) -> u32 {
+    (count ^ chunk).ilog2()
 }
 
 /// Which of these peaks covers the chunk, which is one of theirs.
@@ -123,9 +129,7 @@ pub fn sending_order(count: u32, chunk: u32) -> Vec<u64> {
 /// sibling lies below a peak. Sorted by height falling, then by first chunk
 /// rising.
 pub fn each_sent(count: u32, chunk: u32) -> impl Iterator<Item = u64> {
-    // The highest bit that differs is 1 in the count and 0 in the chunk: the
-    // chunk's peak is the one of that bit.
-    let top = (count ^ chunk).ilog2();
+    let top = peak_height(count, chunk);
     (0..=count.ilog2()).rev().flat_map(move |height| {
         // Peaks lower than the chunk's own stand right of it.
         let sibling = (height < top).then(|| over(chunk ^ (1 << height), height));

@@ -69,7 +69,8 @@ pub fn add(
 
 /// Takes in a datagram at a clock; `id` is for a channel that it may open. The
 /// reply is our HANDSHAKE for a channel that it opened, an ACK for a chunk that
-/// it brought, or none. Refused with any number but 13.
+/// it brought, or none. Refused with any number but 13; 9 and 10 name a node.
+#[inline]
 pub fn take(state: &mut State, rooms: &mut Rooms, clock: u64, id: u32, datagram: &[u8]) -> Outcome {
     let taken = match state.addressing {
         Addressing::Bins => taking::take::<ByBins>(state, rooms, clock, id, datagram),

@@ -3,7 +3,7 @@
 use super::opening::occupy;
 use super::rooms::{bit, clear_range, set_bit, set_range};
 use super::{Phase, Rooms, Row, Sizes, State};
-use crate::answer;
+use crate::answer::{self, Refusal};
 use crate::climb::Order;
 use crate::run::biggest_interval;
 use crate::sha256::Digest;
@@ -18,7 +18,7 @@ pub fn take<N: Names>(
     clock: u64,
     id: u32,
     datagram: &[u8],
-) -> Result<usize, u8> {
+) -> Result<usize, Refusal> {
     let sizes = state.check(rooms)?;
     let mut nodes = Nodes::<N>::of(datagram);
     let laid = wire::check::<N>(datagram, |node, place| nodes.keep(node, place))?;
@@ -37,10 +37,10 @@ pub fn take<N: Names>(
                 peer: source,
                 choked: false,
             };
-            occupy::<N>(state, rooms, &sizes, row)
+            Ok(occupy::<N>(state, rooms, &sizes, row)?)
         }
         Layout::HandshakeAlone { source, options } => {
-            take_handshake(state, datagram, source, options)
+            Ok(take_handshake(state, datagram, source, options)?)
         }
         Layout::Messages => take_messages(state, rooms, &sizes, &came, None),
         Layout::MessagesAndData {
@@ -113,7 +113,7 @@ fn take_messages<N: Names>(
     sizes: &Sizes,
     came: &Came<N>,
     data: Option<Data>,
-) -> Result<usize, u8> {
+) -> Result<usize, Refusal> {
     let index = state.destination(destination(came.datagram))?;
     let row = &mut state.rows[index];
     if row.phase == Phase::Calling {
@@ -121,13 +121,13 @@ fn take_messages<N: Names>(
         return if keepalive {
             Ok(0)
         } else {
-            Err(answer::MISPLACED)
+            Err(answer::MISPLACED.into())
         };
     }
     let highest = data.as_ref().map_or(0, |data| data.chunk).max(came.highest);
     let count = tree::chunk_count(state.length);
     if highest >= count {
-        return Err(answer::PAST_THE_END);
+        return Err(answer::PAST_THE_END.into());
     }
     let mut length = 0;
     if let Some(data) = data {
@@ -147,7 +147,7 @@ fn store<N: Names>(
     rooms: &mut Rooms,
     came: &Came<N>,
     data: &Data,
-) -> Result<(), u8> {
+) -> Result<(), Refusal> {
     let Data { chunk, bytes, .. } = *data;
     let find = |node| came.nodes.hash(node);
     let proof = order.check(&rooms.lent_hashes(), chunk, bytes, find)?;

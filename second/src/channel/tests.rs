@@ -8,6 +8,7 @@ mod chunks;
 mod handshakes;
 mod layouts;
 mod methods;
+mod naming;
 mod opening;
 mod packs;
 mod plain;
@@ -28,6 +29,9 @@ const SEVEN: u32 = 7_162;
 
 /// The nodes that go out with chunk 0 of seven.
 const WITH_CHUNK_0: [u64; 5] = [3, 5, 9, 2, 12];
+
+/// A number, the node that it names, and a reply.
+type Named = (u8, Option<u64>, Vec<u8>);
 
 /// A caller: a state, and rooms to lend.
 #[derive(Clone, Debug, PartialEq, Eq)]
@@ -74,16 +78,30 @@ impl Caller {
         caller
     }
 
-    /// Lends the rooms for a call, and gives its number and its reply. A refusal
-    /// changes nothing; bytes behind a reply stay, and what lies past the rows.
+    /// Lends the rooms for a call that is to name no node, and gives its number
+    /// and its reply.
     fn call(&mut self, call: impl FnOnce(&mut State, &mut Rooms) -> Outcome) -> (u8, Vec<u8>) {
+        let (number, node, reply) = self.named(call);
+        assert_eq!(node, None, "{number}");
+        (number, reply)
+    }
+
+    /// Lends the rooms for a call, and gives its number, the node that it names,
+    /// and its reply. A refusal changes nothing; bytes behind a reply stay, and
+    /// what lies past the rows.
+    fn named(&mut self, call: impl FnOnce(&mut State, &mut Rooms) -> Outcome) -> Named {
         let before = self.clone();
         let (state, mut rooms) = self.lend();
-        let Outcome { number, length } = call(state, &mut rooms);
+        let Outcome {
+            number,
+            length,
+            node,
+        } = call(state, &mut rooms);
+        assert_eq!(node.is_some(), [9, 10].contains(&number), "{number}");
         if number != 0 {
             assert_eq!(length, 0, "{number}");
             assert!(*self == before, "{number} changes something");
-            return (number, vec![]);
+            return (number, node, vec![]);
         }
         assert!(self.reply[length..] == before.reply[length..]);
         let sizes = Sizes::of(self.state.length);
@@ -96,7 +114,7 @@ impl Caller {
         );
         assert_eq!(self.has[sizes.has..], before.has[sizes.has..]);
         assert_eq!(self.wants[sizes.wants..], before.wants[sizes.wants..]);
-        (number, self.reply[..length].to_vec())
+        (number, node, self.reply[..length].to_vec())
     }
 
     /// The state and the rooms.
@@ -138,7 +156,12 @@ impl Caller {
     }
 
     fn take(&mut self, clock: u64, id: u32, datagram: &[u8]) -> (u8, Vec<u8>) {
-        self.call(|state, rooms| take(state, rooms, clock, id, datagram))
+        let (number, _, reply) = self.take_named(clock, id, datagram);
+        (number, reply)
+    }
+
+    fn take_named(&mut self, clock: u64, id: u32, datagram: &[u8]) -> Named {
+        self.named(|state, rooms| take(state, rooms, clock, id, datagram))
     }
 
     fn write(&mut self, id: u32, chunk: u32, clock: u64) -> (u8, Vec<u8>) {

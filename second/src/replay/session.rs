@@ -97,7 +97,8 @@ impl Session {
         let clock = clock
             .iter()
             .fold(0, |clock, &byte| clock << 8 | u64::from(byte));
-        let Outcome { number, length } = channel::take(state, &mut rooms, clock, id, datagram);
+        let taken = channel::take(state, &mut rooms, clock, id, datagram);
+        let Outcome { number, length, .. } = taken;
         // A datagram to channel 0 is done only where it opens a channel.
         if number == answer::DONE && datagram.starts_with(&[0; 4]) {
             self.id = id.wrapping_add(1);

@@ -3,6 +3,7 @@
 
 mod building;
 mod hashes;
+mod naming;
 mod starting;
 mod taking;
 
@@ -83,14 +84,20 @@ impl Pack {
     /// Takes a chunk, and sees that a refusal changes nothing, nor a chunk held
     /// already, and that a good one is kept.
     fn offer(&mut self, number: u32, bytes: &[u8], came: &[NodeHash]) -> u8 {
+        self.named(number, bytes, came).0
+    }
+
+    /// The same with the node that is named: there is one with 9 and 10 alone.
+    fn named(&mut self, number: u32, bytes: &[u8], came: &[NodeHash]) -> (u8, Option<u64>) {
         let before = self.store.clone();
-        let answer = self.store.take(number, bytes, came);
+        let (answer, node) = self.store.take(number, bytes, came);
+        assert_eq!(node.is_some(), [9, 10].contains(&answer), "{answer}");
         if answer != 0 || before.holds(number) {
             assert_same(&self.store, &before);
         } else {
             assert_kept(&self.store, &before, number, bytes);
         }
-        answer
+        (answer, node)
     }
 
     /// The nodes that are trusted, in rising order.

@@ -205,6 +205,7 @@ fn peaks_as_defined() {
         for chunk in 0..count {
             let peak = peaks[peak_over(&peaks, chunk)];
             assert!((first_chunk(peak)..=last_chunk(peak)).contains(&u64::from(chunk)));
+            assert_eq!(height(peak), peak_height(count, chunk));
         }
     }
 }

@@ -7,7 +7,11 @@ use crate::wire::{Message, Options};
 const HAVE: Message = Message::Have { first: 0, last: 9 };
 
 fn outcome(number: u8, length: usize) -> Outcome {
-    Outcome { number, length }
+    Outcome {
+        number,
+        length,
+        node: None,
+    }
 }
 
 #[test]
@@ -26,7 +30,9 @@ fn added(so_far: &[u8], message: Message, source: &[u8]) -> (u8, Vec<u8>) {
     let mut room = [0xee; 2048];
     room[..so_far.len()].copy_from_slice(so_far);
     let before = room;
-    let Outcome { number, length } = add(&mut room, 2, so_far.len(), &message, source);
+    let done = add(&mut room, 2, so_far.len(), &message, source);
+    let Outcome { number, length, .. } = done;
+    assert_eq!(done.node, None);
     assert!(room[length..] == before[length..]);
     (number, room[..length].to_vec())
 }

@@ -4,6 +4,7 @@
 mod made;
 
 use super::*;
+use crate::answer::Refusal;
 use crate::random::Random;
 use crate::wire_cases::datagrams;
 
@@ -144,8 +145,34 @@ impl Scene {
 impl Scene {
     /// Makes some call, and compares it with the slow reading.
     fn step(&mut self, caller: &mut Caller) {
-        let before = caller.clone();
         let (got, wanted) = match self.random.below(40) {
+            which @ 0..10 => {
+                let ((number, reply), wanted) = self.other_call(which, caller);
+                ((number, None, reply), wanted.map_err(Refusal::Number))
+            }
+            _ => {
+                let (clock, id) = (self.random.time(), self.random.below(40) as u32);
+                let datagram = self.datagram(&caller.state);
+                let wanted = plain::take(caller, clock, id, &datagram);
+                (caller.take_named(clock, id, &datagram), wanted)
+            }
+        };
+        self.seen[usize::from(got.0)] += 1;
+        match wanted {
+            Ok((after, reply)) => {
+                assert_eq!(got, (0, None, reply));
+                assert!(*caller == after);
+            }
+            Err(refusal) => assert_eq!(got, (refusal.number(), refusal.node(), vec![])),
+        }
+        assert_eq!(caller.ask(), plain::ask(caller));
+    }
+
+    /// Makes a call other than taking in, one of ten: what it gives, and what the
+    /// slow reading gives.
+    fn other_call(&mut self, which: usize, caller: &mut Caller) -> ((u8, Vec<u8>), plain::Done) {
+        let before = caller.clone();
+        match which {
             0 => {
                 let (root, length, method) = (self.pack.root(), self.length(), self.method());
                 let got = (caller.start_under(method, &root, length), vec![]);
@@ -161,27 +188,12 @@ impl Scene {
                 let id = self.random.below(40) as u32;
                 (caller.open(id), plain::open(&before, id))
             }
-            5..10 => {
+            _ => {
                 let (id, chunk, clock) = (self.id(), self.chunk(), self.random.time());
                 let got = caller.write(id, chunk, clock);
                 (got, plain::write(&before, id, chunk, clock))
             }
-            _ => {
-                let (clock, id) = (self.random.time(), self.random.below(40) as u32);
-                let datagram = self.datagram(&before.state);
-                let got = caller.take(clock, id, &datagram);
-                (got, plain::take(&before, clock, id, &datagram))
-            }
-        };
-        self.seen[usize::from(got.0)] += 1;
-        match wanted {
-            Ok((after, reply)) => {
-                assert_eq!(got, (0, reply));
-                assert!(*caller == after);
-            }
-            Err(number) => assert_eq!(got, (number, vec![])),
         }
-        assert_eq!(caller.ask(), plain::ask(caller));
     }
 
     /// The scene's method, at times another one.

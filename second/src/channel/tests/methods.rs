@@ -52,6 +52,7 @@ fn methods_in_adding() {
             let wanted = Outcome {
                 number: 12,
                 length: 0,
+                node: None,
             };
             assert_eq!(outcome, wanted);
         }

@@ -14,7 +14,7 @@ use crate::store::plain;
 use crate::wire::Addressing;
 
 /// What is refused, or how things are afterwards and what is replied.
-pub type Done = Result<(Caller, Vec<u8>), u8>;
+pub type Done<Refused = u8> = Result<(Caller, Vec<u8>), Refused>;
 
 /// The least number of words with so many bits.
 fn words(bits: usize) -> usize {

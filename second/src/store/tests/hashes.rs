@@ -54,7 +54,7 @@ fn trap_102_a_zero_peak_is_hashed() {
 /// The answer of a store of `count` whole chunks under this root.
 fn answer_under(root: Digest, count: u32, chunk: &[u8], number: u32, came: &[(u64, Digest)]) -> u8 {
     let mut store = Store::start(root, 1024 * count).unwrap();
-    store.take(number, chunk, came)
+    store.take(number, chunk, came).0
 }
 
 /// Trap 103: every chunk of a tree has some siblings on its left and some on

@@ -29,8 +29,9 @@ impl Pack {
     /// Takes a chunk that the pack does not have.
     fn offer_past(&mut self, number: u32, bytes: &[u8]) -> u8 {
         let before = self.store.clone();
-        let answer = self.store.take(number, bytes, &self.hashes(&WITH_CHUNK_0));
+        let (answer, node) = self.store.take(number, bytes, &self.hashes(&WITH_CHUNK_0));
         super::assert_same(&self.store, &before);
+        assert_eq!(node, None);
         answer
     }
 }

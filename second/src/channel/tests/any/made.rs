@@ -115,8 +115,12 @@ impl Scene {
         let count = tree::chunk_count(self.pack.length());
         let chunk = self.chunk();
         let mut nodes = tree::sending_order(count, chunk.min(count - 1));
-        if self.chance(4) {
-            nodes.remove(self.random.below(nodes.len()));
+        match self.random.below(6) {
+            0 => {
+                nodes.remove(self.random.below(nodes.len()));
+            }
+            1 => nodes.retain(|_| self.random.below(4) != 0),
+            _ => {}
         }
         if self.chance(4) {
             nodes.reverse();

@@ -1,6 +1,7 @@
 //! Taking in a datagram, a second time.
 
 use super::*;
+use crate::answer::Refusal;
 use crate::sha256::{node, sha256};
 use crate::wire::{layout, step, Layout, Message, Options, Step};
 use std::collections::BTreeMap;
@@ -8,7 +9,7 @@ use std::collections::BTreeMap;
 /// Nodes and their hashes.
 type Hashes = BTreeMap<u64, Digest>;
 
-pub fn take(before: &Caller, clock: u64, id: u32, datagram: &[u8]) -> Done {
+pub fn take(before: &Caller, clock: u64, id: u32, datagram: &[u8]) -> Done<Refusal> {
     let State { root, length, .. } = &before.state;
     check(before, *length)?;
     let layout = layout(before.state.addressing, datagram, &mut Vec::new())?;
@@ -18,18 +19,21 @@ pub fn take(before: &Caller, clock: u64, id: u32, datagram: &[u8]) -> Done {
         _ => row_of(&before.state, destination),
     };
     let Layout::HandshakeAlone { source, options } = layout else {
-        let row = row.ok_or(5)?;
+        let row = row.ok_or(Refusal::Number(5))?;
         return take_messages(before, clock, row, datagram);
     };
     let good = match options {
         Options::Fixed { root: at } => datagram[at..at + 32] == *root,
         _ => false,
     };
-    match destination {
+    let done = match destination {
         0 if good => occupy(before, id, source, Phase::Open),
         0 => Err(4),
-        _ => take_handshake(before, row.ok_or(5)?, source, good),
-    }
+        _ => row
+            .ok_or(5)
+            .and_then(|row| take_handshake(before, row, source, good)),
+    };
+    done.map_err(Refusal::Number)
 }
 
 fn take_handshake(before: &Caller, row: usize, source: u32, good: bool) -> Done {
@@ -49,7 +53,7 @@ fn take_handshake(before: &Caller, row: usize, source: u32, good: bool) -> Done 
     done(after, vec![])
 }
 
-fn take_messages(before: &Caller, clock: u64, row: usize, datagram: &[u8]) -> Done {
+fn take_messages(before: &Caller, clock: u64, row: usize, datagram: &[u8]) -> Done<Refusal> {
     let mut messages = Vec::new();
     let mut at = 4;
     while let Step::Read { message, next } = step(before.state.addressing, datagram, at) {
@@ -58,13 +62,13 @@ fn take_messages(before: &Caller, clock: u64, row: usize, datagram: &[u8]) -> Do
     }
     let record = &before.state.rows[row];
     if record.phase == Phase::Calling && !messages.is_empty() {
-        return Err(3);
+        return Err(Refusal::Number(3));
     }
     let (count, _) = counts(before.state.length);
     let bins = before.state.addressing == Addressing::Bins;
     let past = |message| needed(bins, message) >= count as u64;
     if messages.iter().any(past) {
-        return Err(7);
+        return Err(Refusal::Number(7));
     }
     let mut after = before.clone();
     let mut came = Hashes::new();
@@ -88,7 +92,7 @@ fn take_messages(before: &Caller, clock: u64, row: usize, datagram: &[u8]) -> Do
             message => apply(&mut after, row, message),
         }
     }
-    done(after, reply)
+    Ok(done(after, reply)?)
 }
 
 /// The ACK for a chunk that is in the map (02, No. 2).
@@ -170,33 +174,40 @@ fn set(row: &mut [u32], first: u32, last: u32, value: bool) {
 }
 
 /// 8, 9, 10, or the chunk and its hashes are there afterwards.
-fn take_chunk(after: &mut Caller, chunk: usize, bytes: &[u8], came: &Hashes) -> Result<(), u8> {
+fn take_chunk(
+    after: &mut Caller,
+    chunk: usize,
+    bytes: &[u8],
+    came: &Hashes,
+) -> Result<(), Refusal> {
     let (count, places) = counts(after.state.length);
     if bytes.len() != (after.state.length as usize - 1024 * chunk).min(1024) {
-        return Err(8);
+        return Err(Refusal::Number(8));
     }
     let peaks = peaks(count, places);
-    let mut kept = Hashes::new();
     let trusted = peaks.iter().all(|&peak| is_set(&after.trusted, peak));
+    let (path, top) = path(after, chunk, &peaks);
+    // "The first needed and missing one in 01's sending order."
+    let needed = |node| match peaks.contains(&node) {
+        true => !trusted,
+        false => path.iter().any(|&(_, other)| other == node),
+    };
+    let mut sent = sent_with(chunk, count, places).into_iter();
+    if let Some(node) = sent.find(|&node| needed(node) && !came.contains_key(&node)) {
+        return Err(Refusal::HashMissing(node));
+    }
+    let mut kept = Hashes::new();
     if !trusted {
-        for peak in &peaks {
-            kept.insert(*peak, *came.get(peak).ok_or(9)?);
+        kept.extend(peaks.iter().map(|&peak| (peak, came[&peak])));
+        // "The root if the peaks fail."
+        if over(&kept, count, 0, places) != Some(after.state.root) {
+            return Err(Refusal::HashWrong(places as u64 - 1));
         }
     }
-    // From the leaf to the first trusted node.
-    let mut path = Vec::new();
-    let mut top = 2 * chunk as u64;
-    while !is_set(&after.trusted, top) && !peaks.contains(&top) {
-        let [other, above] = beside_and_above(top);
-        path.push((top, other, *came.get(&other).ok_or(9)?));
-        top = above;
-    }
+    // "The trusted node missed."
     let wanted = kept.get(&top).copied().unwrap_or_else(|| after.hash(top));
-    if !trusted && over(&kept, count, 0, places) != Some(after.state.root) {
-        return Err(10);
-    }
-    if climb(&mut kept, sha256(bytes), path) != wanted {
-        return Err(10);
+    if climb(&mut kept, sha256(bytes), &path, came) != wanted {
+        return Err(Refusal::HashWrong(top));
     }
     if !is_set(&after.map, chunk as u64) {
         set(&mut after.map, chunk as u32, chunk as u32, true);
@@ -207,12 +218,25 @@ fn take_chunk(after: &mut Caller, chunk: usize, bytes: &[u8], came: &Hashes) -> 
     Ok(())
 }
 
+/// From a chunk's leaf to the first trusted node: those below it, each with its
+/// sibling, and that node.
+fn path(caller: &Caller, chunk: usize, peaks: &[u64]) -> (Vec<(u64, u64)>, u64) {
+    let mut path = Vec::new();
+    let mut top = 2 * chunk as u64;
+    while !is_set(&caller.trusted, top) && !peaks.contains(&top) {
+        let [other, above] = beside_and_above(top);
+        path.push((top, other));
+        top = above;
+    }
+    (path, top)
+}
+
 /// The hash that a leaf's leads to; each node climbed from, with its sibling, is
 /// kept.
-fn climb(kept: &mut Hashes, leaf: Digest, path: Vec<(u64, u64, Digest)>) -> Digest {
+fn climb(kept: &mut Hashes, leaf: Digest, path: &[(u64, u64)], came: &Hashes) -> Digest {
     let mut hash = leaf;
-    for (own, other, sibling) in path {
-        kept.extend([(own, hash), (other, sibling)]);
+    for &(own, other) in path {
+        kept.extend([(own, hash), (other, came[&other])]);
         let [left, right] = [own.min(other), own.max(other)].map(|node| kept[&node]);
         hash = node(&left, &right);
     }
