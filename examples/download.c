@@ -34,7 +34,8 @@ struct datagram {
 static const struct ppspp_store *server; /* of the running download */
 static const struct ppspp_store *van;
 static uint8_t content[LENGTH];
-static uint64_t now; /* microseconds; a loader reads its clock here */
+static uint64_t now;  /* microseconds; a loader reads its clock here */
+static uint64_t node; /* the one that the last answer names */
 static int differences;
 
 /* Everything that the program shows, it also checks. */
@@ -61,8 +62,12 @@ static struct datagram deliver(const struct datagram *d, const struct ppspp_stor
 {
     size_t len = 0;
     now += 1000;
-    const uint32_t answer = ppspp_store_take(to, now, id, d->bytes, d->n, &len);
+    const uint32_t answer = ppspp_store_take(to, now, id, d->bytes, d->n, &len, &node);
     printf("%-14s %-44s %2u: %s\n", way, what, (unsigned)answer, ppspp_answer_text(answer));
+    if (node != PPSPP_NO_NODE) {
+        printf("%64snode %u, chunks %u..%u\n", "", (unsigned)node, (unsigned)ppspp_node_first(node),
+               (unsigned)ppspp_node_last(node));
+    }
     expect(answer == wanted, "the answer");
     return sent(to, len);
 }
@@ -75,26 +80,28 @@ static uint32_t held(const struct ppspp_store *store)
     return count;
 }
 
-/* ---- the liar, who sees what the server sends; each lie gets the number that tells what is wrong with it */
+/* ---- the liar, who sees what the server sends; each lie gets the number, and the node, that tell what is wrong */
 
-static void lie(const struct datagram *d, const char *what, uint32_t wanted)
+static void lie(const struct datagram *d, const char *what, uint32_t wanted, uint64_t wanted_node)
 {
     const uint32_t before = held(van);
     const struct datagram reply = deliver(d, van, 0, "liar -> van", what, wanted);
+    expect(node == wanted_node, "the node");
     expect(reply.n == 0, "a refusal has no reply");
     expect(held(van) == before, "a refusal stores nothing");
 }
 
-static void flip(const struct datagram *genuine, const char *what)
+/* The chunk does not lead to the node: at first its peak, which came with it, later its own. */
+static void flip(const struct datagram *genuine, const char *what, uint64_t missed)
 {
     struct datagram d = *genuine;
     d.bytes[d.n - 1] ^= 1;
-    lie(&d, what, PPSPP_HASH_MISMATCH);
+    lie(&d, what, PPSPP_HASH_MISMATCH, missed);
 }
 
 /*
  * Lies made of the server's datagram: from byte 4 on it has hashes, each behind its type and a bin or a range, and at
- * its end the chunk.
+ * its end the chunk. The first is that of the peak over 0..3, node 3; the root is node 7.
  */
 static void alter(const struct datagram *genuine)
 {
@@ -102,21 +109,21 @@ static void alter(const struct datagram *genuine)
     const size_t hash = name + 32;
     struct datagram d = *genuine;
     memset(d.bytes + 4 + name, 0xee, 32);
-    lie(&d, "the chunk with a forged hash", PPSPP_HASH_MISMATCH);
+    lie(&d, "the chunk with a forged peak", PPSPP_HASH_MISMATCH, 7);
 
     d = *genuine;
     memmove(d.bytes + 4, d.bytes + 4 + hash, d.n - 4 - hash);
     d.n -= hash;
-    lie(&d, "the chunk without its first hash", PPSPP_HASH_MISSING);
+    lie(&d, "the chunk without its first hash", PPSPP_HASH_MISSING, 3);
 
     d = *genuine;
     d.n = 60;
-    lie(&d, "the datagram cut off in its second hash", PPSPP_MALFORMED);
+    lie(&d, "the datagram cut off in its second hash", PPSPP_MALFORMED, PPSPP_NO_NODE);
 
     d = *genuine;
     d.bytes[d.n] = 0;
     d.n++;
-    lie(&d, "the chunk with a byte too many", PPSPP_CHUNK_SIZE_WRONG);
+    lie(&d, "the chunk with a byte too many", PPSPP_CHUNK_SIZE_WRONG, PPSPP_NO_NODE);
 }
 
 /* Lies of his own. */
@@ -129,9 +136,9 @@ static void invent(void)
         d.bytes[i] = (uint8_t)(i * i * 37u + 201u);
     }
     d.n = 200;
-    lie(&d, "garbage of 200 bytes", PPSPP_MALFORMED);
+    lie(&d, "garbage of 200 bytes", PPSPP_MALFORMED, PPSPP_NO_NODE);
     d.n = 3;
-    lie(&d, "garbage of 3 bytes", PPSPP_SIZE);
+    lie(&d, "garbage of 3 bytes", PPSPP_SIZE, PPSPP_NO_NODE);
 
     /* The root as the one peak of eight chunks: it would prove a chunk that the order has not. */
     expect(ppspp_store_order(van, &order), "the van has an order");
@@ -141,7 +148,7 @@ static void invent(void)
     expect(ppspp_store_add_integrity(&liar, &len, 0, CHUNKS, order.root) == PPSPP_DONE, "INTEGRITY can be added");
     expect(ppspp_store_add_data(&liar, &len, CHUNKS, now, content, PPSPP_CHUNK_SIZE) == PPSPP_DONE, "so can DATA");
     d = sent(&liar, len);
-    lie(&d, "an eighth chunk, the root as its peak", PPSPP_RANGE);
+    lie(&d, "an eighth chunk, the root as its peak", PPSPP_RANGE, PPSPP_NO_NODE);
 }
 
 /* ---- the download */
@@ -230,7 +237,7 @@ static void send_chunk(uint32_t chunk)
     const struct datagram genuine = sent(server, len);
     if (chunk == 0) {
         expect(len == (ppspp_store_addressing(server) == PPSPP_BINS ? 1226 : 1250), "a bin has 4 bytes, a range 8");
-        flip(&genuine, "the chunk with its last byte flipped");
+        flip(&genuine, "the chunk with its last byte flipped", 3);
         alter(&genuine);
         invent();
     }
@@ -238,7 +245,7 @@ static void send_chunk(uint32_t chunk)
     const struct datagram ack = deliver(&genuine, van, 0, "server -> van", what, PPSPP_DONE);
     expect(held(van) == chunk + 1, "the chunk is held");
     if (chunk == 0) {
-        flip(&genuine, "the same chunk again, its last byte flipped");
+        flip(&genuine, "the same chunk again, its last byte flipped", 0);
     }
     read_ack(&ack, chunk, what, sizeof what);
     deliver(&ack, server, 0, "van -> server", what, PPSPP_DONE);

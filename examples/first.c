@@ -10,8 +10,9 @@ PPSPP_DEFINE_STORE(van, 512);
 static size_t bring(const struct ppspp_store *from, size_t len, const struct ppspp_store *to, uint32_t id)
 {
     uint8_t datagram[PPSPP_MAX_DATAGRAM];
+    uint64_t node; /* the one that 9 or 10 names, for a log */
     memcpy(datagram, from->reply, len);
-    puts(ppspp_answer_text(ppspp_store_take(to, 0, id, datagram, len, &len))); /* any bytes, here at clock 0 */
+    puts(ppspp_answer_text(ppspp_store_take(to, 0, id, datagram, len, &len, &node))); /* any bytes, here at clock 0 */
     return len;
 }
 

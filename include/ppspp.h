@@ -9,8 +9,7 @@
  *   1. Link libloader.a and compare the header with it once: ppspp_header_matches() of ppspp_store.h.
  *   2. Lend rooms of the sizes below. In ppspp_store.h, struct ppspp_store has them all, PPSPP_DEFINE_STORE() defines
  *      them, and ppspp_store_...() are the calls over it, with a handful of arguments each.
- *   3. ppspp_start() or ppspp_build(); then any calls in any order, with any numbers and any bytes. examples/download.c
- *      shows all of it.
+ *   3. ppspp_start() or ppspp_build(); then any calls in any order, with any numbers and bytes: examples/download.c.
  *
  * Each call on rooms answers with a number of enum ppspp_answer. With any other than PPSPP_DONE the reply has length 0,
  * and every room is as it was.
@@ -19,26 +18,23 @@
  * takes without const.
  *
  * What you must never do:
- *   - let a pointer that a call writes through overlap any other pointer of that call: rooms, reply_len, held, whole,
- *     found, datagram, content, order, bytes. So a pack is not built in place, its content being the chunk room, and
- *     what stands in a store's own reply room is copied before the store takes it in;
+ *   - let a pointer that a call writes through overlap any other pointer of that call: rooms, reply_len, node, held,
+ *     whole, found, datagram, content, order, bytes. So a pack is not built in place, its content being the chunk room,
+ *     and what stands in a store's own reply room is copied before the store takes it in;
  *   - give NULL, even with a length of 0: any valid address will do then;
  *   - give a length that is more than the room has, or an address that is not aligned for its type;
- *   - change a room between two calls on one store, but for the reply room, whose bytes are yours between calls.
- *     The library answers even so, and every room stays in its bounds; but the pack is then no longer what the theorems
- *     speak of;
+ *   - change a room between two calls on one store, but for the reply room, whose bytes are yours then. The library
+ *     answers even so, and every room stays in its bounds; but the pack is no longer what the theorems speak of;
  *   - lend one store's rooms to two calls at a time.
  *
  * No room needs clearing before a start or a build. Before any other call on a store the state's first word must be
  * set: 0 will do.
  *
  * Two numbers are yours to choose:
- *   - a clock is any number; by the protocol it is in microseconds. It only goes into the delay of an ACK or the
- *     timestamp of DATA.
+ *   - a clock is any number, by the protocol in microseconds; it goes into an ACK's delay or DATA's timestamp alone.
  *   - an ID of a channel of ours is not 0 and not in use, or else is answered with 14. It is looked at only where a
  *     channel is opened. If it had no row before a take, ppspp_store_row_of() of ppspp_rooms.h tells afterwards whether
- *     it was used; one that was in use has a row in any case. IDs that are hard to guess keep strangers from naming
- *     them.
+ *     it was used; one in use has a row in any case. IDs that are hard to guess keep strangers from naming them.
  *
  * The library is for Linux on x86-64, where size_t has 64 bits. It needs memcpy and memset of the C library, nothing
  * else, and leaves errno alone. A call touches under 8 KiB of stack (measured, tests/c/stack/). This header needs C99
@@ -127,9 +123,9 @@ struct ppspp_order {
  * In every bit row, bit i is bit i % 32 of word i / 32, the low bit first. The rooms has and wants are 16 rows of
  * PPSPP_MAP_WORDS(n) words each, one for each row of the table.
  *
- * Chunk i is node 2i of the tree. The hash of node b stands in words 8b to 8b + 7 of the hash room, its bytes in groups
- * of four, the first of them in the high bits; b is trusted if bit b of the trusted bits is set, and else its words may
- * be anything.
+ * A node of the tree has the number first + last of its chunks, as their bin has: chunk i is node 2i. The hash of node
+ * b stands in words 8b to 8b + 7 of the hash room, its bytes in groups of four, the first of them in the high bits; b
+ * is trusted if bit b of the trusted bits is set, and else its words may be anything.
  */
 #define PPSPP_WORD_VERSION 0u
 #define PPSPP_WORD_ROOT 1u
@@ -202,16 +198,18 @@ uint32_t ppspp_open(uint32_t *state, size_t state_n, const uint8_t *chunks, size
  * held and is the same, is answered by an ACK, a HANDSHAKE to channel 0 by ours; no other has a reply. The ACK names
  * the biggest complete interval that covers the chunk, once it is stored: under ranges the longest run of held chunks
  * around it, under bins the largest whole subtree inside the pack all of whose chunks are held.
+ *
+ * With 9 and 10 *node gets the number of a node, under either addressing: with 9 of the first that is needed and did
+ * not come, by height falling, then by first chunk rising; with 10 of the trusted one that was missed (peaks that came
+ * and give the root count as trusted), or of the root if the peaks do not give it. Else it gets PPSPP_NO_NODE.
  */
+#define PPSPP_NO_NODE UINT64_MAX
 uint32_t ppspp_take(uint32_t *state, size_t state_n, uint8_t *chunks, size_t chunks_n, uint32_t *map, size_t map_n,
                     uint32_t *hashes, size_t hashes_n, uint32_t *trusted, size_t trusted_n, uint32_t *has, size_t has_n,
                     uint32_t *wants, size_t wants_n, uint8_t *reply, size_t reply_n, uint64_t clock, uint32_t id,
-                    const uint8_t *datagram, size_t datagram_n, size_t *reply_len);
+                    const uint8_t *datagram, size_t datagram_n, size_t *reply_len, uint64_t *node);
 
-/*
- * Writes the datagram of one chunk, with all hashes that a new peer needs and the clock as its timestamp, to the peer
- * of the channel that is open under an ID of ours.
- */
+/* Writes the datagram of a chunk, at a clock, with all hashes that a new peer needs, for an open channel of ours. */
 uint32_t ppspp_write(const uint32_t *state, size_t state_n, const uint8_t *chunks, size_t chunks_n, const uint32_t *map,
                      size_t map_n, const uint32_t *hashes, size_t hashes_n, const uint32_t *trusted,
                      size_t trusted_n, const uint32_t *has, size_t has_n, const uint32_t *wants, size_t wants_n,
@@ -283,10 +281,7 @@ enum ppspp_step {
     PPSPP_STEP_NO_METHOD = 12 /* no such addressing */
 };
 
-/*
- * Of a message, `found` gets its type and numbers as in the table, and where its bytes and the next message stand.
- * Unless there is a message, it stays as it was.
- */
+/* Of a message, `found` gets its type and numbers as in the table, and two places; else it stays as it was. */
 #define PPSPP_FOUND_WORDS 7u
 #define PPSPP_FOUND_TYPE 0u
 #define PPSPP_FOUND_FIRST 1u

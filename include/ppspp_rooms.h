@@ -1,6 +1,6 @@
 /*
  * The eight rooms of a store in one struct, and readers of what stands in them. The calls over it are in ppspp_store.h.
- * The readers answer for any row and any chunk, and look at no element that a room has not.
+ * The readers answer for any row, chunk and node, and look at no element that a room has not.
  */
 #ifndef PPSPP_ROOMS_H
 #define PPSPP_ROOMS_H
@@ -135,6 +135,23 @@ static inline uint32_t ppspp_store_row_of(const struct ppspp_store *store, uint3
         i++;
     }
     return i;
+}
+
+/* ---- nodes of the tree */
+
+/*
+ * The first chunk under the node of any number: adding 1 turns the ones at its low end, as many as the node's height,
+ * to 0, and the 0 above them to 1. PPSPP_NO_NODE has no chunks, so what these two give of it means nothing.
+ */
+static inline uint64_t ppspp_node_first(uint64_t node)
+{
+    return (node & (node + 1u)) / 2u;
+}
+
+/* The last chunk under the node of any number. */
+static inline uint64_t ppspp_node_last(uint64_t node)
+{
+    return (node | (node + 1u)) / 2u;
 }
 
 /* ---- the bit rows */

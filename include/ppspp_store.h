@@ -4,8 +4,9 @@
  *
  *     PPSPP_DEFINE_STORE(pack, 512);
  *     ...
- *     answer = ppspp_store_take(&pack, clock, id, datagram, datagram_n, &len);
+ *     answer = ppspp_store_take(&pack, clock, id, datagram, datagram_n, &len, &node);
  *     if (len > 0) { send the first len bytes of pack.reply }
+ *     if (node != PPSPP_NO_NODE) { log it with the answer: chunks ppspp_node_first(node) to ppspp_node_last(node) }
  *
  * Each call answers with a number of enum ppspp_answer, and ppspp_answer_text() has its sentence.
  */
@@ -101,11 +102,12 @@ static inline uint32_t ppspp_store_open(const struct ppspp_store *store, uint32_
 /*
  * Takes in a datagram at a clock; the ID is for a channel that it may open. The reply to a chunk is an ACK of the
  * longest range of held chunks around it, or of the largest bin around it inside the pack whose chunks are all held.
+ * *node gets the node whose hash is missing with 9, the trusted one that was missed with 10, else PPSPP_NO_NODE.
  */
 static inline uint32_t ppspp_store_take(const struct ppspp_store *store, uint64_t clock, uint32_t id,
-                                        const uint8_t *datagram, size_t datagram_n, size_t *len)
+                                        const uint8_t *datagram, size_t datagram_n, size_t *len, uint64_t *node)
 {
-    return ppspp_take(PPSPP_ROOMS(store), clock, id, datagram, datagram_n, len);
+    return ppspp_take(PPSPP_ROOMS(store), clock, id, datagram, datagram_n, len, node);
 }
 
 /* Writes the datagram of one chunk, with its hashes, for the channel that is open under an ID of ours. */
@@ -125,7 +127,8 @@ static inline uint32_t ppspp_store_ask(const struct ppspp_store *store, uint32_t
  * Frees the row of an ID of ours, open or calling; an ID without a row is PPSPP_NO_CHANNEL. The peer is not told: if it
  * is to know, send it a closing HANDSHAKE first. What is taken in here, in this order, is a keepalive, which finds out
  * whether there is a row; for a calling row a HANDSHAKE under the order, as its peer would send it, which opens it; and
- * a closing HANDSHAKE. None has a reply, and the reply room stays as it was. The datagrams are made on the stack.
+ * a closing HANDSHAKE. None has a reply or names a node, and the reply room stays as it was. The datagrams are made on
+ * the stack.
  */
 static inline uint32_t ppspp_store_close(const struct ppspp_store *store, uint32_t id)
 {
@@ -135,18 +138,19 @@ static inline uint32_t ppspp_store_close(const struct ppspp_store *store, uint32
     uint8_t root[PPSPP_ROOT_BYTES];
     size_t begun = 0;
     size_t len = 0;
+    uint64_t node = PPSPP_NO_NODE;
     ppspp_store_root(store, root);
     ppspp_begin(datagram, sizeof datagram, id, &begun);
-    uint32_t answer = ppspp_store_take(store, 0, 0, datagram, begun, &len);
+    uint32_t answer = ppspp_store_take(store, 0, 0, datagram, begun, &len, &node);
     if (answer == PPSPP_DONE && row.phase == PPSPP_CALLING) {
         ppspp_add(datagram, sizeof datagram, addressing, begun, PPSPP_HANDSHAKE, 1, PPSPP_OPTIONS_FIXED, 0, root,
                   sizeof root, &len);
-        answer = ppspp_store_take(store, 0, 0, datagram, len, &len);
+        answer = ppspp_store_take(store, 0, 0, datagram, len, &len, &node);
     }
     if (answer == PPSPP_DONE) {
         ppspp_add(datagram, sizeof datagram, addressing, begun, PPSPP_HANDSHAKE, 0, PPSPP_OPTIONS_END, 0, root, 0,
                   &len);
-        answer = ppspp_store_take(store, 0, 0, datagram, len, &len);
+        answer = ppspp_store_take(store, 0, 0, datagram, len, &len, &node);
     }
     return answer;
 }

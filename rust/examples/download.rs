@@ -4,7 +4,10 @@
 //!
 //! Run it with `cargo run --example download`.
 
-use ppspp::{destination, messages, Addressing, Composer, Held, Message, Order, Refusal, Store};
+use ppspp::{
+    destination, messages, Addressing, Composer, Held, Message, Node, Order, Refusal, Refused,
+    Store,
+};
 
 /// The van's channel, and the server's for it.
 const VAN: u32 = 17;
@@ -13,7 +16,7 @@ const SERVER: u32 = 5;
 /// The bytes of the pack: four whole chunks, and one of 404 bytes.
 const LENGTH: u32 = 4_500;
 
-fn main() -> Result<(), Refusal> {
+fn main() -> Result<(), Refused> {
     let content: Vec<u8> = (0..=250).cycle().take(LENGTH as usize).collect();
     println!("A server that names chunks by ranges.");
     let by_ranges = download(Addressing::Ranges, &content)?;
@@ -25,7 +28,7 @@ fn main() -> Result<(), Refusal> {
 }
 
 /// The van that has downloaded the pack, from a server under an addressing.
-fn download(addressing: Addressing, content: &[u8]) -> Result<Store, Refusal> {
+fn download(addressing: Addressing, content: &[u8]) -> Result<Store, Refused> {
     let to_build = Order::to_build(LENGTH).addressing(addressing);
     let mut server = Store::build(to_build, content)?;
     let order = server.order().expect("a built store has an order");
@@ -51,7 +54,7 @@ fn download(addressing: Addressing, content: &[u8]) -> Result<Store, Refusal> {
 }
 
 /// The van calls and the server answers: a channel is open between them.
-fn exchange_handshakes(van: &mut Store, server: &mut Store, order: &Order) -> Result<(), Refusal> {
+fn exchange_handshakes(van: &mut Store, server: &mut Store, order: &Order) -> Result<(), Refused> {
     let calling = van.open(VAN)?;
     show("van", "server", order, calling);
     // Behind the root, option 6 is the addressing: 06 00 for bins, 06 02 for ranges.
@@ -66,7 +69,7 @@ fn exchange_handshakes(van: &mut Store, server: &mut Store, order: &Order) -> Re
 }
 
 /// The server says what it has, and the van asks for it.
-fn ask_for_all(van: &mut Store, server: &mut Store, order: &Order) -> Result<(), Refusal> {
+fn ask_for_all(van: &mut Store, server: &mut Store, order: &Order) -> Result<(), Refused> {
     let n = order.chunk_count();
     let last = match van.addressing() {
         // No bin is over 0..4 alone. That over 0..7 means its part inside the pack.
@@ -88,11 +91,11 @@ fn ask_for_all(van: &mut Store, server: &mut Store, order: &Order) -> Result<(),
 struct Forged {
     what: &'static str,
     datagram: Vec<u8>,
-    wanted: Refusal,
+    wanted: Refused,
 }
 
 /// What the liar sends, most of it made of a datagram of the server.
-fn forgeries(written: &[u8], order: &Order) -> Result<[Forged; 6], Refusal> {
+fn forgeries(written: &[u8], order: &Order) -> Result<[Forged; 7], Refusal> {
     let flipped = |place: usize| {
         let mut datagram = written.to_vec();
         datagram[place] ^= 1;
@@ -103,7 +106,8 @@ fn forgeries(written: &[u8], order: &Order) -> Result<[Forged; 6], Refusal> {
         datagram,
         wanted,
     };
-    // The first hash stands behind the destination, a type, and a bin or a range.
+    // The first hash stands behind the destination, a type, and a bin or a range. It is that of the peak over 0..3, which
+    // is node 3; the root is node 7.
     let hash = match order.known_addressing() {
         Some(Addressing::Bins) => 4 + 1 + 4,
         _ => 4 + 1 + 8,
@@ -111,11 +115,15 @@ fn forgeries(written: &[u8], order: &Order) -> Result<[Forged; 6], Refusal> {
     let last = written.len() - 1;
     let garbage = vec![0, 0, 0, 17, 0xfe, 0xed, 0xfa, 0xce];
     let (cut, shorter) = (written[..60].to_vec(), written[..last].to_vec());
-    let (mismatch, malformed) = (Refusal::HashMismatch, Refusal::Malformed);
-    let (size, range) = (Refusal::ChunkSize, Refusal::Range);
+    let node = |number| Node::of(number).expect("a node of the tree");
+    let (missed, no_root) = (Refused::mismatch(node(3)), Refused::mismatch(node(7)));
+    let (missing, malformed) = (Refused::missing(node(3)), Refusal::Malformed.into());
+    let (size, range) = (Refusal::ChunkSize.into(), Refusal::Range.into());
+    let without = [&written[..4], &written[hash + 32..]].concat();
     Ok([
-        of("a byte of the chunk is flipped", mismatch, flipped(last)),
-        of("a hash is another", mismatch, flipped(hash)),
+        of("a byte of the chunk is flipped", missed, flipped(last)),
+        of("a peak is another", no_root, flipped(hash)),
+        of("a peak is left out", missing, without),
         of("it is cut short in a hash", malformed, cut),
         of("it is garbage", malformed, garbage),
         of("the chunk lacks a byte", size, shorter),
@@ -149,7 +157,7 @@ fn send_chunk(
     server: &mut Store,
     order: &Order,
     chunk: u32,
-) -> Result<(), Refusal> {
+) -> Result<(), Refused> {
     println!("\nChunk {chunk}.");
     let datagram = server.write(SERVER, chunk, 2_000)?;
     show("server", "van", order, datagram);
@@ -188,10 +196,13 @@ fn show(from: &str, to: &str, order: &Order, datagram: &[u8]) {
 }
 
 /// Says what the answer was.
-fn answered(who: &str, answer: Result<&[u8], Refusal>) {
+fn answered(who: &str, answer: Result<&[u8], Refused>) {
     match answer {
         Ok([]) => println!("{who}: done"),
         Ok(reply) => println!("{who}: done, and replies with {} bytes", reply.len()),
-        Err(refusal) => println!("{who}: refused with {}, {refusal}", refusal.number()),
+        Err(refused) => {
+            let number = refused.refusal().number();
+            println!("{who}: refused with {number}, {refused}")
+        }
     }
 }

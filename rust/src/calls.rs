@@ -4,11 +4,12 @@
 //! Each call gives back a number of the header's `enum ppspp_answer`, and any numbers and bytes get one.
 //!
 //! ```
-//! use ppspp::{calls, Lend, Order, OwnedRooms};
+//! use ppspp::{calls, sys, Lend, Order, OwnedRooms};
 //! let mut rooms = OwnedRooms::for_length(1_500);
 //! assert_eq!(calls::build(rooms.lend(), &Order::to_build(1_500), &[7; 1_500]), 0);
 //! assert_eq!(calls::open(rooms.lend(), 17), (0, 60));
 //! assert_eq!(calls::open(rooms.lend(), 17), (14, 0));
+//! assert_eq!(calls::take(rooms.lend(), 0, 0, b"any"), (1, 0, sys::PPSPP_NO_NODE));
 //! assert_eq!(calls::ask(rooms.view().state, rooms.view().map), (0, 2, 1));
 //! ```
 
@@ -25,8 +26,15 @@ use crate::sys;
 /// A number given back, and the length of the reply or of the datagram so far, 0 after a refusal.
 pub type Answered = (u32, usize);
 
+/// The same of taking in, and the number of the node that 9 or 10 names; with any other number
+/// [`PPSPP_NO_NODE`](sys::PPSPP_NO_NODE).
+pub type Taken = (u32, usize, u64);
+
 /// What stands where a call is to write a length, until it does. No reply is so long: a call that wrote none would show.
 const NO_LENGTH: usize = usize::MAX;
+
+/// The same for a node. No tree has it, and it is not [`PPSPP_NO_NODE`](sys::PPSPP_NO_NODE).
+const NOT_WRITTEN: u64 = u64::MAX - 1;
 
 /// The chunks of a pack of a length.
 pub(crate) fn chunk_count(length: u32) -> u32 {
@@ -101,11 +109,11 @@ pub fn open(rooms: Rooms<'_>, id: u32) -> Answered {
 }
 
 /// Takes in a datagram at a clock in microseconds; the ID is for a channel that it may open.
-pub fn take(rooms: Rooms<'_>, clock: u64, id: u32, datagram: &[u8]) -> Answered {
-    let mut len = NO_LENGTH;
+pub fn take(rooms: Rooms<'_>, clock: u64, id: u32, datagram: &[u8]) -> Taken {
+    let (mut len, mut node) = (NO_LENGTH, NOT_WRITTEN);
     let (bytes, count) = (datagram.as_ptr(), datagram.len());
-    let number = on_rooms!(ppspp_take, rooms, clock, id, bytes, count, &mut len);
-    (number, len)
+    let number = on_rooms!(ppspp_take, rooms, clock, id, bytes, count, &mut len, &mut node);
+    (number, len, node)
 }
 
 /// Writes the datagram of a chunk, with its hashes, for the channel open under an ID; the clock is its timestamp.

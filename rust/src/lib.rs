@@ -4,12 +4,13 @@
 //! It lives in eight rooms, which are allocated ([`OwnedRooms`]) or lent ([`Rooms`]). Datagrams come in with
 //! [`take`](Store::take), and chunks go out with [`write`](Store::write); a chunk is stored only if it leads, with the
 //! hashes that came, to the ordered root. Each call takes any numbers and any bytes, and is done or refused for a
-//! [`Refusal`], which leaves every room as it was. Sockets, clocks and the choice of chunks are the caller's.
+//! [`Refusal`], which leaves every room as it was; a datagram that was not taken in is [`Refused`], which also has the
+//! [`Node`] of the tree whose hash is missing or was missed. Sockets, clocks and the choice of chunks are the caller's.
 //!
 //! A van downloads a pack of two chunks from the server:
 //!
 //! ```
-//! use ppspp::{Held, Order, Refusal, Store};
+//! use ppspp::{Held, Order, Refusal, Refused, Store};
 //!
 //! // The server has the pack, and with it the order.
 //! let content = [7; 1500];
@@ -38,8 +39,8 @@
 //! assert_eq!(van.bytes(), content);
 //!
 //! // Anyone can transmit. What is refused changes nothing.
-//! assert_eq!(van.take(2_000, 0, b"anything"), Err(Refusal::Malformed));
-//! # Ok::<(), Refusal>(())
+//! assert_eq!(van.take(2_000, 0, b"anything"), Err(Refusal::Malformed.into()));
+//! # Ok::<(), Refused>(())
 //! ```
 //!
 //! [`calls`] has the same calls with the library's own numbers, and [`sys`] the C interface itself.
@@ -61,12 +62,14 @@ mod display;
 mod look;
 mod message;
 mod naming;
+mod node;
 mod numbers;
 mod order;
 #[cfg(feature = "alloc")]
 mod owned;
 mod reading;
 mod refusal;
+mod refused;
 mod rooms;
 pub mod sizes;
 mod store;
@@ -77,11 +80,13 @@ pub use composer::Composer;
 pub use display::InWords;
 pub use message::{EmptyKind, Message, Options};
 pub use naming::Bin;
+pub use node::Node;
 pub use order::{Addressing, Held, Order};
 #[cfg(feature = "alloc")]
 pub use owned::OwnedRooms;
 pub use reading::{destination, messages, Malformed, Messages};
 pub use refusal::Refusal;
+pub use refused::Refused;
 pub use rooms::{Lend, Rooms, View};
 pub use store::Store;
 pub use table::{Channel, Phase};

@@ -1,9 +1,9 @@
 //! Bins: what messages name chunks by under [`Addressing::Bins`](crate::Addressing::Bins).
 
+use crate::node::Node;
 use core::fmt;
 
-/// A bin: a node of the tree, by its number. Chunk i is bin 2i, and a bin is halfway between its first chunk's and its
-/// last chunk's.
+/// A bin: the number of a [`Node`], by which messages name its chunks, or the empty one.
 ///
 /// ```
 /// use ppspp::Bin;
@@ -24,18 +24,14 @@ impl Bin {
 
     /// The bin over the chunks from a first to a last one, if there is one.
     pub fn over(first: u32, last: u32) -> Option<Bin> {
-        let count = last.checked_sub(first)?.checked_add(1)?;
-        let is_node = count.is_power_of_two() && first.is_multiple_of(count);
-        let number = first.checked_add(last).filter(|_| is_node);
-        number.map(Bin)
+        let number = u32::try_from(Node::over(first, last)?.number()).ok()?;
+        Some(Bin(number)).filter(|&bin| bin != Bin::EMPTY)
     }
 
     /// The first and the last chunk under it; none of the empty one.
     pub fn chunks(self) -> Option<(u32, u32)> {
-        // As many as two to the number of ones at the low end, less one.
-        let behind_first = 1u32.checked_shl(self.0.trailing_ones())? - 1;
-        let first = (self.0 - behind_first) / 2;
-        Some((first, first + behind_first))
+        let node = Node::of(self.0.into()).filter(|_| self != Bin::EMPTY)?;
+        Some((node.first(), node.last()))
     }
 
     /// The same in words, those of its chunks alone that a pack of n chunks has; all of one that begins past the pack.

@@ -1,11 +1,12 @@
 //! A store and the calls on it.
 
-use crate::calls::{self, Answered};
+use crate::calls;
 use crate::composer::Composer;
 use crate::order::{Held, Order};
 #[cfg(feature = "alloc")]
 use crate::owned::OwnedRooms;
 use crate::refusal::Refusal;
+use crate::refused::Refused;
 use crate::rooms::{Lend, View};
 use crate::sizes;
 use crate::table::{Channel, Phase};
@@ -92,8 +93,9 @@ impl<R: Lend> Store<R> {
     ///
     /// It calls until its peer answers; [`close`](Store::close) frees the row of one that is never answered.
     pub fn open(&mut self, id: u32) -> Result<&[u8], Refusal> {
-        let answered = calls::open(self.rooms.lend(), id);
-        self.reply(answered)
+        let (number, len) = calls::open(self.rooms.lend(), id);
+        Refusal::check(number)?;
+        Ok(self.reply(len))
     }
 
     /// Takes in a datagram. Gives the reply: an ACK for a chunk that is stored, or was held and is the same, our
@@ -106,16 +108,20 @@ impl<R: Lend> Store<R> {
     /// channel that the datagram may open, and is looked at only then. If it had no row before,
     /// [`channel`](Store::channel) tells afterwards whether it was used. IDs that are hard to guess keep strangers from
     /// naming them.
-    pub fn take(&mut self, clock: u64, id: u32, datagram: &[u8]) -> Result<&[u8], Refusal> {
-        let answered = calls::take(self.rooms.lend(), clock, id, datagram);
-        self.reply(answered)
+    ///
+    /// Of a chunk that its hashes do not prove, [`Refused`] has the node whose hash is missing or was missed.
+    pub fn take(&mut self, clock: u64, id: u32, datagram: &[u8]) -> Result<&[u8], Refused> {
+        let (number, len, node) = calls::take(self.rooms.lend(), clock, id, datagram);
+        Refused::check(number, node)?;
+        Ok(self.reply(len))
     }
 
     /// Writes the datagram of one chunk, with all hashes that a new peer needs, for the channel open under an ID; the
     /// clock is its timestamp.
     pub fn write(&mut self, id: u32, chunk: u32, clock: u64) -> Result<&[u8], Refusal> {
-        let answered = calls::write(self.rooms.lend(), id, chunk, clock);
-        self.reply(answered)
+        let (number, len) = calls::write(self.rooms.lend(), id, chunk, clock);
+        Refusal::check(number)?;
+        Ok(self.reply(len))
     }
 
     /// Frees the row of an ID of ours, open or calling; an ID without a row is [`Refusal::NoChannel`]. The peer is not
@@ -135,17 +141,16 @@ impl<R: Lend> Store<R> {
         let addressing = self.addressing();
         // A keepalive changes nothing, and is refused where there is no row.
         let keepalive = Composer::begin(&mut room, addressing, id)?;
-        self.take(0, 0, keepalive.finish())?;
+        self.take_own(keepalive.finish())?;
         // A calling row is opened first, by a HANDSHAKE as its peer would send it.
         let calling = |channel: &Channel| channel.phase == Phase::Calling;
         if let (Some(_), Some(order)) = (self.channel(id).filter(calling), self.order()) {
             let opening = Composer::begin(&mut room, addressing, id)?;
             let opening = opening.handshake(1, &order.root)?;
-            self.take(0, 0, opening.finish())?;
+            self.take_own(opening.finish())?;
         }
         let closing = Composer::begin(&mut room, addressing, id)?.close()?;
-        self.take(0, 0, closing.finish())?;
-        Ok(())
+        self.take_own(closing.finish())
     }
 
     /// How many chunks are held, and whether that is all of them.
@@ -175,9 +180,14 @@ impl<R: Lend> Store<R> {
         self.rooms
     }
 
-    /// The reply in its room, if the call was done.
-    fn reply(&self, (number, len): Answered) -> Result<&[u8], Refusal> {
-        Refusal::check(number)?;
-        Ok(&self.rooms.view().reply[..len])
+    /// Takes in a datagram of ours. It has no chunk, so that a refusal has no node.
+    fn take_own(&mut self, datagram: &[u8]) -> Result<(), Refusal> {
+        let taken = self.take(0, 0, datagram);
+        taken.map(|_| ()).map_err(Refused::refusal)
+    }
+
+    /// The reply of a length, in its room.
+    fn reply(&self, len: usize) -> &[u8] {
+        &self.rooms.view().reply[..len]
     }
 }

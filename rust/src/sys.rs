@@ -106,7 +106,8 @@ extern "C" {
         reply_len: *mut usize,
     ) -> u32;
 
-    /// Takes in a datagram at a clock; the ID is for a channel that the datagram may open.
+    /// Takes in a datagram at a clock; the ID is for a channel that the datagram may open. With 9 and 10 `*node` gets a
+    /// node's number, else [`PPSPP_NO_NODE`].
     pub fn ppspp_take(
         state: *mut u32,
         state_n: usize,
@@ -129,6 +130,7 @@ extern "C" {
         datagram: *const u8,
         datagram_n: usize,
         reply_len: *mut usize,
+        node: *mut u64,
     ) -> u32;
 
     /// Writes the datagram of one chunk, with all hashes that a new peer needs, for the channel open under an ID.

@@ -2,7 +2,7 @@
 //! 2..3 and 4..5, 3 over 0..3, 11 over 4..7, 7 over 0..7 and 13 over 6..7; 14 is chunk 7, and 23 over 8..15.
 
 use crate::support::{built, bytes, content, Pair, BINS, SERVER, SEVEN, VAN};
-use ppspp::{Refusal, Store};
+use ppspp::{Refusal, Refused, Store};
 
 /// The refusals of these tests.
 const MALFORMED: Refusal = Refusal::Malformed;
@@ -14,7 +14,7 @@ fn server() -> Store {
 }
 
 /// The server takes in a datagram to its channel, and has no reply.
-fn take(server: &mut Store, digits: &str) -> Result<(), Refusal> {
+fn take(server: &mut Store, digits: &str) -> Result<(), Refused> {
     let datagram = bytes(&format!("{SERVER:08x} {digits}"));
     let reply = server.take(0, 0, &datagram)?;
     assert_eq!(reply, [], "{digits}");
@@ -25,7 +25,7 @@ fn take(server: &mut Store, digits: &str) -> Result<(), Refusal> {
 fn refused(digits: &str, wanted: Refusal) {
     let mut server = server();
     let before = server.clone();
-    assert_eq!(take(&mut server, digits), Err(wanted), "{digits}");
+    assert_eq!(take(&mut server, digits), Err(wanted.into()), "{digits}");
     assert_eq!(server, before, "{digits}");
 }
 
@@ -125,9 +125,9 @@ fn empty_one_is_a_message_all_the_same() {
                 .take(0, 0, &bytes(&format!("{id} {kind} ffffffff")))
                 .err()
         };
-        assert_eq!(to("00000012"), Some(Refusal::Unexpected));
-        assert_eq!(to("00000063"), Some(Refusal::NoChannel));
-        assert_eq!(to("00000000"), Some(Refusal::NoChannel));
+        assert_eq!(to("00000012"), Some(Refusal::Unexpected.into()));
+        assert_eq!(to("00000063"), Some(Refusal::NoChannel.into()));
+        assert_eq!(to("00000000"), Some(Refusal::NoChannel.into()));
         refused(
             &format!("{kind} ffffffff 00 00000000 ff"),
             Refusal::Unexpected,
@@ -135,7 +135,7 @@ fn empty_one_is_a_message_all_the_same() {
     }
     // The layout is read before the destination is looked for.
     let ack = bytes("00000063 02 ffffffff 0000000000000000");
-    assert_eq!(server.take(0, 0, &ack).err(), Some(MALFORMED));
+    assert_eq!(server.take(0, 0, &ack).err(), Some(MALFORMED.into()));
 }
 
 #[test]
@@ -166,9 +166,9 @@ fn fifty_five_hashes_fit() {
     assert_eq!(bytes(&hashes).len() + 4, 2_039);
     let mut server = Pair::under(BINS, 64 * 1_024).server;
     assert_eq!(take(&mut server, &hashes), Ok(()));
-    assert_eq!(take(&mut server, &leaves(56)), Err(Refusal::Size));
+    assert_eq!(take(&mut server, &leaves(56)), Err(Refusal::Size.into()));
     let again = leaves(54) + "04 00000000 07*32";
-    assert_eq!(take(&mut server, &again), Err(MALFORMED));
+    assert_eq!(take(&mut server, &again), Err(MALFORMED.into()));
 }
 
 #[test]

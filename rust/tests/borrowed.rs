@@ -2,7 +2,7 @@
 
 use crate::support::{any_order, built, content, RANGES, SEVEN};
 use ppspp::sizes::{self, fixed};
-use ppspp::{Held, Lend, Order, OwnedRooms, Refusal, Rooms, Store, View};
+use ppspp::{Held, Lend, Order, OwnedRooms, Refusal, Refused, Rooms, Store, View};
 
 /// Rooms for seven chunks, without an allocator. The trusted bits are 2 for each of 8 leaf places.
 struct Fixed {
@@ -106,7 +106,8 @@ fn rooms_that_shrink_between_calls_are_answered() {
         let mut store = Store::resume(shortened(there.rooms(), which));
         let room = Some(Refusal::Room);
         assert_eq!(store.open(2).err(), room, "room {which}");
-        assert_eq!(store.take(0, 2, &[0; 4]).err(), room, "room {which}");
+        let taken = store.take(0, 2, &[0; 4]).err();
+        assert_eq!(taken, room.map(Refused::from), "room {which}");
         assert_eq!(store.write(1, 0, 0).err(), room, "room {which}");
         let composed = store.compose(1).err();
         assert_eq!(composed, room.filter(|_| which == 7), "room {which}");

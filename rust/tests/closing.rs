@@ -17,7 +17,8 @@ fn calls_that_nobody_answers_are_closed() {
     assert_eq!(store.open(17).err(), Some(Refusal::ChannelsFull));
     // A closing HANDSHAKE alone does not free a calling row.
     let closing = bytes("00000003 00 00000000 ff");
-    assert_eq!(store.take(0, 0, &closing).err(), Some(Refusal::Unexpected));
+    let taken = store.take(0, 0, &closing);
+    assert_eq!(taken, Err(Refusal::Unexpected.into()));
     assert_eq!(store.close(3), Ok(()));
     assert_eq!(store.channel(3), None);
     store.open(17).expect("the freed row");

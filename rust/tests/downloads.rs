@@ -1,7 +1,7 @@
 //! Whole downloads.
 
-use crate::support::{built, content, Pair, BINS, RANGES, SERVER};
-use ppspp::{sizes, Addressing, Held, Message, Order, Refusal, Store};
+use crate::support::{built, content, node, Pair, BINS, RANGES, SERVER};
+use ppspp::{sizes, Addressing, Held, Message, Order, Refused, Store};
 use second::store::Store as Second;
 
 /// Downloads a pack of a length, its chunks in some order, each with the first and the last chunk that its ACK names.
@@ -87,7 +87,8 @@ fn chunk_that_is_held_is_checked_again() {
     pair.van.take(0, 0, &datagram).expect("a true chunk");
     let mut garbled = datagram.clone();
     *garbled.last_mut().expect("a chunk") ^= 1;
-    assert_eq!(pair.van.take(0, 0, &garbled), Err(Refusal::HashMismatch));
+    let leaf = Refused::mismatch(node(6));
+    assert_eq!(pair.van.take(0, 0, &garbled), Err(leaf));
     assert!(pair.van.take(9, 0, &datagram).is_ok());
     assert_eq!(pair.van.ask().map(|held| held.count), Ok(1));
 }

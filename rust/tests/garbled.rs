@@ -14,8 +14,9 @@ fn with_state(store: Store, change: impl FnOnce(&mut [u32])) -> Store {
 /// Every call but starting and building must be refused so.
 fn all_refused(mut store: Store, wanted: Refusal) {
     assert_eq!(store.open(1).err(), Some(wanted));
-    assert_eq!(store.take(0, 1, &bytes("00000011")).err(), Some(wanted));
-    assert_eq!(store.take(0, 1, b"abc").err(), Some(wanted));
+    for datagram in [&bytes("00000011")[..], b"abc"] {
+        assert_eq!(store.take(0, 1, datagram), Err(wanted.into()));
+    }
     assert_eq!(store.write(VAN, 0, 0).err(), Some(wanted));
     assert_eq!(store.ask().err(), Some(wanted));
     assert_eq!(store.order(), None);
@@ -67,8 +68,8 @@ fn phase_of_no_name_is_free() {
         let mut van = with_state(Pair::new(SEVEN).van, |state| state[at] = phase);
         assert_eq!(van.channel(VAN), None);
         assert_eq!(
-            van.take(0, 1, &bytes("00000011")).err(),
-            Some(Refusal::NoChannel)
+            van.take(0, 1, &bytes("00000011")),
+            Err(Refusal::NoChannel.into())
         );
     }
 }

@@ -69,8 +69,10 @@ fn constants_are_those_of_the_header() {
     wanted.retain(|name, _| !is_refusal(name));
     assert_eq!(before - wanted.len(), 14);
     assert_eq!(sys_numbers(), wanted);
-    // The one constant that the header gives by another one.
+    // The two constants that the header gives by another one.
     assert!(HEADER.contains("#define PPSPP_REPLY_BYTES PPSPP_MAX_DATAGRAM "));
+    assert!(HEADER.contains("#define PPSPP_NO_NODE UINT64_MAX\n"));
+    assert_eq!(ppspp::sys::PPSPP_NO_NODE, u64::MAX);
 }
 
 #[test]

@@ -13,6 +13,7 @@ mod garbled;
 mod header;
 mod looking;
 mod methods;
+mod nodes;
 mod reading;
 mod refusals;
 mod sizes;

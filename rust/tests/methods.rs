@@ -2,7 +2,9 @@
 //! under each.
 
 use crate::support::{any_order, built, bytes, content, Pair, BINS, RANGES, SERVER, SEVEN, VAN};
-use ppspp::{calls, messages, Addressing, Held, Lend, Message, Order, OwnedRooms, Refusal, Store};
+use ppspp::{
+    calls, messages, Addressing, Held, Lend, Message, Order, OwnedRooms, Refusal, Refused, Store,
+};
 
 /// Numbers that no addressing has.
 const NO_METHODS: [u32; 6] = [1, 3, 4, 256, 258, u32::MAX];
@@ -129,7 +131,7 @@ fn option_6_of_the_other_method_is_refused() {
         let own = handshake(0, 9, addressing.number());
         store.take(0, SERVER, &own).expect("the order's HANDSHAKE");
         let before = store.clone();
-        let mut answer = |datagram: &[u8]| store.take(0, 99, datagram).err();
+        let mut answer = |datagram: &[u8]| store.take(0, 99, datagram).err().map(Refused::refusal);
         // To channel 0, to the calling row, and again to the open one.
         assert_eq!(answer(&handshake(0, 8, other)), Some(Refusal::Options));
         assert_eq!(answer(&handshake(VAN, 8, other)), Some(Refusal::Options));

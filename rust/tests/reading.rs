@@ -1,7 +1,7 @@
 //! Reading datagrams: the hand-made ones of `tests/wire/`, whose numbers were worked out on paper.
 
 use crate::support::{any_order, bytes, BINS, RANGES, SEVEN};
-use ppspp::{destination, messages, Addressing, Malformed, Message, Options, Refusal, Store};
+use ppspp::{destination, messages, Addressing, Malformed, Message, Options, Store};
 use second::by_hand::{parse, HandMade};
 use std::collections::HashSet;
 
@@ -69,7 +69,8 @@ fn store_answers_hand_made_datagrams_with_their_numbers() {
         seen[usize::from(addressing == BINS)][usize::from(number)] += 1;
         let order = any_order(SEVEN).addressing(addressing);
         let mut store = Store::start(order).expect("a pack's length");
-        let answer = store.take(0, 1, &made.datagram).map_err(Refusal::number);
+        let answer = store.take(0, 1, &made.datagram);
+        let answer = answer.map_err(|refused| refused.refusal().number());
         match number {
             0 => assert!(!matches!(answer, Err(1..=3)), "{addressing:?}, line {line}"),
             _ => assert_eq!(answer, Err(number.into()), "{addressing:?}, line {line}"),

@@ -1,24 +1,26 @@
 //! Every number, given once by a case made by hand; each refusal leaves every room as it was.
 
-use crate::support::{any_order, bytes, content, Pair, RANGES, SERVER, SEVEN, VAN};
-use ppspp::{Lend, Order, OwnedRooms, Refusal, Store};
+use crate::support::{any_order, bytes, content, node, Pair, RANGES, SERVER, SEVEN, VAN};
+use ppspp::{Lend, Order, OwnedRooms, Refusal, Refused, Store};
 
 /// A call must be refused so, and must leave every room as it was.
-fn refused<R, T>(
+fn refused<R, T, E>(
     store: &mut Store<R>,
-    call: impl FnOnce(&mut Store<R>) -> Result<T, Refusal>,
-    wanted: Refusal,
+    call: impl FnOnce(&mut Store<R>) -> Result<T, E>,
+    wanted: E,
 ) where
     R: Lend + Clone + PartialEq + std::fmt::Debug,
+    E: PartialEq + std::fmt::Debug,
 {
     let before = store.clone();
-    assert_eq!(call(store).err(), Some(wanted));
+    assert_eq!(call(store).err().as_ref(), Some(&wanted));
     assert_eq!(*store, before, "{wanted:?}");
 }
 
 /// Taking in a datagram must be refused so. The ID is free.
-fn take_refused(store: &mut Store, datagram: &[u8], wanted: Refusal) {
-    refused(store, |s| s.take(0, 99, datagram).map(<[u8]>::len), wanted);
+fn take_refused(store: &mut Store, datagram: &[u8], wanted: impl Into<Refused>) {
+    let take = |s: &mut Store| s.take(0, 99, datagram).map(<[u8]>::len);
+    refused(store, take, wanted.into());
 }
 
 /// The same for hexadecimal digits.
@@ -128,18 +130,18 @@ fn hash_missing() {
     let chunk = &content(SEVEN)[..1_024];
     let data = ppspp::Composer::begin(&mut room, RANGES, VAN).and_then(|c| c.data(0, 0, chunk));
     let datagram = data.expect("DATA fits").finish();
-    take_refused(&mut pair.van, datagram, Refusal::HashMissing);
+    take_refused(&mut pair.van, datagram, Refused::missing(node(3)));
 }
 
 #[test]
 fn hash_mismatch() {
     let mut pair = Pair::new(SEVEN);
     let datagram = pair.written(0, 0);
-    // A byte of the chunk; then a byte of the first hash, which stands behind destination, type and range.
-    for place in [datagram.len() - 1, 4 + 1 + 8] {
+    // A byte of the chunk; then a byte of the first hash, a peak's, which stands behind destination, type and range.
+    for (place, missed) in [(datagram.len() - 1, 3), (4 + 1 + 8, 7)] {
         let mut garbled = datagram.clone();
         garbled[place] ^= 1;
-        take_refused(&mut pair.van, &garbled, Refusal::HashMismatch);
+        take_refused(&mut pair.van, &garbled, Refused::mismatch(node(missed)));
     }
     assert!(pair.van.take(0, 0, &datagram).is_ok());
 }
@@ -206,6 +208,6 @@ fn id() {
     refused(
         &mut server,
         |s| s.take(0, SERVER, calling).map(<[u8]>::len),
-        Refusal::Id,
+        Refusal::Id.into(),
     );
 }

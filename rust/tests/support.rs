@@ -1,6 +1,6 @@
 //! Packs, and stores that share a channel.
 
-use ppspp::{Addressing, Order, Store};
+use ppspp::{Addressing, Node, Order, Store};
 use second::by_hand;
 
 /// The van's channel, and the server's for it.
@@ -23,6 +23,11 @@ pub fn content(length: u32) -> Vec<u8> {
 pub fn bytes(text: &str) -> Vec<u8> {
     let line = format!("0 {text} # by hand");
     by_hand::parse(&line).expect(text).remove(0).datagram
+}
+
+/// The node of a number.
+pub fn node(number: u64) -> Node {
+    Node::of(number).expect("a node's number")
 }
 
 /// An order that no content is known for, under ranges.

@@ -1,14 +1,14 @@
 //! The worked values of 01 for a pack of seven chunks.
 
 use crate::support::{content, Pair, RANGES, SEVEN, VAN};
-use ppspp::{messages, Composer, Message, Refusal, Store};
+use ppspp::{messages, Composer, Message, Node, Refusal, Refused, Store};
 use second::sha256::{node, sha256};
 
 /// A node's range and hash.
-type Node = ((u32, u32), [u8; 32]);
+type Hashed = ((u32, u32), [u8; 32]);
 
 /// The hashes of a chunk's datagram.
-fn hashes(datagram: &[u8]) -> Vec<Node> {
+fn hashes(datagram: &[u8]) -> Vec<Hashed> {
     let sound = messages(RANGES, datagram).map(|found| found.expect("sound").1);
     sound
         .filter_map(|message| match message {
@@ -20,8 +20,13 @@ fn hashes(datagram: &[u8]) -> Vec<Node> {
         .collect()
 }
 
+/// That the hash of a range's node is missing.
+fn missing((first, last): (u32, u32)) -> Refused {
+    Refused::missing(Node::over(first, last).expect("a node's range"))
+}
+
 /// The van takes a chunk with these hashes.
-fn take_with(van: &mut Store, chunk: u32, nodes: &[Node]) -> Result<(), Refusal> {
+fn take_with(van: &mut Store, chunk: u32, nodes: &[Hashed]) -> Result<(), Refused> {
     let mut room = [0; 2_048];
     let mut composer = Composer::begin(&mut room, RANGES, VAN)?;
     for ((first, last), hash) in nodes {
@@ -93,13 +98,9 @@ fn least_hashes_of_chunks_in_order() {
         assert_eq!(nodes.len(), needed.len());
         for left_out in 0..nodes.len() {
             let mut fewer = nodes.clone();
-            fewer.remove(left_out);
+            let (range, _) = fewer.remove(left_out);
             let taken = take_with(&mut pair.van, chunk, &fewer);
-            assert_eq!(
-                taken,
-                Err(Refusal::HashMissing),
-                "chunk {chunk} without {left_out}"
-            );
+            assert_eq!(taken, Err(missing(range)), "chunk {chunk}");
         }
         assert_eq!(
             take_with(&mut pair.van, chunk, &nodes),
@@ -114,7 +115,8 @@ fn least_hashes_of_chunks_in_order() {
 fn lone_peak_equal_to_the_root_proves_no_eighth_chunk() {
     let mut pair = Pair::new(SEVEN);
     let root = ((0, 7), pair.order.root);
-    assert_eq!(take_with(&mut pair.van, 0, &[root]), Err(Refusal::Range));
+    let taken = take_with(&mut pair.van, 0, &[root]);
+    assert_eq!(taken, Err(Refusal::Range.into()));
     assert_eq!(pair.van.ask().map(|held| held.count), Ok(0));
 }
 
@@ -124,13 +126,12 @@ fn peaks_of_a_refused_chunk_are_not_kept() {
     let mut garbled = pair.written(0, 0);
     let nodes = hashes(&garbled);
     *garbled.last_mut().expect("a chunk") ^= 1;
-    assert_eq!(pair.van.take(0, 0, &garbled), Err(Refusal::HashMismatch));
+    let refused = pair.van.take(0, 0, &garbled).map_err(Refused::refusal);
+    assert_eq!(refused, Err(Refusal::HashMismatch));
     // Without the peaks 0..3, 4..5 and 6..6, which came with the refused chunk.
     let siblings = [nodes[1], nodes[3]];
-    assert_eq!(
-        take_with(&mut pair.van, 0, &siblings),
-        Err(Refusal::HashMissing)
-    );
+    let taken = take_with(&mut pair.van, 0, &siblings);
+    assert_eq!(taken, Err(missing((0, 3))));
 }
 
 #[test]

@@ -1,7 +1,8 @@
-//! Refusals and messages in words.
+//! Refusals, nodes, bins and messages in words.
 
-use crate::support::{any_order, BINS, RANGES, SEVEN};
-use ppspp::{Bin, EmptyKind, Malformed, Message, Options, Refusal, Store};
+use crate::support::{any_order, node, BINS, RANGES, SEVEN};
+use ppspp::sys::PPSPP_NO_NODE;
+use ppspp::{Bin, EmptyKind, Malformed, Message, Node, Options, Refusal, Refused, Store};
 
 #[test]
 fn refusals_have_the_numbers_of_01() {
@@ -41,6 +42,47 @@ fn refusals_are_told_apart_in_words() {
     assert_eq!(error.to_string(), words);
     let error: Box<dyn std::error::Error> = Malformed { place: 4 }.into();
     assert_eq!(error.to_string(), "no message can be read at byte 4");
+}
+
+#[test]
+fn refused_in_words() {
+    let tried = [
+        (
+            Refused::missing(node(9)),
+            "hash missing: node 9, chunks 4..5",
+        ),
+        (Refused::missing(node(2)), "hash missing: node 2, chunk 1"),
+        (
+            Refused::mismatch(node(3)),
+            "hash mismatch: node 3, chunks 0..3",
+        ),
+    ];
+    for (refused, words) in tried {
+        let error: Box<dyn std::error::Error> = refused.into();
+        assert_eq!(error.to_string(), words);
+    }
+    for refusal in Refusal::ALL {
+        let refused = Refused::from(refusal);
+        assert_eq!((refused.refusal(), refused.node()), (refusal, None));
+        assert_eq!(refused.to_string(), refusal.to_string());
+    }
+}
+
+#[test]
+fn number_and_node_become_a_result() {
+    assert_eq!(Refused::check(0, PPSPP_NO_NODE), Ok(()));
+    assert_eq!(Refused::check(9, 5), Err(Refused::missing(node(5))));
+    assert_eq!(Refused::check(10, 7), Err(Refused::mismatch(node(7))));
+    for refusal in Refusal::ALL {
+        let number = refusal.number();
+        assert_eq!(Refused::check(number, PPSPP_NO_NODE), Err(refusal.into()));
+        let named = [Refusal::HashMissing, Refusal::HashMismatch].contains(&refusal);
+        let refused = Refused::check(number, 5).expect_err("a refusal");
+        assert_eq!(
+            (refused.refusal(), refused.node().is_some()),
+            (refusal, named)
+        );
+    }
 }
 
 #[test]
@@ -96,6 +138,45 @@ fn handshakes_in_words() {
     }
     let closing = Message::CLOSING.to_string();
     assert_eq!(closing, "HANDSHAKE that closes the channel");
+}
+
+#[test]
+fn nodes_are_over_chunks() {
+    // 01's tried values, and the ends of what 32 bits name.
+    let max = u32::MAX;
+    let tried = [
+        (3, (0, 3), 2, "node 3, chunks 0..3"),
+        (9, (4, 5), 1, "node 9, chunks 4..5"),
+        (12, (6, 6), 0, "node 12, chunk 6"),
+        (11, (4, 7), 2, "node 11, chunks 4..7"),
+        (0, (0, 0), 0, "node 0, chunk 0"),
+        (511, (0, 511), 9, "node 511, chunks 0..511"),
+        (
+            0xffff_ffff,
+            (0, max),
+            32,
+            "node 4294967295, chunks 0..4294967295",
+        ),
+        (
+            0x1_ffff_fffe,
+            (max, max),
+            0,
+            "node 8589934590, chunk 4294967295",
+        ),
+    ];
+    for (number, (first, last), height, words) in tried {
+        let node = node(number);
+        assert_eq!((node.number(), node.height()), (number, height));
+        assert_eq!((node.first(), node.last()), (first, last));
+        assert_eq!(Node::over(first, last), Some(node));
+        assert_eq!(node.to_string(), words);
+    }
+    for number in [0x1_ffff_ffff, 0x2_0000_0000, u64::MAX - 1, PPSPP_NO_NODE] {
+        assert_eq!(Node::of(number), None, "{number}");
+    }
+    for (first, last) in [(0, 2), (1, 2), (5, 3), (2, 5), (1, max), (max, 0)] {
+        assert_eq!(Node::over(first, last), None, "{first}..{last}");
+    }
 }
 
 #[test]

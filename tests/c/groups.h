@@ -46,6 +46,12 @@ void group_ack_words(void);
 void group_ack_bins(void);
 void group_ack_past(void);
 
+/* nodes.c */
+void group_node_chunks(void);
+void group_nodes_missing(void);
+void group_nodes_missed(void);
+void group_nodes_small(void);
+
 /* numbers_reading.c: 1 to 7; numbers_storing.c: 8 to 14 */
 void group_numbers_reading(void);
 void group_numbers_storing(void);

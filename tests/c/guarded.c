@@ -60,6 +60,7 @@ void guarded_new(struct guarded *g, uint32_t length)
     }
     g->size = size;
     g->len = 0;
+    g->node = UNSET;
     g->block = bytes_or_exit(size);
     g->before = bytes_or_exit(size);
     for (size_t i = 0; i < size; i++) {
@@ -172,8 +173,12 @@ uint32_t guarded_open(struct guarded *g, uint32_t id)
 uint32_t guarded_take(struct guarded *g, uint64_t clock, uint32_t id, const uint8_t *datagram, size_t datagram_n)
 {
     size_t len = UNSET;
+    g->node = UNSET;
     keep(g);
-    const uint32_t answer = ppspp_store_take(&g->store, clock, id, datagram, datagram_n, &len);
+    const uint32_t answer = ppspp_store_take(&g->store, clock, id, datagram, datagram_n, &len, &g->node);
+    const uint32_t places = PPSPP_LEAF_PLACES(ppspp_store_chunk_count(&g->store));
+    const bool named = answer == PPSPP_HASH_MISSING || answer == PPSPP_HASH_MISMATCH;
+    CHECK(named ? g->node < 2 * places - 1 : g->node == PPSPP_NO_NODE);
     return settle(g, answer, len, ALL);
 }
 

@@ -2,7 +2,7 @@
  * A store in rooms of exactly the sizes that the header names, in one block with guard bytes before, between and behind
  * them. Each call here is one of the header's, and checks of it what holds of every call: the number is one of 01's; a
  * refusal gives the length 0 and leaves every byte; a room that the call takes as const, what stands behind the reply,
- * and every guard stay.
+ * and every guard stay; taking names a node, one of the order's tree, with 9 and 10, and with no other number.
  */
 #ifndef GUARDED_H
 #define GUARDED_H
@@ -19,6 +19,7 @@ struct guarded {
     size_t at[ROOMS];    /* where each room begins */
     size_t bytes[ROOMS]; /* how many bytes it has */
     size_t len;          /* the length that the last call gave */
+    uint64_t node;       /* the node that the last take gave */
 };
 
 /* Rooms for a length of 1 to 524,288, with anything in them; the chunk room has exactly that length. */

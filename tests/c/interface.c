@@ -66,6 +66,10 @@ static void run_values(void)
 {
     run_group("numbers 1 to 7", group_numbers_reading);
     run_group("numbers 8 to 14", group_numbers_storing);
+    run_group("chunks of a node", group_node_chunks);
+    run_group("nodes that 9 names", group_nodes_missing);
+    run_group("nodes that 10 names", group_nodes_missed);
+    run_group("nodes of one chunk and of two", group_nodes_small);
     run_group("roots of built packs", group_roots);
     run_group("each chunk of seven, as sent", group_sending);
     run_group("seven chunks taken in order, least hashes", group_download);

@@ -108,6 +108,28 @@ static void check_reply(const struct guarded *g, const struct packet *p)
     CHECK(g->len == 0 || g->store.reply[4] == PPSPP_HANDSHAKE);
 }
 
+/* Whether a datagram has the hash of a node. */
+static bool came(const struct guarded *g, const struct packet *p, uint64_t node)
+{
+    uint64_t found[PPSPP_FOUND_WORDS] = {0};
+    size_t at = 4;
+    while (ppspp_store_read(&g->store, p->bytes, p->n, at, found) == PPSPP_STEP_MESSAGE) {
+        at = (size_t)found[PPSPP_FOUND_NEXT];
+        if (found[PPSPP_FOUND_TYPE] == PPSPP_INTEGRITY && found[PPSPP_FOUND_FIRST] + found[PPSPP_FOUND_LAST] == node) {
+            return true;
+        }
+    }
+    return false;
+}
+
+/* A missing hash neither came nor is held; a node that was missed is trusted, as the root is, or a peak that came. */
+static void check_node(const struct guarded *g, const struct packet *p, uint32_t answer)
+{
+    const bool trusted = g->node != PPSPP_NO_NODE && ppspp_bit(g->store.trusted, (size_t)g->node);
+    CHECK(answer != PPSPP_HASH_MISSING || (!trusted && !came(g, p, g->node)));
+    CHECK(answer != PPSPP_HASH_MISMATCH || trusted || came(g, p, g->node));
+}
+
 /* A datagram as a peer would send it, to channel OURS. */
 static struct packet genuine(struct yard *yard)
 {
@@ -200,6 +222,7 @@ static void turn(struct yard *yard)
         const struct packet p = any_datagram(yard);
         const uint32_t answer = guarded_take(g, chance(), below(24), p.bytes, p.n);
         saw(answer);
+        check_node(g, &p, answer);
         if (answer == PPSPP_DONE) {
             check_reply(g, &p);
             check_held(yard, g);

@@ -3,7 +3,7 @@
 use crate::checks::{Pack, Snapshot};
 use crate::datagram::Origin;
 use crate::tally::Tally;
-use ppspp::{messages, Addressing, Message, Refusal, Store};
+use ppspp::{messages, Addressing, Message, Refusal, Refused, Store};
 
 /// What taking in a datagram gave.
 #[derive(Debug)]
@@ -55,7 +55,8 @@ impl Record {
         origin: Origin,
     ) -> Answer {
         let before = Snapshot::of(store);
-        let reply = store.take(now, id, datagram).map(<[u8]>::to_vec);
+        let taken = store.take(now, id, datagram).map(<[u8]>::to_vec);
+        let reply = taken.map_err(Refused::refusal);
         let number = reply.as_ref().err().map_or(0, |refusal| refusal.number());
         self.tally.taken_mut(origin).answers[number as usize] += 1;
         self.extend_trace(now, number, datagram);

@@ -57,6 +57,9 @@ pub const PPSPP_OPEN: u32 = 2;
 /// Answer: done. The others are the numbers of [`Refusal`](crate::Refusal).
 pub const PPSPP_DONE: u32 = 0;
 
+/// In place of a node's number: the answer names none.
+pub const PPSPP_NO_NODE: u64 = u64::MAX;
+
 /// Type of a HANDSHAKE.
 pub const PPSPP_HANDSHAKE: u32 = 0;
 /// Type of DATA.

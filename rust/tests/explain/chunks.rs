@@ -75,11 +75,11 @@ fn chunk_of_another_length() {
 fn missing_hashes_are_named_in_sending_order() {
     let pack = Pack::new();
     let words = [
-        "chunks 0..3",
-        "chunks 2..3",
-        "chunks 4..5",
-        "chunk 1",
-        "chunk 6",
+        "chunks 0..3 (node 3)",
+        "chunks 2..3 (node 5)",
+        "chunks 4..5 (node 9)",
+        "chunk 1 (node 2)",
+        "chunk 6 (node 12)",
     ];
     let ranges = ["0..3", "2..3", "4..5", "1", "6"];
     for came in 0..5 {
@@ -110,20 +110,20 @@ fn hashes_that_are_trusted_are_not_missing() {
     refused(
         &two,
         "09",
-        "chunk 2 refused: the hash of chunk 3 is missing",
+        "chunk 2 refused: the hash of chunk 3 (node 6) is missing",
     );
     let four = two.take(&[&pack.data(4, false)]);
     refused(
         &four,
         "09",
-        "chunk 4 refused: the hash of chunk 5 is missing",
+        "chunk 4 refused: the hash of chunk 5 (node 10) is missing",
     );
     // Chunk 6 is its own peak: before any chunk it needs the three peaks.
     let six = pack
         .trace()
         .take(&[&pack.hashes(&[(4, 5)]), &pack.data(6, true)]);
-    let reason = "chunk 6 refused: the hash of chunks 0..3 is missing; missing besides: 6";
-    refused(&six, "09", reason);
+    let first = "chunk 6 refused: the hash of chunks 0..3 (node 3) is missing";
+    refused(&six, "09", &format!("{first}; missing besides: 6"));
 }
 
 #[test]
@@ -133,7 +133,7 @@ fn peaks_that_do_not_give_the_root() {
     let others = pack.hashes(&[(0, 3), (2, 3), (1, 1), (6, 6)]);
     for right in [true, false] {
         let trace = pack.trace().take(&[&others, &wrong, &pack.data(0, right)]);
-        let reason = "the peaks that came, 0..3, 4..5, 6, do not give the root";
+        let reason = "the peaks that came, 0..3, 4..5, 6, do not give the root (node 7)";
         refused(&trace, "0a", reason);
     }
 }
@@ -141,7 +141,8 @@ fn peaks_that_do_not_give_the_root() {
 #[test]
 fn climb_that_misses_a_peak_that_came() {
     let pack = Pack::new();
-    let peak = "the hash of the peak over chunks 0..3, which came with it and leads to the root";
+    let peak = "the hash of the peak over chunks 0..3 (node 3)";
+    let peak = format!("{peak}, which came with it and leads to the root");
     let reason = format!("chunk 0 with the hashes of 1, 2..3 does not give {peak}");
     let hashes = pack.hashes(&WITH_CHUNK_0);
     let chunk = pack.trace().take(&[&hashes, &pack.data(0, false)]);
@@ -159,25 +160,36 @@ fn climb_that_misses_a_trusted_node() {
         .trace()
         .take(&[&pack.hashes(&WITH_CHUNK_0), &pack.data(0, true)]);
     let two = trace.take(&[&integrity(3, 3, &[9; 32]), &pack.data(2, true)]);
-    let reason = "chunk 2 with the hash of chunk 3 does not give the trusted hash of chunks 2..3";
-    refused(&two, "0a", reason);
+    let missed = "does not give the trusted hash of chunks 2..3 (node 5)";
+    refused(
+        &two,
+        "0a",
+        &format!("chunk 2 with the hash of chunk 3 {missed}"),
+    );
     let one = two.take(&[&pack.data(1, false)]);
-    let reason = "chunk 1 does not give the trusted hash of chunk 1";
+    let reason = "chunk 1 does not give the trusted hash of chunk 1 (node 2)";
     refused(&one, "0a", reason);
     let held = one.take(&[&pack.data(0, false)]);
-    let reason = "chunk 0 does not give the trusted hash of chunk 0; it is held, with other bytes";
-    refused(&held, "0a", reason);
+    let reason = "chunk 0 does not give the trusted hash of chunk 0 (node 0)";
+    let reason = format!("{reason}; it is held, with other bytes");
+    refused(&held, "0a", &reason);
+    // A peak that is trusted by now, and was none of what came.
+    let six = held.take(&[&pack.data(6, false)]);
+    let reason = "chunk 6 does not give the trusted hash of chunk 6 (node 12)";
+    refused(&six, "0a", reason);
 }
 
 #[test]
 fn climb_that_misses_the_root() {
     let abd = Trace::abc().take(&[&data(0, 0, 0, b"abd")]);
-    refused(&abd, "0a", "chunk 0 does not give the root, over chunk 0");
+    let reason = "chunk 0 does not give the root, over chunk 0 (node 0)";
+    refused(&abd, "0a", reason);
     // Two chunks under a root of zeros: a power of two, so the root is trusted and no peak is needed.
     let two = Trace::new(&"00".repeat(32), 2_048).opened(17);
     let two = two.take(&[&integrity(1, 1, &[9; 32]), &data(0, 0, 0, &[7; 1_024])]);
-    let reason = "chunk 0 with the hash of chunk 1 does not give the root, over chunks 0..1";
-    refused(&two, "0a", reason);
+    let root = "the root, over chunks 0..1 (node 1)";
+    let reason = format!("chunk 0 with the hash of chunk 1 does not give {root}");
+    refused(&two, "0a", &reason);
 }
 
 #[test]

@@ -137,7 +137,7 @@ fn line_that_is_no_answer() {
     let ran = changed(1, "0a\r", &format!("line 3: line 2 of the output is no answer, character 3 is a carriage return, no hexadecimal digit: {own}"));
     assert!(
         ran.text
-            .contains("\nreason    chunk 0 does not give the root, over chunk 0\n"),
+            .contains("\nreason    chunk 0 does not give the root, over chunk 0 (node 0)\n"),
         "{}",
         ran.text
     );

@@ -56,6 +56,7 @@ for name in sys.argv[1:]:
     for line in whole['lines']:
         assert line['difference'] is None
         assert (line['answer']['number'] == 0) == (line['answer']['reason'] is None)
+        assert (line['answer']['number'] in [9, 10]) == (line['answer']['node'] is not None)
 print('valid')";
     assert_eq!(python(program, &written), "valid\n");
 }

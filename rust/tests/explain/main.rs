@@ -13,4 +13,5 @@ mod garbled;
 mod handshakes;
 mod lines;
 mod messages;
+mod nodes;
 mod support;

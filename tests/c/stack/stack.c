@@ -26,6 +26,7 @@ static size_t datagram_n;
 static _Alignas(4096) uint8_t stack[STACK_BYTES];
 static uint32_t addressing;
 static uint32_t answer;
+static uint64_t node;
 static size_t frame; /* the place in the stack from which the call was made */
 
 /* Keeps the reply of a store as the next datagram. */
@@ -63,14 +64,14 @@ static void open_channel(void)
 static void take_handshake(void)
 {
     size_t n;
-    answer = ppspp_store_take(&server, 0, 2, datagram, datagram_n, &n);
+    answer = ppspp_store_take(&server, 0, 2, datagram, datagram_n, &n, &node);
     keep(&server, n);
 }
 
 static void take_answer(void)
 {
     size_t n;
-    answer = ppspp_store_take(&van, 0, 0, datagram, datagram_n, &n);
+    answer = ppspp_store_take(&van, 0, 0, datagram, datagram_n, &n, &node);
 }
 
 static void write_chunk(void)
@@ -83,7 +84,7 @@ static void write_chunk(void)
 static void take_chunk(void)
 {
     size_t n;
-    answer = ppspp_store_take(&van, 0, 0, datagram, datagram_n, &n);
+    answer = ppspp_store_take(&van, 0, 0, datagram, datagram_n, &n, &node);
 }
 
 static void compose(void)

@@ -2,8 +2,8 @@
 
 use crate::digits;
 use crate::explained::{Answer, End, First, Form, Held, Line};
-use crate::follow::Follower;
-use crate::frame;
+use crate::follow::{Follower, Turn};
+use crate::frame::{self, Frame};
 use crate::naming::Naming;
 use crate::opening;
 use crate::output::{Closing, Output, Said};
@@ -72,6 +72,7 @@ fn explain_bad_order(
     let agrees = difference.is_none();
     let answer = Answer {
         number: BAD_ORDER,
+        node: None,
         reason: Some(reason),
     };
     form.first(&First {
@@ -130,10 +131,7 @@ impl<'a> Run<'a> {
             Ok((_, turn)) => self.compared(turn.number, &turn.reply),
             Err(_) => self.compared(BAD_LINE, &[]),
         };
-        let reason = match &taken {
-            Ok((frame, turn)) => self.follower.reason(turn, frame, number),
-            Err(fault) => (number == BAD_LINE).then(|| fault.clone()),
-        };
+        let answer = self.answer(&taken, number);
         // They are the library's: where the output has another number, they say nothing of it.
         let (effects, acknowledged) = match &taken {
             Ok((_, turn)) if number == 0 => (turn.effects.clone(), turn.acknowledged),
@@ -151,11 +149,24 @@ impl<'a> Run<'a> {
             naming: self.naming,
             frame,
             channel,
-            answer: Answer { number, reason },
+            answer,
             effects,
             acknowledged,
             reply,
             difference,
+        }
+    }
+
+    /// What is told of a number, given for a frame that was taken in or for a line that is none.
+    fn answer(&self, taken: &Result<(Frame, Turn), String>, number: u8) -> Answer {
+        let (node, reason) = match taken {
+            Ok((frame, turn)) => (turn.node(number), self.follower.reason(turn, frame, number)),
+            Err(fault) => (None, (number == BAD_LINE).then(|| fault.clone())),
+        };
+        Answer {
+            number,
+            node,
+            reason,
         }
     }
 

@@ -4,7 +4,7 @@ use crate::acknowledged::Acknowledged;
 use crate::frame::Frame;
 use crate::naming::Naming;
 use crate::words;
-use ppspp::{Channel, Order};
+use ppspp::{Channel, Node, Order};
 use std::collections::BTreeMap;
 use std::io;
 
@@ -12,6 +12,8 @@ use std::io;
 pub struct Answer {
     /// The number.
     pub number: u8,
+    /// The node that the library names with it.
+    pub node: Option<Node>,
     /// Why it was given, as far as it can be told.
     pub reason: Option<String>,
 }

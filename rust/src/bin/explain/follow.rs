@@ -5,7 +5,7 @@ use crate::effects::{self, Taken};
 use crate::frame::Frame;
 use crate::known::{Known, Told};
 use crate::reason::Case;
-use ppspp::{destination, Channel, Order, Store};
+use ppspp::{destination, Channel, Node, Order, Refused, Store};
 use std::collections::BTreeMap;
 
 /// A store, and the ID for its next channel.
@@ -24,6 +24,8 @@ pub struct Turn {
     known: Known,
     /// The number.
     pub number: u8,
+    /// The node that it names.
+    node: Option<Node>,
     /// The reply.
     pub reply: Vec<u8>,
     /// The channel that it was for.
@@ -32,6 +34,13 @@ pub struct Turn {
     pub effects: Vec<String>,
     /// What the ACK in the reply names.
     pub acknowledged: Option<Acknowledged>,
+}
+
+impl Turn {
+    /// The node that the library names with a number; none where that is not its own.
+    pub fn node(&self, number: u8) -> Option<Node> {
+        self.node.filter(|_| number == self.number)
+    }
 }
 
 impl Follower {
@@ -54,11 +63,10 @@ impl Follower {
         let told = channel.map(|channel| Told::of(&self.store, channel.row, known.n));
         let answer = self.store.take(frame.clock, self.id, datagram);
         let answer = answer.map(<[u8]>::to_vec);
-        let (number, reply) = match answer {
-            Ok(reply) => (0, reply),
-            // At most 14.
-            Err(refusal) => (refusal.number() as u8, Vec::new()),
-        };
+        let refused = answer.as_ref().err().copied();
+        // At most 14.
+        let number = refused.map_or(0, |refused| refused.refusal().number() as u8);
+        let reply = answer.unwrap_or_default();
         let acknowledged = Acknowledged::by(known.naming(), &reply);
         let mut effects = Vec::new();
         if number == 0 {
@@ -74,6 +82,7 @@ impl Follower {
         Turn {
             known,
             number,
+            node: refused.and_then(Refused::node),
             reply,
             channel,
             effects,
@@ -96,7 +105,7 @@ impl Follower {
         let case = Case {
             datagram: &frame.datagram,
             known: &turn.known,
-            hashes: self.store.view().hashes,
+            node: turn.node(number),
             closed: &self.closed,
         };
         case.reason(number)

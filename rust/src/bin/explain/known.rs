@@ -1,8 +1,7 @@
 //! What a store knew before a datagram: enough to say why it was refused, or what it changed.
 
 use crate::naming::Naming;
-use crate::tree::Node;
-use ppspp::{Channel, Order, Store};
+use ppspp::{Channel, Node, Order, Store};
 
 /// What a channel's peer has told.
 pub struct Told {
@@ -71,7 +70,8 @@ impl Known {
 
     /// Whether a node was trusted.
     pub fn trusts(&self, node: Node) -> bool {
-        let number = node.number();
+        // One past the room is in no word of it.
+        let number = node.number() as usize;
         let word = self.trusted.get(number / 32);
         word.is_some_and(|word| word >> (number % 32) & 1 == 1)
     }

@@ -2,7 +2,8 @@
 //! whoever asks why a datagram was refused.
 //!
 //! The output has numbers alone. This program follows the input with a store of its own, compares its answers with the
-//! output's, and works out the reasons from what the store knew before each datagram.
+//! output's, and works out the reasons from what the store knew before each datagram; the node of a missing or a wrong
+//! hash is the one that the library names.
 
 #![forbid(unsafe_code)]
 

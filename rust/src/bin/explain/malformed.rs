@@ -3,7 +3,7 @@
 use crate::naming::Naming;
 use crate::options;
 use crate::words::{count, range};
-use ppspp::Bin;
+use ppspp::{Bin, Node};
 
 /// The rule that is broken by what stands at a place of a datagram, in words; none if it is none of these.
 pub fn rule(naming: Naming, datagram: &[u8], place: usize) -> Option<String> {
@@ -61,13 +61,9 @@ fn range_rule(kind: u8, name: &str, body: &[u8]) -> Option<String> {
     let words = range(first, last);
     match kind {
         1 if first != last => Some(format!("DATA has the range {words}, not one chunk")),
-        4 if !is_node(first, last) => Some(format!("INTEGRITY has the range {words}, no node's")),
+        4 if Node::over(first, last).is_none() => {
+            Some(format!("INTEGRITY has the range {words}, no node's"))
+        }
         _ => None,
     }
-}
-
-/// Whether a range is a node's: a power of two of chunks, and its first a multiple of that.
-fn is_node(first: u32, last: u32) -> bool {
-    let length = u64::from(last) - u64::from(first) + 1;
-    length.is_power_of_two() && u64::from(first).is_multiple_of(length)
 }

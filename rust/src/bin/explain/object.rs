@@ -7,7 +7,7 @@ use crate::json::Value;
 use crate::messages;
 use crate::naming::Naming;
 use crate::words;
-use ppspp::{destination, Message, Options, Order};
+use ppspp::{destination, Message, Node, Options, Order};
 use std::io::{self, Write};
 
 /// A writer of the JSON form.
@@ -51,7 +51,17 @@ fn answer(answer: &Answer) -> Value {
         ("number", u32::from(answer.number).into()),
         ("code", answer.code().into()),
         ("text", answer.text().into()),
+        ("node", answer.node.map(node).into()),
         ("reason", answer.reason.clone().into()),
+    ])
+}
+
+/// A node.
+fn node(node: Node) -> Value {
+    Value::Object(vec![
+        ("number", node.number().into()),
+        ("first", node.first().into()),
+        ("last", node.last().into()),
     ])
 }
 

@@ -6,7 +6,7 @@ use crate::options;
 use crate::proof::Proof;
 use crate::words::{count, counted};
 use ppspp::sizes::{CHANNELS, MAX_DATAGRAM, MIN_DATAGRAM};
-use ppspp::{destination, Message};
+use ppspp::{destination, Message, Node};
 use std::collections::BTreeMap;
 
 /// The place of the options in a datagram that is a HANDSHAKE: behind the destination, the type and the source.
@@ -18,8 +18,8 @@ pub struct Case<'a> {
     pub datagram: &'a [u8],
     /// What the store knew before it.
     pub known: &'a Known,
-    /// The words of the store's hash room.
-    pub hashes: &'a [u32],
+    /// The node that the library names with the number that is explained.
+    pub node: Option<Node>,
     /// The channels that were closed, each with the line that did it.
     pub closed: &'a BTreeMap<u32, usize>,
 }
@@ -40,7 +40,9 @@ impl Case<'_> {
             5 => self.no_channel(),
             6 => self.no_free_row(),
             7 => self.range_past(),
-            8..=10 if self.range_past().is_none() => self.chunk(number),
+            8 if self.range_past().is_none() => self.other_length(),
+            9 => Some(self.proof()?.incomplete(self.node?)),
+            10 => Some(self.proof()?.wrong(self.node?)),
             _ => None,
         }
     }
@@ -133,23 +135,21 @@ impl Case<'_> {
         ))
     }
 
-    /// 8, 9 and 10: DATA for a chunk of the pack.
-    fn chunk(&self, number: u8) -> Option<String> {
+    /// 8: DATA for a chunk of the pack that is longer or shorter.
+    fn other_length(&self) -> Option<String> {
         let (chunk, came) = self.messages().find_map(|message| match message {
             Message::Data { first, bytes, .. } => Some((first, bytes.len())),
             _ => None,
         })?;
         let wanted = self.known.chunk_length(chunk);
-        if came != wanted {
+        (came != wanted).then(|| {
             let (came, wanted) = (counted(came, "byte"), count(wanted));
-            return (number == 8)
-                .then(|| format!("chunk {chunk} came with {came}, it has {wanted}"));
-        }
-        let proof = Proof::of(self.known, self.hashes, self.datagram)?;
-        match number {
-            9 => proof.incomplete(),
-            10 => proof.wrong(),
-            _ => None,
-        }
+            format!("chunk {chunk} came with {came}, it has {wanted}")
+        })
+    }
+
+    /// 9 and 10: DATA with its hashes.
+    fn proof(&self) -> Option<Proof<'_>> {
+        Proof::of(self.known, self.messages())
     }
 }

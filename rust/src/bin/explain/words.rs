@@ -1,6 +1,6 @@
 //! Counts, ranges and numbers in words.
 
-use ppspp::Refusal;
+use ppspp::{Node, Refusal};
 
 /// The replay program's number for a line one that is missing or bad.
 pub const BAD_ORDER: u8 = 0x0c;
@@ -38,6 +38,12 @@ pub fn range(first: u32, last: u32) -> String {
 pub fn chunks(first: u32, last: u32) -> String {
     let plural = if first == last { "" } else { "s" };
     format!("chunk{plural} {}", range(first, last))
+}
+
+/// A node with what it is over, such as `chunks 4..5 (node 9)`.
+pub fn node(node: Node) -> String {
+    let chunks = chunks(node.first(), node.last());
+    format!("{chunks} (node {})", node.number())
 }
 
 /// The ranges of chunks, which rise.
