@@ -9,6 +9,7 @@ use crate::handshakes::{opening, to_a_row};
 use crate::packets::*;
 use crate::packs::Pack;
 use crate::random::Random;
+use crate::takes::Take;
 use second::channel::Phase;
 use second::wire::Addressing;
 use second::wire_cases;
@@ -72,6 +73,23 @@ impl Peer<'_> {
             let count = self.pack.count();
             leave_least(self.addressing, &mut messages, count, number, trusts);
         }
+        datagram(random.one_of(&open), &messages)
+    }
+
+    /// A chunk that the store refuses for a hash, to an open row; where none is
+    /// open, a HANDSHAKE that may open one.
+    pub fn lacking(&self, random: &mut Random, store: &Both) -> Vec<u8> {
+        let open = open_rows(store);
+        if open.is_empty() {
+            return opening(random, store);
+        }
+        let take = Take::lacking(random, self.pack, |node| store.trusts(node));
+        let hashes = take.came.hashes().into_iter();
+        let mut messages: Vec<_> = hashes
+            .map(|(node, hash)| integrity(self.addressing, node, &hash))
+            .collect();
+        let (number, time) = (take.number, clock(random));
+        messages.push(data(self.addressing, number, number, time, &take.chunk));
         datagram(random.one_of(&open), &messages)
     }
 

@@ -1,8 +1,9 @@
 //! The proved store and `second`'s side by side: each call goes to both, and
-//! then the answers and every room must be the same. What is wanted is what
-//! `second` gives. A difference panics with the case, both answers, and the
-//! first place where each room differs.
+//! then the answers, with the nodes that they name, and every room must be the
+//! same. What is wanted is what `second` gives. A difference panics with the case,
+//! both answers, and the first place where each room differs.
 
+use crate::naming::{self, Answer};
 use crate::proved::store::{self as proved, Order, Rooms};
 use crate::proved::Words;
 use crate::takes::Take;
@@ -64,7 +65,7 @@ impl Both {
         match wanted.and_then(|second| in_rows(second, before, length)) {
             Ok(second) => {
                 let wanted = rooms_of(&second, before);
-                compare(case, [got, 0], &rooms, &wanted);
+                compare(case, [(got, None), (0, None)], &rooms, &wanted);
                 let root = words(second.root());
                 Ok(Both {
                     root,
@@ -73,14 +74,15 @@ impl Both {
                 })
             }
             Err(refusal) => {
-                compare(case, [got, refusal.into()], &rooms, before);
+                let answers = [got, refusal.into()].map(|number| (number, None));
+                compare(case, answers, &rooms, before);
                 Err(refusal.into())
             }
         }
     }
 
     /// Has both take a chunk, and gives the answer.
-    pub fn take(&mut self, case: &str, take: &Take) -> u32 {
+    pub fn take(&mut self, case: &str, take: &Take) -> Answer {
         let before = self.rooms.clone();
         let order = Order {
             root: &self.root,
@@ -90,9 +92,10 @@ impl Both {
         let wanted = take.to_second(&mut self.second);
         let answers = [got, wanted];
         compare(case, answers, &self.rooms, &rooms_of(&self.second, &before));
-        if wanted != 0 {
+        if wanted.0 != 0 {
             compare(case, answers, &self.rooms, &before);
         }
+        naming::check(case, wanted);
         wanted
     }
 
@@ -109,12 +112,12 @@ impl Both {
     }
 }
 
-/// A call of the proved store alone, which must refuse it with this number, and
-/// leave the rooms as they are.
-pub fn refused(case: &str, wanted: u32, before: &Rooms, call: impl FnOnce(&mut Rooms) -> u32) {
+/// A call of the proved store alone, which must refuse it with this number, name
+/// no node, and leave the rooms as they are.
+pub fn refused(case: &str, wanted: u32, before: &Rooms, call: impl FnOnce(&mut Rooms) -> Answer) {
     let mut rooms = before.clone();
     let got = call(&mut rooms);
-    compare(case, [got, wanted], &rooms, before);
+    compare(case, [got, (wanted, None)], &rooms, before);
 }
 
 /// The bytes of the chunk room and the words of the others, at least, for a
@@ -180,7 +183,7 @@ fn row(bits: &[bool], before: &[u32]) -> Vec<u32> {
 }
 
 /// Both answers are the same, and the proved store's rooms are as wanted.
-fn compare(case: &str, [got, wanted]: [u32; 2], rooms: &Rooms, wanted_rooms: &Rooms) {
+fn compare(case: &str, [got, wanted]: [Answer; 2], rooms: &Rooms, wanted_rooms: &Rooms) {
     let differing = [
         difference("chunks", &rooms.chunks, &wanted_rooms.chunks),
         difference("map", &rooms.map, &wanted_rooms.map),
@@ -190,7 +193,7 @@ fn compare(case: &str, [got, wanted]: [u32; 2], rooms: &Rooms, wanted_rooms: &Ro
     let differing: Vec<String> = differing.into_iter().flatten().collect();
     assert!(
         got == wanted && differing.is_empty(),
-        "{case}: the proved store answers {got}, wanted is {wanted}; rooms that differ: {differing:?}"
+        "{case}: the proved store answers {got:?}, wanted is {wanted:?}; rooms that differ: {differing:?}"
     );
 }
 

@@ -1,9 +1,10 @@
 //! The entry points as values: a call with its arguments, which the proved code
 //! and `second` can both be given, and what it gives back.
 
+use crate::naming::{self, Answer};
 use crate::numbers::numbers;
 use crate::rooms::Rooms;
-use ppspp::calls::{self, Answered};
+use ppspp::calls::{self, Answered, Taken};
 use ppspp::Order;
 use second::channel::{self as channel, Outcome, State};
 use second::hex;
@@ -62,6 +63,8 @@ pub struct Told {
     /// What asking tells: the held count, and 1 where all are held. Zeros for
     /// other calls.
     pub held: [u32; 2],
+    /// The node that taking in names.
+    pub node: Option<u64>,
 }
 
 impl Told {
@@ -71,6 +74,11 @@ impl Told {
             number,
             ..Told::default()
         }
+    }
+
+    /// The number, and the node that it names.
+    pub fn answer(&self) -> Answer {
+        (self.number, self.node)
     }
 
     /// What asking gives: a number, the held count, and 1 where all are held.
@@ -85,9 +93,26 @@ impl Told {
 impl From<Answered> for Told {
     fn from((number, len): Answered) -> Self {
         Told {
-            number,
             len,
-            held: [0; 2],
+            ..Told::number(number)
+        }
+    }
+}
+
+impl From<Taken> for Told {
+    fn from((number, len, node): Taken) -> Self {
+        Told {
+            node: naming::written(node),
+            ..Told::from((number, len))
+        }
+    }
+}
+
+impl From<Outcome> for Told {
+    fn from(outcome: Outcome) -> Self {
+        Told {
+            node: outcome.node,
+            ..Told::from((outcome.number.into(), outcome.length))
         }
     }
 }
@@ -176,8 +201,7 @@ impl Call {
                 source,
             } => channel::add(lent.reply, *method, *len, message, source),
         };
-        let Outcome { number, length } = outcome;
-        Told::from((number.into(), length))
+        outcome.into()
     }
 }
 

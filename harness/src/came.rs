@@ -98,7 +98,8 @@ pub fn leave_least(
         .retain(|message| !is_integrity(message) || least.contains(&node_of(addressing, message)));
 }
 
-fn with_hashes(built: &Store, nodes: Vec<u64>) -> Vec<NodeHash> {
+/// Nodes with their hashes, from a store that has them.
+pub fn with_hashes(built: &Store, nodes: Vec<u64>) -> Vec<NodeHash> {
     nodes
         .into_iter()
         .map(|node| (node, *built.hash(node)))

@@ -1,11 +1,12 @@
 //! The proved entry points and `second`'s side by side: each call goes to both,
-//! and then the number, the reply's length, the state and every byte and word of
-//! every room must be the same. What is wanted is what `second` gives. A
-//! difference panics with the case, the call, and the first place where each
-//! thing differs.
+//! and then the number, the node that it names, the reply's length, the state and
+//! every byte and word of every room must be the same. What is wanted is what
+//! `second` gives. A difference panics with the case, the call, and the first place
+//! where each thing differs.
 
 use crate::beside::difference;
 use crate::calls::{Call, Told};
+use crate::naming;
 use crate::rooms::Rooms;
 use crate::words::{digest, words};
 use ppspp::sizes::STATE_WORDS;
@@ -77,6 +78,7 @@ impl Both {
              differs: {differing:?}",
             before.about(call)
         );
+        naming::check(case, wanted.answer());
         wanted
     }
 

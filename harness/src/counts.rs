@@ -2,6 +2,7 @@
 
 use crate::calls::Call;
 use crate::channels::Words;
+use crate::naming::Named;
 use crate::packets::ACK;
 use second::wire::{self, Addressing, Message, Step, MIN_SIZE};
 use std::fmt;
@@ -61,6 +62,8 @@ pub struct Counts {
     /// The most chunks that an ACK named: of a stored one, and of one that came
     /// again.
     pub most: [u32; 2],
+    /// What refused chunks named.
+    pub named: Named,
     /// How many datagrams a store took in from its own reply room, how many of
     /// them brought a chunk, and how many the peer's store took in from there.
     pub own: usize,
@@ -213,6 +216,7 @@ impl fmt::Display for Counts {
             "of more than 32: {stored} of a stored one, {again} of a held one; "
         )?;
         writeln!(f, "the most are {most} and {most_again}")?;
+        writeln!(f, "{}", self.named)?;
         let (own, chunks, by_peer) = (self.own, self.chunks, self.by_peer);
         write!(f, "{own} datagrams taken in from the own reply room, ")?;
         writeln!(f, "{chunks} of them with a chunk; {by_peer} by the peer")?;

@@ -22,6 +22,7 @@ pub mod handshakes;
 pub mod intervals;
 pub mod lists;
 pub mod maps;
+pub mod naming;
 pub mod numbers;
 pub mod packets;
 pub mod packs;

@@ -16,6 +16,17 @@ use second::wire::Addressing;
 /// Lengths that no order has.
 const BAD_LENGTHS: [u32; 3] = [0, 524_289, u32::MAX];
 
+/// What mostly comes to a store.
+#[derive(Clone, Copy, Debug, PartialEq, Eq)]
+pub enum Mostly {
+    /// Anything.
+    Any,
+    /// A download: chunks that are right.
+    Right,
+    /// Chunks that are refused for a hash.
+    Lacking,
+}
+
 /// A store, and who sends to it, mostly under one method.
 pub struct List<'a> {
     addressing: Addressing,
@@ -23,14 +34,13 @@ pub struct List<'a> {
     pub peer: Peer<'a>,
     pub store: Both,
     composing: Composing,
-    /// Whether it is mostly a download: chunks that are right come.
-    pub downloading: bool,
+    mostly: Mostly,
 }
 
 impl<'a> List<'a> {
     /// A store without an order, or in one case of four with any state, mostly of
     /// the right version and of a method, in rooms with anything in them.
-    pub fn new(addressing: Addressing, mut random: Random, pack: &'a Pack) -> Self {
+    pub fn new(addressing: Addressing, mut random: Random, pack: &'a Pack, mostly: Mostly) -> Self {
         let rooms = Rooms::random(&mut random, pack.length());
         let extra = random.place(3);
         let mut store = Both::new(vec![0; STATE_WORDS + extra], rooms);
@@ -55,7 +65,7 @@ impl<'a> List<'a> {
             peer,
             store,
             composing: Composing::new(addressing),
-            downloading: false,
+            mostly,
         }
     }
 
@@ -72,9 +82,8 @@ impl<'a> List<'a> {
         if !started && self.random.one_in(4) {
             return self.start();
         }
-        if self.downloading && !self.random.one_in(5) {
-            let datagram = self.peer.downloaded(case, &mut self.random, &self.store);
-            return self.take(datagram);
+        if self.mostly != Mostly::Any && !self.random.one_in(5) {
+            return self.next_chunk(case);
         }
         if self.composing.is_under_way() && !self.random.one_in(12) {
             return self.go_on();
@@ -92,6 +101,21 @@ impl<'a> List<'a> {
                 self.take(datagram)
             }
         }
+    }
+
+    /// The next chunk of a store to which such ones mostly come. Where they are
+    /// refused, now and then comes a right one, or a start.
+    fn next_chunk(&mut self, case: &str) -> Call {
+        let lacking = self.mostly == Mostly::Lacking;
+        if lacking && self.random.one_in(20) {
+            return self.start();
+        }
+        let datagram = if lacking && !self.random.one_in(20) {
+            self.peer.lacking(&mut self.random, &self.store)
+        } else {
+            self.peer.downloaded(case, &mut self.random, &self.store)
+        };
+        self.take(datagram)
     }
 
     /// Has the store make a call.

@@ -2,25 +2,39 @@
 //! right and wrong. A failure names the seed, which makes the same calls again.
 
 use crate::beside::{least_lengths, refused, Both};
+use crate::naming::{Named, MISSING, WRONG};
 use crate::packs::{random_rooms, Pack};
 use crate::proved::store::{Order, Rooms};
 use crate::random::Random;
 use crate::takes::Take;
 use second::answer;
 use second::sha256::Digest;
+use std::fmt;
 
 /// Lengths that no order has.
 const BAD_LENGTHS: [u32; 3] = [0, 524_289, u32::MAX];
 
+/// How many chunks come to a store that are mostly refused for a hash.
+const LACKING: u32 = 40;
+
 const TOO_SMALL: u32 = answer::ROOM_TOO_SMALL as u32;
 const BAD_LENGTH: u32 = answer::BAD_LENGTH as u32;
 
-/// How often each number was the answer.
-#[derive(Debug, Default)]
+/// How often each number was the answer, and what taking named.
+#[derive(Default)]
 pub struct Answers {
     pub start: [usize; 13],
     pub build: [usize; 13],
     pub take: [usize; 13],
+    pub named: Named,
+}
+
+impl fmt::Display for Answers {
+    fn fmt(&self, f: &mut fmt::Formatter) -> fmt::Result {
+        let (start, build, take) = (self.start, self.build, self.take);
+        writeln!(f, "start {start:?}, build {build:?}, take {take:?}")?;
+        self.named.fmt(f)
+    }
 }
 
 /// Calls on stores of packs, from the random numbers of a seed.
@@ -37,6 +51,7 @@ impl Run<'_> {
         self.starts(pack);
         self.takes(pack);
         self.takes_under_another_root(pack);
+        self.takes_that_lack(pack);
     }
 
     fn case(&self, pack: &Pack, what: &str) -> String {
@@ -176,10 +191,35 @@ impl Run<'_> {
         }
     }
 
+    /// Chunks that are refused for a hash; now and then a right one.
+    fn takes_that_lack(&mut self, pack: &Pack) {
+        let mut both = self.started(pack, pack.built.root());
+        for call in 0..LACKING {
+            let store = both.second();
+            let right = self.random.one_in(20);
+            let take = match right {
+                true => Take::right(pack, store, self.random.below(pack.count())),
+                false => Take::lacking(&mut self.random, pack, |node| store.trusts(node)),
+            };
+            let case = self.case(pack, &format!("take {call} that lacks: {}", take.what));
+            let answer = self.take(&case, &mut both, &take);
+            assert_eq!(answer == 0, right, "{case}: both");
+            assert!(matches!(answer, 0 | MISSING | WRONG), "{case}: both");
+        }
+    }
+
     fn take(&mut self, case: &str, both: &mut Both, take: &Take) -> u32 {
         let answer = both.take(case, take);
-        self.answers.take[answer as usize] += 1;
-        answer
+        if answer.1.is_some() {
+            let store = both.second();
+            let offer = take.offer(store.count());
+            self.answers
+                .named
+                .add(&offer, |node| store.trusts(node), answer);
+        }
+        let (number, _) = answer;
+        self.answers.take[number as usize] += 1;
+        number
     }
 
     /// The same chunk with a room too small, under a bad length, or both.

@@ -1,7 +1,8 @@
 //! The chunks that come for a pack, right and wrong, with hashes right and
 //! wrong.
 
-use crate::came::{all, least, Came};
+use crate::came::{all, least, least_nodes, with_hashes, Came};
+use crate::naming::{Answer, Offer};
 use crate::packs::Pack;
 use crate::proved::store::{self as proved, Order, Rooms};
 use crate::random::Random;
@@ -75,17 +76,57 @@ impl Take {
         take
     }
 
+    /// A chunk that a store with such trusted nodes refuses for a hash, with 9 or
+    /// 10: of those that it needs some are missing or one is wrong, or the chunk is.
+    pub fn lacking(random: &mut Random, pack: &Pack, trusts: impl Fn(u64) -> bool) -> Self {
+        let number = random.below(pack.count());
+        let mut chunk = pack.chunk(number).to_vec();
+        let least = with_hashes(&pack.built, least_nodes(pack.count(), number, trusts));
+        let mut fewer = least.clone();
+        if !least.is_empty() {
+            fewer.remove(random.place(least.len()));
+        }
+        let (what, mut hashes) = match random.below(8) {
+            _ if least.is_empty() => ("wrong", least),
+            0 => ("one hash missing", fewer),
+            1..4 => ("some hashes missing", some(random, fewer)),
+            4 => ("a hash missing, one wrong", one_wrong(random, fewer)),
+            5 | 6 => ("one hash wrong", one_wrong(random, least)),
+            _ => ("wrong", least),
+        };
+        if what == "wrong" || random.one_in(8) {
+            let at = random.place(chunk.len());
+            chunk[at] ^= 1 << random.below(8);
+        }
+        random.shuffle(&mut hashes);
+        Take {
+            number,
+            chunk,
+            came: Came::new(&hashes),
+            what: format!("chunk {number}, {what}"),
+        }
+    }
+
+    /// What counts of it for the node that is named, in a pack of so many chunks.
+    pub fn offer(&self, count: u32) -> Offer {
+        let came = self.came.hashes();
+        Offer {
+            count,
+            chunk: self.number,
+            came: came.into_iter().map(|(node, _)| node).collect(),
+        }
+    }
+
     /// Gives it to the proved store.
-    pub fn to_proved(&self, order: Order, rooms: &mut Rooms) -> u32 {
+    pub fn to_proved(&self, order: Order, rooms: &mut Rooms) -> Answer {
         let Came { entries, bytes } = &self.came;
         proved::take(order, rooms, self.number, &self.chunk, entries, bytes)
     }
 
     /// Gives it to `second`'s.
-    pub fn to_second(&self, store: &mut Store) -> u32 {
-        store
-            .take(self.number, &self.chunk, &self.came.hashes())
-            .into()
+    pub fn to_second(&self, store: &mut Store) -> Answer {
+        let (number, node) = store.take(self.number, &self.chunk, &self.came.hashes());
+        (number.into(), node)
     }
 
     fn say(&mut self, what: &str) {

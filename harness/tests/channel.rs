@@ -3,11 +3,12 @@
 //! code. A failure names the seed, which makes the same calls again, and the
 //! call.
 
-use harness::calls::Call;
+use harness::calls::{Call, Told};
 use harness::channels::Both;
 use harness::counts::{count, demand, Counts};
 use harness::garbling::{garble, garble_map};
-use harness::lists::List;
+use harness::lists::{List, Mostly};
+use harness::naming::Offer;
 use harness::packs::{random_length, Pack};
 use harness::random::Random;
 use second::channel::Sizes;
@@ -19,6 +20,9 @@ use second::wire::{Addressing, MIN_SIZE};
 const LISTS: u32 = 1_000;
 const CALLS: u32 = 200;
 const OFTEN: usize = 200;
+
+/// How many nodes 9 must name in the end, and how many 10.
+const NODES: usize = 400;
 
 /// How often each number must come in a state without an order, and how often a
 /// chunk must be written, and it be asked, in words that no call writes.
@@ -38,6 +42,10 @@ const COUNTS: [u32; 6] = [1, 32, 33, 257, 511, 512];
 /// how many lists these are.
 const DOWNLOADED: [u32; 10] = [7, 33, 64, 65, 100, 128, 257, 384, 511, 512];
 const DOWNLOADS: usize = 40;
+
+/// The same of lists whose chunks are mostly refused for a hash.
+const LACKED: [u32; 10] = [3, 7, 13, 31, 100, 255, 341, 383, 511, 512];
+const LACKING: usize = 60;
 
 /// What beginning and adding can answer.
 const OF_COMPOSING: [(&str, &[usize]); 2] = [("begin", &[0, 11]), ("add", &[0, 1, 2, 3, 11, 12])];
@@ -79,15 +87,17 @@ fn random_lists(addressing: Addressing) -> Counts {
     for seed in 0..LISTS {
         let mut random = Random::new(seed);
         let length = random_length(&mut random);
-        run(addressing, seed, random, length, false, &mut counts);
+        run(addressing, seed, random, length, Mostly::Any, &mut counts);
     }
-    let counted = COUNTS.into_iter().map(|count| (count, false));
-    let downloaded = DOWNLOADED.into_iter().map(|count| (count, true));
+    let counted = COUNTS.into_iter().map(|count| (count, Mostly::Any));
+    let downloaded = DOWNLOADED.into_iter().map(|count| (count, Mostly::Right));
+    let lacked = LACKED.into_iter().map(|count| (count, Mostly::Lacking));
     let counted = counted.chain(downloaded.cycle().take(DOWNLOADS));
-    for (seed, (count, downloading)) in (LISTS..).zip(counted) {
+    let counted = counted.chain(lacked.cycle().take(LACKING));
+    for (seed, (count, mostly)) in (LISTS..).zip(counted) {
         let mut random = Random::new(seed);
         let length = 1_024 * (count - 1) + 1 + random.below(1_024);
-        run(addressing, seed, random, length, downloading, &mut counts);
+        run(addressing, seed, random, length, mostly, &mut counts);
     }
     println!("{addressing:?}: {counts}");
     check(&counts);
@@ -105,6 +115,7 @@ fn check(counts: &Counts) {
     demand("too short", &counts.short, &OF_SHORT, OFTEN);
     demand("versions", &counts.versions, &WITHOUT_ORDER, IN_ODD_STATES);
     demand("methods", &counts.methods, &WITHOUT_ORDER, IN_ODD_STATES);
+    counts.named.demand(OFTEN, NODES);
     let &Counts {
         uncanonical,
         opened,
@@ -129,12 +140,11 @@ fn run(
     seed: u32,
     mut random: Random,
     length: u32,
-    downloading: bool,
+    mostly: Mostly,
     counts: &mut Counts,
 ) {
     let pack = Pack::new(&mut random, length);
-    let mut list = List::new(addressing, random, &pack);
-    list.downloading = downloading;
+    let mut list = List::new(addressing, random, &pack, mostly);
     for number in 0..CALLS {
         let case = format!("{addressing:?}, seed {seed}, length {length}, call {number}");
         if number == 0 && !list.random.one_in(8) {
@@ -144,7 +154,7 @@ fn run(
         if list.random.one_in(40) {
             garble(&mut list.random, &mut list.store, length);
         }
-        if downloading && list.random.one_in(4) {
+        if mostly == Mostly::Right && list.random.one_in(4) {
             garble_map(&mut list.random, &mut list.store, pack.count());
         }
         let call = list.next_call(&case);
@@ -166,6 +176,7 @@ fn made(list: &mut List, case: &str, call: &Call, counts: &mut Counts) {
     let told = list.call(case, call);
     counts.add(call, told.number);
     counts.add_state(call, told.number, words);
+    count_named(&list.store, call, &told, counts);
     if told.number == 0 {
         count_bins(&list.store, call, counts);
     }
@@ -183,6 +194,17 @@ fn count_bins(store: &Both, call: &Call, counts: &mut Counts) {
     let state = store.state();
     if let (Addressing::Bins, Call::Take { datagram, .. }) = (state.addressing, call) {
         counts.add_bins(datagram, chunk_count(state.length));
+    }
+}
+
+/// Counts the node that a refused chunk named, which left the store as it was.
+fn count_named(store: &Both, call: &Call, told: &Told, counts: &mut Counts) {
+    let state = store.state();
+    if let (Some(_), Call::Take { datagram, .. }) = (told.node, call) {
+        let offer = Offer::of(state.addressing, chunk_count(state.length), datagram);
+        let offer = offer.expect("a chunk was refused");
+        let trusts = |node| store.trusts(node);
+        counts.named.add(&offer, trusts, told.answer());
     }
 }
 

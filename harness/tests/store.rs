@@ -14,6 +14,12 @@ use second::answer;
 const SEEDS: u32 = 250;
 const LEAST_TAKES: usize = 20_000;
 
+/// How often each number of taking must come, how often a node of each kind must
+/// be named, and how many nodes must be.
+const OFTEN: usize = 100;
+const OFTEN_NAMED: usize = 200;
+const NODES: usize = 400;
+
 const TOO_SMALL: u32 = answer::ROOM_TOO_SMALL as u32;
 const BAD_LENGTH: u32 = answer::BAD_LENGTH as u32;
 
@@ -25,18 +31,19 @@ fn random_packs() {
         let length = random_length(&mut random);
         run(seed, random, length, &mut answers);
     }
-    println!("answers 0 to 12, {SEEDS} packs: {answers:?}");
+    println!("answers 0 to 12, {SEEDS} packs: {answers}");
     assert!(answers.take.iter().sum::<usize>() >= LEAST_TAKES);
     for number in [0, 7, 8, 9, 10, 11, 12] {
-        assert!(answers.take[number] >= 100, "{number} is rare: {answers:?}");
+        assert!(answers.take[number] >= OFTEN, "{number} is rare: {answers}");
     }
+    answers.named.demand(OFTEN_NAMED, NODES);
 }
 
 #[test]
 fn the_longest_pack() {
     let mut answers = Answers::default();
     run(SEEDS, Random::new(SEEDS), 524_288, &mut answers);
-    println!("answers 0 to 12, the longest pack: {answers:?}");
+    println!("answers 0 to 12, the longest pack: {answers}");
 }
 
 /// Packs of all small counts and of those around powers of two, with last chunks
@@ -55,12 +62,9 @@ fn packs_of_every_shape() {
             run.chunks_in_turn(1_024 * (count - 1) + last);
         }
     }
-    println!("answers 0 to 12, packs of every shape: {answers:?}");
+    println!("answers 0 to 12, packs of every shape: {answers}");
     for number in [0, 8, 9, 10] {
-        assert!(
-            answers.take[number] >= 1_000,
-            "{number} is rare: {answers:?}"
-        );
+        assert!(answers.take[number] >= 1_000, "{number} is rare: {answers}");
     }
 }
 
@@ -89,14 +93,15 @@ fn a_root_of_another_length() {
         };
         let case = |call: &str| format!("{call} with a root of {size} words");
         refused(&case("start"), TOO_SMALL, &rooms, |rooms| {
-            store::start(order, rooms)
+            (store::start(order, rooms), None)
         });
         refused(&case("take"), TOO_SMALL, &rooms, |rooms| {
             take.to_proved(order, rooms)
         });
         let mut written = root.clone();
         refused(&case("build"), TOO_SMALL, &rooms, |rooms| {
-            store::build(&mut written, length, rooms, &pack.content)
+            let number = store::build(&mut written, length, rooms, &pack.content);
+            (number, None)
         });
         assert_eq!(written, root, "{}", case("build"));
     }

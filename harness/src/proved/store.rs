@@ -2,6 +2,12 @@
 //!
 //! These require nothing: any rooms, numbers and bytes get an answer.
 
+use crate::naming::{self, Answer};
+
+/// What stands where a node is to be written, until it is. No tree has it, and it
+/// is not what stands for none.
+const NOT_WRITTEN: u64 = u64::MAX - 1;
+
 /// The rooms of a store, each of any length and with anything in it.
 #[derive(Clone)]
 pub struct Rooms {
@@ -73,6 +79,7 @@ unsafe extern "C" {
         entries_n: usize,
         bytes: *const u8,
         bytes_n: usize,
+        node: *mut u64,
     ) -> u32;
 }
 
@@ -129,9 +136,10 @@ pub fn take(
     chunk: &[u8],
     entries: &[u64],
     hashes: &[u8],
-) -> u32 {
-    // SAFETY: as in `start`.
-    unsafe {
+) -> Answer {
+    let mut node = NOT_WRITTEN;
+    // SAFETY: as in `start`, and a place of this function.
+    let number = unsafe {
         store_take(
             order.root.as_ptr(),
             order.root.len(),
@@ -151,6 +159,8 @@ pub fn take(
             entries.len(),
             hashes.as_ptr(),
             hashes.len(),
+            &mut node,
         )
-    }
+    };
+    (number, naming::written(node))
 }

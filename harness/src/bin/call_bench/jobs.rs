@@ -119,8 +119,8 @@ pub fn take<'a>(task: Task, ready: &'a Ready, datagrams: &'a [Vec<u8>]) -> Job<'
         let mut stores = vec![ready.in_words(); times];
         let take_all = |(state, rooms): &mut (Vec<u32>, Rooms)| {
             let take = |datagram: &Vec<u8>| {
-                let (number, len) = calls::take(rooms.lend(state), CLOCK, 0, datagram);
-                black_box(len);
+                let (number, len, node) = calls::take(rooms.lend(state), CLOCK, 0, datagram);
+                black_box((len, node));
                 number
             };
             black_box(datagrams).iter().map(take).sum::<u32>()
@@ -133,7 +133,7 @@ pub fn take<'a>(task: Task, ready: &'a Ready, datagrams: &'a [Vec<u8>]) -> Job<'
             let mut lent = rooms.lend_to_second();
             let take = |datagram: &Vec<u8>| {
                 let taken = channel::take(state, &mut lent, CLOCK, 0, datagram);
-                black_box(taken.length);
+                black_box((taken.length, taken.node));
                 u32::from(taken.number)
             };
             black_box(datagrams).iter().map(take).sum::<u32>()

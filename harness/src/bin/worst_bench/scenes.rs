@@ -2,6 +2,7 @@
 //! that it takes there.
 
 use harness::bench::timed;
+use harness::calls::Told;
 use harness::channels::words_of;
 use harness::packets::{datagram, fixed, handshake};
 use harness::packs::Pack;
@@ -140,7 +141,7 @@ impl Stage {
     }
 
     /// The number and the reply's length for a datagram, with such an ID for a
-    /// channel that it may open. `second` gives the same.
+    /// channel that it may open. `second` gives the same, and names the same node.
     pub fn answer(&mut self, id: u32, datagram: &[u8]) -> (u32, usize) {
         self.restore();
         let [first, second, ..] = &mut self.copies[..] else {
@@ -149,9 +150,9 @@ impl Stage {
         let answer = calls::take(first.rooms.lend(&mut first.words), CLOCK, id, datagram);
         let rooms = &mut second.rooms.lend_to_second();
         let wanted = channel::take(&mut second.state, rooms, CLOCK, id, datagram);
-        let wanted = (wanted.number.into(), wanted.length);
-        assert_eq!(answer, wanted, "{}", hex::encode(datagram));
-        answer
+        let wanted = Told::from(wanted);
+        assert_eq!(Told::from(answer), wanted, "{}", hex::encode(datagram));
+        (wanted.number, wanted.len)
     }
 
     /// The time of the proved code for the datagrams, each in a copy of its own.
