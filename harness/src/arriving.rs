@@ -84,12 +84,7 @@ impl Peer<'_> {
             return opening(random, store);
         }
         let take = Take::lacking(random, self.pack, |node| store.trusts(node));
-        let hashes = take.came.hashes().into_iter();
-        let mut messages: Vec<_> = hashes
-            .map(|(node, hash)| integrity(self.addressing, node, &hash))
-            .collect();
-        let (number, time) = (take.number, clock(random));
-        messages.push(data(self.addressing, number, number, time, &take.chunk));
+        let messages = take.messages(self.addressing, clock(random));
         datagram(random.one_of(&open), &messages)
     }
 

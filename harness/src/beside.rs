@@ -14,6 +14,7 @@ use second::{answer, tree};
 use std::fmt::Debug;
 
 /// Two stores under one order, with the same in their rooms.
+#[derive(Clone)]
 pub struct Both {
     root: Words,
     rooms: Rooms,

@@ -3,6 +3,7 @@
 
 use crate::calls::{Call, Told};
 use crate::channels::Both;
+use crate::naming::Answer;
 use crate::packets::{datagram, fixed, handshake};
 use crate::packs::Pack;
 use crate::random::Random;
@@ -12,6 +13,7 @@ use second::sha256::Digest;
 use second::wire::Addressing;
 
 /// A store that is called, in rooms of some length.
+#[derive(Clone)]
 pub struct Caller(pub Both);
 
 impl Caller {
@@ -83,6 +85,16 @@ impl Caller {
             id,
             datagram,
         })
+    }
+
+    /// The number for a datagram, and the node that it names.
+    pub fn answer(&mut self, id: u32, datagram: &[u8]) -> Answer {
+        let take = Call::Take {
+            clock: 0,
+            id,
+            datagram: datagram.to_vec(),
+        };
+        self.0.call("taken by hand", &take).answer()
     }
 
     pub fn write(&mut self, id: u32, chunk: u32, clock: u64) -> (u32, Vec<u8>) {

@@ -3,11 +3,13 @@
 
 use crate::came::{all, least, least_nodes, with_hashes, Came};
 use crate::naming::{Answer, Offer};
+use crate::packets::{data, integrity};
 use crate::packs::Pack;
 use crate::proved::store::{self as proved, Order, Rooms};
 use crate::random::Random;
 use second::store::{NodeHash, Store};
 use second::tree;
+use second::wire::Addressing;
 
 /// A chunk that comes.
 pub struct Take {
@@ -115,6 +117,14 @@ impl Take {
             chunk: self.number,
             came: came.into_iter().map(|(node, _)| node).collect(),
         }
+    }
+
+    /// The messages of a datagram with it: INTEGRITY for each hash, then DATA.
+    pub fn messages(&self, addressing: Addressing, time: u64) -> Vec<Vec<u8>> {
+        let hashes = self.came.hashes().into_iter();
+        let hashes = hashes.map(|(node, hash)| integrity(addressing, node, &hash));
+        let data = data(addressing, self.number, self.number, time, &self.chunk);
+        hashes.chain([data]).collect()
     }
 
     /// Gives it to the proved store.

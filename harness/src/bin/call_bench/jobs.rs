@@ -81,9 +81,14 @@ impl Ready {
 
 /// The time of calls that give the sum of their numbers: all are done.
 fn done(calls: impl FnOnce() -> u32) -> Duration {
+    answered(0, calls)
+}
+
+/// The same where the sum is this one.
+fn answered(wanted: u32, calls: impl FnOnce() -> u32) -> Duration {
     let mut numbers = 0;
     let time = timed(|| numbers = calls());
-    assert_eq!(numbers, 0);
+    assert_eq!(numbers, wanted);
     time
 }
 
@@ -114,7 +119,13 @@ pub fn build<'a>(task: Task, ready: &'a Ready, pack: &'a Pack) -> Job<'a> {
 /// The datagrams taken in one behind the other, by as many stores as the job is
 /// done times.
 pub fn take<'a>(task: Task, ready: &'a Ready, datagrams: &'a [Vec<u8>]) -> Job<'a> {
+    take_as(0, task, ready, datagrams)
+}
+
+/// The same where each is answered with this number.
+pub fn take_as<'a>(number: u32, task: Task, ready: &'a Ready, datagrams: &'a [Vec<u8>]) -> Job<'a> {
     let times = task.times;
+    let wanted = number * (times * datagrams.len()) as u32;
     let proved = move || {
         let mut stores = vec![ready.in_words(); times];
         let take_all = |(state, rooms): &mut (Vec<u32>, Rooms)| {
@@ -125,7 +136,7 @@ pub fn take<'a>(task: Task, ready: &'a Ready, datagrams: &'a [Vec<u8>]) -> Job<'
             };
             black_box(datagrams).iter().map(take).sum::<u32>()
         };
-        done(|| stores.iter_mut().map(take_all).sum())
+        answered(wanted, || stores.iter_mut().map(take_all).sum())
     };
     let second = move || {
         let mut stores = vec![ready.clone(); times];
@@ -138,7 +149,7 @@ pub fn take<'a>(task: Task, ready: &'a Ready, datagrams: &'a [Vec<u8>]) -> Job<'
             };
             black_box(datagrams).iter().map(take).sum::<u32>()
         };
-        done(|| stores.iter_mut().map(take_all).sum())
+        answered(wanted, || stores.iter_mut().map(take_all).sum())
     };
     Job::new(task.name, task.unit, proved, second)
 }
