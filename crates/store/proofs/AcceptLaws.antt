@@ -1,18 +1,15 @@
 -- What an answer of 0 says of the numbers before it, and that a call then answers 0. Assumes nothing.
 use mathlib.Core.Path.{_≡_}
 use mathlib.Core.List.{List}
-use Prim.Native.Nat.{ℕ, _≤_, _<_}
-use native.Mathlib.Omega.{arith}
-use borrow.Author.Tests.{ltb-false, eqb-false}
-use lib.Dec.{ltb, eqb}
+use Prim.Native.Nat.{ℕ}
 use lib.ListN.{length}
-use Rattle.tree.specs.Pack.{maxLength, levels}
+use Rattle.tree.specs.Pack.{levels}
 use Rattle.verdict.specs.Room.{Digest}
 use Rattle.verdict.specs.Rooms.{Rooms, countOf}
 use Rattle.store.specs.Building.{rootOf}
 use Rattle.store.specs.Answers.{earlier, lengthAnswer, contentAnswer, roomAnswer, orderAnswer}
 use Rattle.store.specs.Calls.{roomsAnswer, startSpec, buildAnswer, buildSpec}
-use Rattle.store.proofs.AnswerLaws.{passed, both-zero}
+use Rattle.store.proofs.AnswerLaws.{both-zero}
 use Rattle.store.proofs.CallLaws.{content-long}
 use Rattle.store.proofs.BuildingLaws.{tree-digest}
 use Rattle.store.proofs.PutLaws.{root-is}
@@ -22,18 +19,7 @@ pub order-accepted : (L b m h t : ℕ) → orderAnswer L b m h t ≡ 0 → (leng
 unfolding orderAnswer
 order-accepted L b m h t e = both-zero (lengthAnswer L) (roomAnswer L b m h t) e
 
--- Not 12: the length is within the limit.
-pub length-accepted : (L : ℕ) → lengthAnswer L ≡ 0 → (0 < L) × (L ≤ maxLength)
-unfolding lengthAnswer
-length-accepted L e =
-    let p = passed (eqb L 0) 11 _ e in
-    let q = passed (ltb maxLength L) 11 0 (p .1) in
-    (positive L (eqb-false L 0 (p .0)), ltb-false maxLength L (q .0))
-  where
-    positive : (n : ℕ) → (n ≡ 0 → ⊥) → 0 < n
-    positive n d = omega (arith, d)
-
--- The same for building, whose content has the order's length.
+-- For building, whose content has the order's length.
 pub build-accepted : (L n b m h t : ℕ) → buildAnswer L n b m h t ≡ 0 → (lengthAnswer L ≡ 0) × (n ≡ L) × (roomAnswer L b m h t ≡ 0)
 unfolding buildAnswer
 build-accepted L n b m h t e =

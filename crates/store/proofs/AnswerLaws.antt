@@ -4,8 +4,8 @@ use mathlib.Core.Logic.{_≢_}
 use mathlib.Core.Bool.{Bool, true, false, true≢false, _&&_, not}
 use Prim.Native.Nat.{ℕ, zero, suc, _*_, _≤_, _<_}
 use native.Mathlib.Omega.{arith}
-use borrow.Author.Tests.{lt-ltb, le-ltb, le-leb, lt-leb, eq-eqb, ne-eqb, eqb-true, leb-true, leb-false}
-use lib.Dec.{leb, eqb}
+use borrow.Author.Tests.{lt-ltb, le-ltb, le-leb, lt-leb, eq-eqb, ne-eqb, eqb-true, eqb-false, leb-true, leb-false, ltb-false}
+use lib.Dec.{leb, ltb, eqb}
 use Rattle.base.specs.Pick.{pick}
 use Rattle.bits.proofs.Promise.{rowWords}
 use Rattle.tree.specs.Pack.{chunkSize, maxLength, size, leafPlaces}
@@ -32,6 +32,17 @@ earlier-not zero n d = absurd (d refl)
 earlier-not (suc m) n d = refl
 
 -- ---- the order's length
+
+-- not 12: the length is within the limit
+pub length-facts : (L : ℕ) → lengthAnswer L ≡ 0 → (0 < L) × (L ≤ maxLength)
+unfolding lengthAnswer
+length-facts L e =
+    let p = passed (eqb L 0) 11 _ e in
+    let q = passed (ltb maxLength L) 11 0 (p .1) in
+    (positive L (eqb-false L 0 (p .0)), ltb-false maxLength L (q .0))
+  where
+    positive : (n : ℕ) → (n ≡ 0 → ⊥) → 0 < n
+    positive n d = omega (arith, d)
 
 module _ (L : ℕ) where
   pub length-zero : L ≡ 0 → 12 ≡ lengthAnswer L

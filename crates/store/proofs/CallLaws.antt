@@ -13,7 +13,7 @@ use lib.ListN.{length}
 use Rattle.base.specs.Pick.{pick}
 use Rattle.bits.proofs.Promise.{setBit}
 use Rattle.hash.proofs.Promise.{sha256}
-use Rattle.tree.specs.Pack.{chunkSize, leafPlaces, rootNode}
+use Rattle.tree.specs.Pack.{chunkSize, maxLength, leafPlaces, rootNode}
 use Rattle.tree.specs.Verdicts.{number, named, peaksTrusted, reached}
 use Rattle.tree.specs.Verdicts as theory
 use Rattle.tree.specs.declared.verdict.Verdict.{Verdict}
@@ -31,7 +31,7 @@ use Rattle.store.specs.Steps.{foundRoot, storeIfFits}
 use Rattle.base.proofs.OutLaws.{at-not, at-done, at-zero, at-unaltered, unless-not, unless-done, unless-zero, done-unaltered, unless-unaltered}
 use Rattle.base.specs.Out.{Out, outAt, outOf, unlessAt, unless}
 use Rattle.base.specs.declared.Named.{Named}
-use Rattle.store.proofs.AnswerLaws.{both-zero, room-facts, chunk-facts}
+use Rattle.store.proofs.AnswerLaws.{both-zero, length-facts, room-facts, chunk-facts}
 use Rattle.tree.proofs.ChunkLaws.{chunk-inside}
 use Rattle.verdict.proofs.VerdictLaws.{fits-reached, verdict-sees}
 
@@ -168,12 +168,13 @@ module _ (w : Rooms) (r : List ℕ) (L c : ℕ) (d : List ℕ) (o : Integrity) (
   pub take-judged : k ≡ 0 → (n : ℕ) {x : Out Rooms} → n ≡ countOf L → x ≡ storeIfFits w r n c d o → x ≡ takeSpec w r L c d o
   take-judged z n ne e = e ∙ ap (λ (y : ℕ). storeIfFits w r y c d o) ne ∙ unless-done k w (storeIfFits w r (countOf L) c d o) z ∙ take-is
 
-  -- an answer of 0: the chunk is one of the pack, has its length, and its place in the room
-  pub take-facts : k ≡ 0 → (n : ℕ) → n ≡ countOf L → (c < n) × (chunkSize * c + length d ≤ length (w .bytes))
+  -- an answer of 0: the chunk is one of a pack within the limit, and has its place in the room
+  pub take-facts : k ≡ 0 → (n : ℕ) → n ≡ countOf L → (c < n) × (n ≤ countOf maxLength) × (chunkSize * c + length d ≤ length (w .bytes))
   unfolding orderAnswer
   take-facts z n ne =
       let p = both-zero (roomsAnswer L w) (chunkAnswer L c (length d)) (sym ke ∙ z) in
       let q = both-zero (lengthAnswer L) (roomAnswer L (length (w .bytes)) (length (w .map)) (length (w .hashes)) (length (w .trusted))) (p .0) in
       let f = room-facts L (length (w .bytes)) (length (w .map)) (length (w .hashes)) (length (w .trusted)) (q .1) in
       let g = chunk-facts L c (length d) (p .1) in
-      (omega (arith, ne, g .0), omega (arith, f .0, g .1, chunk-inside chunkSize L (omega arith) c (g .0)))
+      let l = length-facts L (q .0) in
+      (omega (arith, ne, g .0), omega (arith, ne, l .1), omega (arith, f .0, g .1, chunk-inside chunkSize L (omega arith) c (g .0)))

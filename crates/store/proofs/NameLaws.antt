@@ -28,8 +28,7 @@ use Rattle.verdict.specs.Rooms.{Rooms, countOf, stateOf}
 use Rattle.store.specs.Answers.{earlier, lengthAnswer, orderAnswer, chunkAnswer}
 use Rattle.store.specs.Calls.{roomsAnswer, takeSpec}
 use Rattle.store.specs.Named.{AllCame, NamesMissing, NamesMissed}
-use Rattle.store.proofs.AcceptLaws.{length-accepted}
-use Rattle.store.proofs.AnswerLaws.{both-zero, chunk-facts}
+use Rattle.store.proofs.AnswerLaws.{both-zero, length-facts, chunk-facts}
 use Rattle.store.proofs.NumberLaws.{order-one, chunk-one}
 
 -- ---- two numbers in turn, of which the second may name a node
@@ -96,7 +95,7 @@ module _ (w : Rooms) (r : List ℕ) (L c : ℕ) (d : List ℕ) (o : Integrity) w
   unfolding orderAnswer
   before-zero e =
       let p = both-zero (roomsAnswer L w) (chunkAnswer L c (length d)) e in
-      (length-accepted L (both-zero (lengthAnswer L) _ (p .0) .0) .1, chunk-facts L c (length d) (p .1) .0)
+      (length-facts L (both-zero (lengthAnswer L) _ (p .0) .0) .1, chunk-facts L c (length d) (p .1) .0)
 
   -- A node is named with 9 and 10, and with no other number.
   named-told : (v : Verdict) → isNamed (named v) ≡ among (9 ∷ 10 ∷ []) (number v)

@@ -87,7 +87,7 @@ count-mono = shorter.count-mono
 
 -- Not 12: the length is within the limit.
 pub length-accepted : (L : ℕ) → lengthAnswer L ≡ 0 → (0 < L) × (L ≤ maxLength)
-length-accepted = accept.length-accepted
+length-accepted = answers.length-facts
 
 pub length-within : (L : ℕ) → L ≢ 0 → L ≤ maxLength → 0 ≡ lengthAnswer L
 length-within = answers.length-right

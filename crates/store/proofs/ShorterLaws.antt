@@ -11,8 +11,8 @@ use Rattle.tree.proofs.PackLaws.{levels-mono}
 use Rattle.verdict.specs.Rooms.{Rooms, countOf}
 use Rattle.store.specs.Answers.{lengthAnswer, mapWords, hashWords, trustedWords, Enough, roomAnswer, orderAnswer}
 use Rattle.store.specs.Calls.{roomsAnswer, buildAnswer}
-use Rattle.store.proofs.AnswerLaws.{earlier-zero, length-right, room-facts}
-use Rattle.store.proofs.AcceptLaws.{order-accepted, length-accepted}
+use Rattle.store.proofs.AnswerLaws.{length-facts, earlier-zero, length-right, room-facts}
+use Rattle.store.proofs.AcceptLaws.{order-accepted}
 
 module _ (L b m h t : ℕ) (p : (L ≤ b) × (mapWords (countOf L) ≤ m) × (hashWords (countOf L) ≤ h) × (trustedWords (countOf L) ≤ t)) where
   rooms-enough : roomAnswer L b m h t ≡ 0
@@ -53,7 +53,7 @@ module _ (K L : ℕ) (l : K ≤ L) where
   pub order-shorter : (b m h t : ℕ) → 0 < K → orderAnswer L b m h t ≡ 0 → orderAnswer K b m h t ≡ 0
   order-shorter b m h t some e =
       let p = order-accepted L b m h t e in
-      let q = length-accepted L (p .0) in
+      let q = length-facts L (p .0) in
       let f = room-facts L b m h t (p .1) in
       let r = row-mono (countOf K) (countOf L) count-mono in
       let s = row-mono (2 * leafPlaces (countOf K)) (2 * leafPlaces (countOf L)) (omega (arith, places-mono)) in

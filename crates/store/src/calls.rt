@@ -4,9 +4,9 @@ ghost use mathlib.Core.Path.{_≡_};
 ghost use Prim.Native.Nat.{_+_, _*_, _<_, _≤_};
 ghost use lib.ListN.{length};
 ghost use Rattle.hash.proofs.Promise.{bytesOf};
-ghost use Rattle.tree.specs.Pack.{chunkSize};
+ghost use Rattle.tree.specs.Pack.{chunkSize, maxLength};
 ghost use Rattle.verdict.specs.Integrity.{integrityOf};
-ghost use Rattle.verdict.specs.Rooms.{roomsOf};
+ghost use Rattle.verdict.specs.Rooms.{roomsOf, countOf};
 ghost use Rattle.store.specs.Building.{rootOf};
 ghost use Rattle.store.specs.Calls.{startSpec, buildSpec, takeSpec};
 ghost use Rattle.store.specs.Steps.{foundRoot, storeIfFits};
@@ -19,6 +19,7 @@ use hash::value;
 use hash::value::HashValue;
 use order::Order;
 use tree::verdict::Verdict;
+use verdict::peaks;
 use verdict::verdicts;
 
 // What building gives back: its answer and the root found; the filler where it was refused.
@@ -112,19 +113,24 @@ fn store_if_fits(
     entries: &[u64],
     bytes: &[u8],
 ) -> Taken
-    requires { ⌜ (c < n) × (chunkSize * c + length (now chunk) ≤ length (now chunks)) ⌝ }
+    requires { ⌜ (c < n) × (n ≤ countOf maxLength)
+        × (chunkSize * c + length (now chunk) ≤ length (now chunks)) ⌝ }
     ensures { λ r. ⌜ outAt (r .answer) 0 (r .node)
         (roomsOf (now (chunks .exit)) (now (map .exit)) (now (hashes .exit)) (now (trusted .exit)))
         ≡ storeIfFits (roomsOf (now (chunks .entry)) (now (map .entry)) (now (hashes .entry)) (now (trusted .entry)))
         (bytesOf (root .words)) n c (now (chunk .entry)) (integrityOf (now (entries .entry)) (now (bytes .entry))) ⌝ }
 {
+    let top = tree::pack::levels(n);
+    let opened = peaks::all_trusted(trusted, n, top);
     let mut scratch = [0u32; verdicts::SCRATCH];
     let v = verdicts::judge(
         &mut scratch,
         hashes,
         trusted,
+        opened,
         root,
         n,
+        top,
         c,
         chunk,
         entries,
@@ -139,7 +145,9 @@ fn store_if_fits(
                 map,
                 hashes,
                 trusted,
+                opened,
                 n,
+                top,
                 c,
                 t,
                 &scratch,

@@ -20,7 +20,6 @@ ghost use Rattle.store.specs.Storing.{mark, copied, stored, storeSpec};
 use hash::value::HashValue;
 use tree::pack::CHUNK_SIZE;
 use verdict::integrity;
-use verdict::peaks;
 use verdict::room;
 use verdict::verdicts::SCRATCH;
 
@@ -92,10 +91,11 @@ fn put_new_peaks(
     trusted: &mut [u32],
     entries: &[u64],
     bytes: &[u8],
+    opened: bool,
     n: u32,
     top: u32,
 )
-    requires { ⌜ (top ≡ levels n) × (top ≤ 32) ⌝ }
+    requires { ⌜ (top ≤ 32) × (opened ≡ every (trustedIn (now trusted)) (peaks n)) ⌝ }
     ensures { λ _. ⌜ (now (hashes .exit)
         ≡ pick (every (trustedIn (now (trusted .entry))) (peaks n)) (now (hashes .entry))
         (putPeaks putHash (gotBy (integrityOf (now (entries .entry)) (now (bytes .entry)))) n (suc top)
@@ -105,7 +105,6 @@ fn put_new_peaks(
         (putPeaks mark (gotBy (integrityOf (now (entries .entry)) (now (bytes .entry)))) n (suc top)
         (now (trusted .entry)))) ⌝ }
 {
-    let opened = peaks::all_trusted(trusted, n, top);
     if !opened {
         put_peaks(hashes, trusted, entries, bytes, n, top);
     }
@@ -168,7 +167,9 @@ fn put(
     map: &mut [u32],
     hashes: &mut [u32],
     trusted: &mut [u32],
+    opened: bool,
     n: u32,
+    top: u32,
     c: u32,
     t: u32,
     scratch: &[u32; SCRATCH],
@@ -179,15 +180,15 @@ fn put(
     requires { ⌜ (t ≤ 33)
         × (chunkSize * c + length (now chunk) ≤ length (now chunks))
         × Climbed (now scratch) (gotBy (integrityOf (now entries) (now bytes))) (sha256 (now chunk)) c t ⌝ }
+    requires { ⌜ (top ≡ levels n) × (top ≤ 32) × (opened ≡ every (trustedIn (now trusted)) (peaks n)) ⌝ }
     ensures { λ _. ⌜ roomsOf (now (chunks .exit)) (now (map .exit)) (now (hashes .exit)) (now (trusted .exit))
         ≡ stored (roomsOf (now (chunks .entry)) (now (map .entry)) (now (hashes .entry)) (now (trusted .entry))) n c t
         (now (chunk .entry)) (integrityOf (now (entries .entry)) (now (bytes .entry))) ⌝ }
 {
     let i = c as usize;
-    let top = tree::pack::levels(n);
     copy_in(chunks, CHUNK_SIZE as usize * i, chunk);
     bits::set(map, i);
-    put_new_peaks(hashes, trusted, entries, bytes, n, top);
+    put_new_peaks(hashes, trusted, entries, bytes, opened, n, top);
     put_path(hashes, trusted, scratch, entries, bytes, c, t);
 }
 
@@ -198,7 +199,9 @@ pub fn store(
     map: &mut [u32],
     hashes: &mut [u32],
     trusted: &mut [u32],
+    opened: bool,
     n: u32,
+    top: u32,
     c: u32,
     t: u32,
     scratch: &[u32; SCRATCH],
@@ -209,6 +212,7 @@ pub fn store(
     requires { ⌜ (t ≤ 33)
         × (chunkSize * c + length (now chunk) ≤ length (now chunks))
         × Climbed (now scratch) (gotBy (integrityOf (now entries) (now bytes))) (sha256 (now chunk)) c t ⌝ }
+    requires { ⌜ (top ≡ levels n) × (top ≤ 32) × (opened ≡ every (trustedIn (now trusted)) (peaks n)) ⌝ }
     ensures { λ _. ⌜ roomsOf (now (chunks .exit)) (now (map .exit)) (now (hashes .exit)) (now (trusted .exit))
         ≡ storeSpec (roomsOf (now (chunks .entry)) (now (map .entry)) (now (hashes .entry)) (now (trusted .entry))) n c
         t (now (chunk .entry)) (integrityOf (now (entries .entry)) (now (bytes .entry))) ⌝ }
@@ -220,7 +224,9 @@ pub fn store(
             map,
             hashes,
             trusted,
+            opened,
             n,
+            top,
             c,
             t,
             scratch,

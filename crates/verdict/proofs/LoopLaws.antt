@@ -1,14 +1,14 @@
 -- The loops of a verdict, turn by turn. Assumes nothing.
 use mathlib.Core.Path.{_≡_, refl, sym, ap, _∙_}
 use mathlib.Core.Logic.{_≢_}
-use mathlib.Core.Bool.{Bool, true, false}
+use mathlib.Core.Bool.{Bool, true, false, not, true≢false}
 use mathlib.Core.List.{List, [], _∷_, _++_}
 use mathlib.Core.Option.{some}
-use Prim.Native.Nat.{ℕ, zero, suc, _+_, _-_, _/_, _%_, _^_, _≤_, _<_}
+use Prim.Native.Nat.{ℕ, zero, suc, _+_, _-_, _%_, _^_, _≤_, _<_}
 use native.Mathlib.Numerals.{add-one}
 use native.Mathlib.Omega.{arith}
-use borrow.Author.Tests.{eq-eqb, ne-eqb}
-use lib.Dec.{ltb, eqb}
+use native.Mathlib.Decide.{le-ind}
+use lib.Dec.{ltb}
 use Rattle.base.specs.Pick.{pick}
 use Rattle.base.specs.declared.Named.the-variants.{Node as NodeNamed, NoNode}
 use Rattle.tree.specs.Node.{Node, num, above}
@@ -26,30 +26,50 @@ use Rattle.tree.proofs.TreeLaws.{given-whole}
 
 -- ---- a test of every peak, height by height
 
-pub step-skip : (x : ℕ) (t ok : Bool) → x ≢ 1 → ok ≡ pick (eqb x 1) (pick t ok false) ok
-step-skip x t ok d = rw (ne-eqb x 1 d)
+module _ (f : Node → Bool) (N : ℕ) where
+  abbrev low : ℕ → Bool
+  low h = every f (peaksBelow N h)
 
-pub step-yes : (x : ℕ) (t ok : Bool) → x ≡ 1 → t ≡ true → ok ≡ pick (eqb x 1) (pick t ok false) ok
-step-yes x t ok e f = rw (eq-eqb x 1 e, f)
+  low-turn : (h : ℕ) → low (suc h) ≡ pick (peakBit N h) (pick (f (peakAt N h)) (low h) false) (low h)
+  unfolding every peaksBelow
+  low-turn h = go (peakBit N h)
+    where
+      go : (t : Bool) → every f (pick t (peakAt N h ∷ []) [] ++ peaksBelow N h) ≡ pick t (pick (f (peakAt N h)) (low h) false) (low h)
+      go true = refl
+      go false = refl
 
-pub step-no : (x : ℕ) (t ok : Bool) → x ≡ 1 → t ≡ false → false ≡ pick (eqb x 1) (pick t ok false) ok
-step-no x t ok e f = rw (eq-eqb x 1 e, f)
+  low-false : (h : ℕ) → low h ≡ false → low (suc h) ≡ false
+  low-false h e = low-turn h ∙ rw e (go (peakBit N h) (f (peakAt N h)))
+    where
+      go : (t u : Bool) → pick t (pick u false false) false ≡ false
+      go true true = refl
+      go true false = refl
+      go false u = refl
 
-pub every-none : (f : Node → Bool) (N : ℕ) → true ≡ every f (peaksBelow N 0)
-unfolding every peaksBelow
-every-none f N = refl
+  pub every-none : true ≡ low 0
+  unfolding every peaksBelow
+  every-none = refl
 
-pub every-peak : (f : Node → Bool) (N h : ℕ) (r ok : Bool) → r ≡ pick (eqb (N / 2 ^ h % 2) 1) (pick (f (peakAt N h)) ok false) ok → ok ≡ every f (peaksBelow N h)
-    → r ≡ every f (peaksBelow N (h + 1))
-unfolding every peaksBelow
-every-peak f N h r ok e q = rw (add-one h) (e ∙ go (eqb (N / 2 ^ h % 2) 1))
-  where
-    go : (t : Bool) → pick t (pick (f (peakAt N h)) ok false) ok ≡ every f (pick t (peakAt N h ∷ []) [] ++ peaksBelow N h)
-    go true = ap (λ (x : Bool). pick (f (peakAt N h)) x false) q
-    go false = q
+  pub every-next : (h : ℕ) {x : Bool} → x ≡ pick (peakBit N h) (not (f (peakAt N h))) false → x ≡ false → true ≡ low h → true ≡ low (h + 1)
+  every-next h e g q = rw (add-one h) (sym (low-turn h ∙ rw (← q) (go (peakBit N h) (f (peakAt N h)) (sym e ∙ g))))
+    where
+      go : (t u : Bool) → pick t (not u) false ≡ false → pick t (pick u true false) true ≡ true
+      go true true z = refl
+      go true false z = absurd (true≢false z)
+      go false u z = refl
 
-pub every-end : (f : Node → Bool) (N h : ℕ) (ok : Bool) → h ≡ suc (levels N) → ok ≡ every f (peaksBelow N h) → ok ≡ every f (peaks N)
-every-end f N h ok e q = q ∙ ap (λ (x : ℕ). every f (peaksBelow N x)) e ∙ ap (every f) (sym (peaks-bits N))
+  pub every-not : (h : ℕ) {x : Bool} → x ≡ pick (peakBit N h) (not (f (peakAt N h))) false → x ≡ true → h ≤ levels N → false ≡ every f (peaks N)
+  every-not h e g l =
+      sym (ap (every f) (peaks-bits N)
+      ∙ le-ind (λ (k : ℕ). low k ≡ false) (low-turn h ∙ go (peakBit N h) (f (peakAt N h)) (sym e ∙ g)) (λ k u q. low-false k q) (suc (levels N)) (omega arith))
+    where
+      go : (t u : Bool) → pick t (not u) false ≡ true → pick t (pick u (low h) false) (low h) ≡ false
+      go true true z = absurd (true≢false (sym z))
+      go true false z = refl
+      go false u z = absurd (true≢false (sym z))
+
+  pub every-end : (h : ℕ) → h ≡ suc (levels N) → true ≡ low h → true ≡ every f (peaks N)
+  every-end h e q = q ∙ ap low e ∙ ap (every f) (sym (peaks-bits N))
 
 -- ---- the first that is missing, height by height from the top
 

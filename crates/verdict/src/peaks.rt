@@ -1,7 +1,7 @@
 // The peaks of n: trusted, combined to the root.
 ghost use mathlib.Core.Path.{_≡_};
 ghost use Prim.Native.Nat.{_≤_, _<_, _^_};
-ghost use mathlib.Core.Bool.{false};
+ghost use mathlib.Core.Bool.{false, not};
 ghost use Rattle.hash.proofs.Promise.{bytesOf, sha256};
 ghost use Rattle.base.specs.Pick.{pick};
 ghost use Rattle.tree.specs.Pack.{levels};
@@ -18,19 +18,16 @@ use hash::node;
 use hash::value;
 use hash::value::HashValue;
 
-// One height of all_trusted: `ok` stays where n has no peak there, or a trusted one.
-fn peak_trusted(trusted: &[u32], n: u32, h: u32, ok: bool) -> bool
+// Whether n has a peak of height h that is not trusted.
+fn peak_untrusted(trusted: &[u32], n: u32, h: u32) -> bool
     requires { ⌜ h < 59 ⌝ }
-    ensures { λ r. ⌜ r ≡ pick (peakBit n h) (pick (trustedIn (now (trusted .entry)) (peakAt n h)) ok false) ok ⌝ }
+    ensures { λ r. ⌜ r ≡ pick (peakBit n h) (not (trustedIn (now (trusted .entry)) (peakAt n h))) false ⌝ }
 {
     if tree::peaks::side(n, h) != 1 {
-        return ok;
+        return false;
     }
     let b = tree::peaks::peak(n, h);
-    if bits::test(trusted, b as usize) {
-        return ok;
-    }
-    false
+    !bits::test(trusted, b as usize)
 }
 
 // Whether all peaks of n are trusted, in a tree of `top` levels.
@@ -38,13 +35,14 @@ pub fn all_trusted(trusted: &[u32], n: u32, top: u32) -> bool
     requires { ⌜ (top ≡ levels n) × (top ≤ 32) ⌝ }
     ensures { λ r. ⌜ r ≡ every (trustedIn (now (trusted .entry))) (peaks n) ⌝ }
 {
-    let mut ok = true;
     let mut h = 0u32;
     while h <= top {
-        ok = peak_trusted(trusted, n, h, ok);
+        if peak_untrusted(trusted, n, h) {
+            return false;
+        }
         h = h + 1;
     }
-    ok
+    true
 }
 
 // Node b's hash: of those that came, or of the room.

@@ -11,10 +11,10 @@ ghost use Rattle.tree.specs.Pack.{levels, leastFrom};
 ghost use Rattle.tree.specs.Peaks.{peaks, siblings, sort};
 ghost use Rattle.tree.specs.Steps.{peakBit, peakAt, siblingAt};
 ghost use Rattle.tree.specs.Tree.{given, joined, climb};
-ghost use Rattle.tree.specs.Verdicts.{isMissing, firstOf};
+ghost use Rattle.tree.specs.Verdicts.{every, isMissing, firstOf};
 ghost use Rattle.verdict.specs.Room.{filler};
 ghost use Rattle.verdict.specs.Integrity.{integrityOf, cameFrom};
-ghost use Rattle.verdict.specs.Steps.{gotBy, roomCounts, roomCounted, namedNode, kept, judgedOf, weighed};
+ghost use Rattle.verdict.specs.Steps.{trustedIn, gotBy, roomCounts, roomCounted, namedNode, kept, judgedOf, weighed};
 ghost use Rattle.verdict.specs.Steps.{judgeSpec};
 use crate::integrity;
 use crate::peaks;
@@ -26,8 +26,9 @@ use hash::value;
 use hash::value::HashValue;
 use tree::verdict::Verdict;
 
-// The words of a scratch: eight for a climb's node of each height from 0 to 32, so that storing hashes none again.
-pub const SCRATCH: usize = 264;
+// The words of a scratch: eight for a climb's node of each height below that of the tree over the longest pack, so that
+// storing hashes none again.
+pub const SCRATCH: usize = 72;
 
 // Whether the sibling of the node of height h above chunk c is needed, h being below t, and did not come.
 fn sibling_missing(entries: &[u64], bytes: &[u8], c: u32, t: u32, h: u32) -> bool
@@ -261,25 +262,25 @@ fn weigh(
     Verdict::Fits(t)
 }
 
-// What becomes of chunk c of n that came with these hashes.
+// What becomes of chunk c of n that came with these hashes; `opened` says whether the peaks are trusted.
 pub fn judge(
     scratch: &mut [u32; SCRATCH],
     hashes: &[u32],
     trusted: &[u32],
+    opened: bool,
     root: HashValue,
     n: u32,
+    top: u32,
     c: u32,
     chunk: &[u8],
     entries: &[u64],
     bytes: &[u8],
 ) -> Verdict
-    requires { ⌜ c < n ⌝ }
+    requires { ⌜ (c < n) × (top ≡ levels n) × (top ≤ 32) × (opened ≡ every (trustedIn (now trusted)) (peaks n)) ⌝ }
     ensures { λ r. ⌜ judgedOf r (now (scratch .exit))
         ≡ judgeSpec (now (scratch .entry)) n (bytesOf (root .words)) (now (hashes .entry)) (now (trusted .entry)) c
         (now (chunk .entry)) (integrityOf (now (entries .entry)) (now (bytes .entry))) ⌝ }
 {
-    let top = tree::pack::levels(n);
-    let opened = peaks::all_trusted(trusted, n, top);
     let t = reach(trusted, opened, n, c, top);
     let missing = first_missing(entries, bytes, opened, n, c, top, t);
     match missing {
