@@ -281,7 +281,10 @@ enum ppspp_step {
     PPSPP_STEP_NO_METHOD = 12 /* no such addressing */
 };
 
-/* Of a message, `found` gets its type and numbers as in the table, and two places; else it stays as it was. */
+/*
+ * Of a message, `found` gets its type and numbers as in the table, and where its bytes and the next message stand.
+ * Unless there is one, it stays as it was.
+ */
 #define PPSPP_FOUND_WORDS 7u
 #define PPSPP_FOUND_TYPE 0u
 #define PPSPP_FOUND_FIRST 1u

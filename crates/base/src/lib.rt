@@ -9,7 +9,7 @@ pub enum Named {
     NoNode,
 }
 
-// What stands for no node where a number is wanted: no tree has it.
+// What stands for no node where a number is wanted: no tree over a pack has it.
 pub const NO_NODE: u64 = 18446744073709551615;
 
 // The number of the node named.

@@ -1,5 +1,6 @@
 -- What the crates above know of this one: of its definitions the names passed on here, which numbers a call can give, that a
--- refused one alters nothing, and demand 2 of what is taken and sent. Assumes nothing.
+-- refused one alters nothing, demand 2 of what is taken and sent, what an ACK names, and the node that 9 and 10 name. Assumes
+-- nothing.
 use mathlib.Core.Path.{_≡_, refl}
 use mathlib.Core.Option.{some}
 use mathlib.Core.List.{List, [], _∷_}
@@ -181,6 +182,6 @@ module _ (w : World) (clock id : ℕ) (s : List ℕ) where
   unfolding among
   take-missed = naming.take-names w clock id s 10 refl _ (λ c d o. named-missed (w .rooms) _ _ c d o)
 
-  -- Its number stands for it, since no node has the number that stands for none.
+  -- Its number names it: no node that is named has 2^64 - 1, which stands for none.
   pub take-node : {n : ℕ} → n ≡ nodeNumber (takeSpec w clock id s .node) → namedBy n ≡ takeSpec w clock id s .node
   take-node = named-back (takeSpec w clock id s .node) (naming.take-small w clock id s)

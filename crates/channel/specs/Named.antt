@@ -9,7 +9,7 @@ use Rattle.writer.proofs.Promise.{within}
 use Rattle.store.proofs.Promise.{Integrity, integrityOf}
 use Rattle.channel.specs.Take.{layoutIn}
 
--- Datagram s has DATA of a chunk, and of that chunk, its bytes, the hashes that came with it and the node named this holds.
+-- Datagram s has DATA of a chunk, and P holds of that chunk, its bytes, the hashes that came with it and the node named.
 pub record Names (st s : List ℕ) (x : Named) (P : (c : ℕ) (d : List ℕ) (o : Integrity) (b : ℕ) → Type 0) : Type 0 where
   pub chunk : ℕ
   pub timestamp : ℕ

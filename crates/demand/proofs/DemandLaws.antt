@@ -8,10 +8,11 @@ use borrow.Author.Tests.{le-ltb, eq-eqb, eqb-true}
 use lib.Dec.{eqb}
 use lib.ListN.{length}
 use lib.Seq.{take-all}
+use Rattle.tree.proofs.Promise.{rootNode}
 use Rattle.bits.proofs.Promise.{bitAt, countBits, rowWords, length-clearWords, count-full, full-count}
 use Rattle.hash.proofs.Promise.{bytesOf, words, words-length, bytes-words}
 use Rattle.held.proofs.Promise.{held-counted}
-use Rattle.store.proofs.Promise.{Rooms, countOf, Digest, Running, Whole, Alike, lengthAnswer, roomsAnswer, buildAnswer, rootOf, both-zero, order-accepted, build-accepted, root-words, start-zero, started-running, started-empty, build-zero, built-running, built-whole, content-root, running-hangs, whole-alike}
+use Rattle.store.proofs.Promise.{Rooms, countOf, Digest, Running, Whole, Alike, lengthAnswer, roomsAnswer, buildAnswer, rootOf, both-zero, order-accepted, build-accepted, root-words, start-zero, started-running, started-empty, build-zero, built-running, built-whole, content-root, running-root, running-hangs, whole-alike}
 use Rattle.order.specs.declared.Order.{Order}
 use Rattle.channel.specs.World.{Channels, World, orderLength, chunkCount}
 use Rattle.channel.specs.Answers.{peerWords, channelsAnswer, allRoomsAnswer, methodAnswer}
@@ -160,6 +161,10 @@ module _ (w : World) (ks : List Call) (ready : Ready w) where
         limit = rw (end .long) (ready .limit);
         under = record { long = refl; root = refl; running = rw (end .long, end .root) (end .running) };
       }
+
+-- the root is trusted after every list
+pub root-trusted : (w : World) (ks : List Call) → FreshOrBuilt w → bitAt (run w ks .rooms .trusted) (rootNode (chunksIn w)) ≡ true
+root-trusted w ks b = running-root (lengthIn w) (rootIn w) (run w ks .rooms) (end w ks (fresh-or-built-ready w b) .running)
 
 pub demand-3 : (w : World) (ks : List Call) → FreshOrBuilt w → Demand w ks
 demand-3 w ks b = record {

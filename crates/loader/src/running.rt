@@ -35,8 +35,8 @@ pub extern "C" fn ppspp_open(
     outcome.answer
 }
 
-// Takes in a datagram at a clock; the ID is for a channel that it may open. The node that 9 or 10 names is written as its
-// number, none as 2^64 - 1.
+// Takes in a datagram at a clock; the ID is for a channel that it may open. The node that 9 or 10 names is written as
+// its number, none as 2^64 - 1.
 #[no_mangle]
 pub extern "C" fn ppspp_take(
     state: &mut [u32],

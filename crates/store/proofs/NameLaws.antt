@@ -112,7 +112,7 @@ module _ (w : Rooms) (r : List ℕ) (L c : ℕ) (d : List ℕ) (o : Integrity) w
       (rw (ne-eqb answer-before 9 (before-not 9 refl), ne-eqb answer-before 10 (before-not 10 refl)))
 
   -- It is one of the tree, and has a number below that which stands for none.
-  pub take-inside : (b : ℕ) → takeSpec w r L c d o .node ≡ NodeNamed b → b < 2 * leafPlaces N
+  pub take-inside : (b : ℕ) → takeSpec w r L c d o .node ≡ NodeNamed b → suc b < 2 * leafPlaces N
   unfolding takeSpec
   take-inside b e =
       let p = node-second answer-before (number told) (named told) w _ e in
@@ -144,11 +144,15 @@ module _ (w : Rooms) (r : List ℕ) (L c : ℕ) (d : List ℕ) (o : Integrity) w
 
   -- 10
   ten-told : c < N → (v : Verdict) → told ≡ v → number v ≡ 10 → (b : ℕ) × (named v ≡ NodeNamed b) × NamesMissed L r w c d o b
-  unfolding NamesMissed
+  unfolding NamesMissed AllCame
   ten-told l (Fits t) e z = absurd (omega arith)
   ten-told l (Missing b) e z = absurd (omega arith)
-  ten-told l (WrongPeaks b) e z = (b, refl, inl (peaks-named sha256 filler N r (stateOf L w) c d (cameFrom o) b e))
-  ten-told l (WrongClimb b) e z = (b, refl, inr (climb-named sha256 filler N r (stateOf L w) c d (cameFrom o) b l e))
+  ten-told l (WrongPeaks b) e z =
+      let k = peaks-named sha256 filler N r (stateOf L w) c d (cameFrom o) b e in
+      (b, refl, (k .1, inl (k .0, k .2)))
+  ten-told l (WrongClimb b) e z =
+      let k = climb-named sha256 filler N r (stateOf L w) c d (cameFrom o) b l e in
+      (b, refl, (k .2, inr (k .0, k .1, k .3)))
 
   pub take-missed : takeSpec w r L c d o .answer ≡ 10
       → (b : ℕ) × (takeSpec w r L c d o .node ≡ NodeNamed b) × NamesMissed L r w c d o b

@@ -219,13 +219,13 @@ module _ (w : Rooms) (r : List ℕ) (L c : ℕ) (d : List ℕ) (o : Integrity) w
   came-not-nine = names.came-not-nine w r L c d o
 
   -- It is a node of the tree, so its number is below that which stands for none.
-  pub named-inside : (b : ℕ) → takeSpec w r L c d o .node ≡ Node b → b < 2 * leafPlaces (countOf L)
+  pub named-inside : (b : ℕ) → takeSpec w r L c d o .node ≡ Node b → suc b < 2 * leafPlaces (countOf L)
   named-inside = names.take-inside w r L c d o
 
   pub named-small : (b : ℕ) → takeSpec w r L c d o .node ≡ Node b → b < noNode
   named-small = names.take-small w r L c d o
 
--- Two sets of hashes that agree on those that are needed give the same answer and the same rooms: hashes not needed aren't
+-- Two sets of hashes that agree on those that are needed give the same answer, node and rooms: hashes not needed aren't
 -- looked at.
 pub needed-only : (w : Rooms) (r : List ℕ) (L c : ℕ) (d : List ℕ) (o p : Integrity) → SameNeeded L w c o p → takeSpec w r L c d o ≡ takeSpec w r L c d p
 needed-only w r L c d o p A = take-same w L c o p A r d
@@ -246,7 +246,7 @@ module _ (w : Rooms) (s : List ℕ) (c : ℕ) (o : Integrity) (T : HoldsTrue w s
 
 -- ---- what a running store holds
 
--- Its root counts as trusted.
+-- Its root is trusted.
 pub running-root : (L : ℕ) (r : List ℕ) (w : Rooms) → Running L r w → bitAt (w .trusted) (rootNode (countOf L)) ≡ true
 running-root L r w R = R .root-trusted
 

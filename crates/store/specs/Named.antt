@@ -17,12 +17,14 @@ use Rattle.verdict.specs.Rooms.{Rooms, countOf, stateOf}
 unfoldable pub AllCame : ℕ → Rooms → ℕ → Integrity → Type 0
 AllCame L w c o = Each (λ n. isThere (hashFor o (num n)) ≡ true) (needed (countOf L) (stateOf L w) c)
 
--- 9 names node b: the first of these that did not come.
+-- 9 names node b: the first of them, in the sending order, that did not come.
 unfoldable pub NamesMissing : ℕ → Rooms → ℕ → Integrity → ℕ → Type 0
 NamesMissing L w c o b = (n : Node) × (b ≡ num n) × FirstMissing (countOf L) (stateOf L w) c (cameFrom o) n
 
--- 10 names node b: the root, which the peaks do not give, or the node that counts as trusted and that the climb misses.
+-- 10 names node b: all of them came, and it is the root, which the peaks do not give, or else the node that counts as
+-- trusted and that the climb misses.
 unfoldable pub NamesMissed : ℕ → List ℕ → Rooms → ℕ → List ℕ → Integrity → ℕ → Type 0
 NamesMissed L r w c d o b =
-    ((b ≡ rootNode (countOf L)) × MissesRoot sha256 filler (countOf L) r (stateOf L w) (cameFrom o))
-    ⊎ ((n : Node) × (b ≡ num n) × MissesNode sha256 filler (countOf L) (stateOf L w) c d (cameFrom o) n)
+    AllCame L w c o
+    × (((b ≡ rootNode (countOf L)) × MissesRoot sha256 filler (countOf L) r (stateOf L w) (cameFrom o))
+    ⊎ ((n : Node) × (b ≡ num n) × MissesNode sha256 filler (countOf L) r (stateOf L w) c d (cameFrom o) n))

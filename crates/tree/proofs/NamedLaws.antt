@@ -1,7 +1,7 @@
 -- What the verdict names: of the needed nodes the first that is missing, the trusted node that the climb misses, or the
 -- root; in any case a node of the tree. Assumes nothing.
 use mathlib.Core.Path.{_≡_, refl, sym, ap, _∙_}
-use mathlib.Core.Logic.{_≢_}
+use mathlib.Core.Logic.{_⊎_, inl, inr, _≢_}
 use mathlib.Core.Bool.{Bool, true, false, not, true≢false}
 use mathlib.Core.List.{List, [], _∷_, _++_}
 use mathlib.Core.Option.{Option, none, some}
@@ -10,7 +10,7 @@ use native.Mathlib.Omega.{arith}
 use borrow.Author.Tests.{not-false, le-leb}
 use lib.Pow.{pow-pos}
 use Rattle.base.specs.Same.{same}
-use Rattle.base.proofs.SameLaws.{same-refl}
+use Rattle.base.proofs.SameLaws.{same-is, same-refl}
 use Rattle.base.specs.Pick.{pick}
 use Rattle.base.specs.declared.Named.the-variants.{Node as NodeNamed}
 use Rattle.tree.specs.Node.{Node, node, num, above}
@@ -72,11 +72,12 @@ module _ (H : List ℕ → List ℕ) (Z : List ℕ) (N : ℕ) (r : List ℕ) (s 
       let k = verdict-means H Z N r s c d m (Missing b) e in
       (k .0, k .1, first-missing N s c m (k .0) (k .2))
 
-  pub peaks-named : verdict H Z N r s c d m ≡ WrongPeaks b → (b ≡ rootNode N) × MissesRoot H Z N r s m
+  pub peaks-named : verdict H Z N r s c d m ≡ WrongPeaks b
+      → (b ≡ rootNode N) × Each (There N s c m) (needed N s c) × MissesRoot H Z N r s m
   unfolding rooted
   peaks-named e =
       let k = verdict-means H Z N r s c d m (WrongPeaks b) e in
-      (k .0, go (peaksTrusted N s) refl (k .1))
+      (k .0, none-missing N s c m (k .1), go (peaksTrusted N s) refl (k .2))
     where
       go : (t : Bool) → peaksTrusted N s ≡ t → pick t true (same (combined H Z N (got Z m)) r) ≡ false → MissesRoot H Z N r s m
       go true p q = absurd (true≢false q)
@@ -85,20 +86,27 @@ module _ (H : List ℕ → List ℕ) (Z : List ℕ) (N : ℕ) (r : List ℕ) (s 
         differs = λ z. true≢false (sym (same-refl r) ∙ ap (λ (x : List ℕ). same x r) (sym z) ∙ q);
       }
 
-  pub climb-named : c < N → verdict H Z N r s c d m ≡ WrongClimb b → (n : Node) × (b ≡ num n) × MissesNode H Z N s c d m n
-  unfolding met
+  right : (t : Bool) → peaksTrusted N s ≡ t → pick t true (same (combined H Z N (got Z m)) r) ≡ true
+      → (peaksTrusted N s ≡ true) ⊎ (combined H Z N (got Z m) ≡ r)
+  right true p q = inl p
+  right false p q = inr (same-is (combined H Z N (got Z m)) r q)
+
+  pub climb-named : c < N → verdict H Z N r s c d m ≡ WrongClimb b
+      → (n : Node) × (b ≡ num n) × Each (There N s c m) (needed N s c) × MissesNode H Z N r s c d m n
+  unfolding met rooted
   climb-named l e =
       let k = verdict-means H Z N r s c d m (WrongClimb b) e in
       let t = reached N s c in
       let R = reached-least N s c l in
       let v = countedHash N s (got Z m) t (above t c) in
-      let M : MissesNode H Z N s c d m (node t (above t c)) = record {
+      let M : MissesNode H Z N r s c d m (node t (above t c)) = record {
+        peaks-right = right (peaksTrusted N s) refl (k .2);
         is-above = refl;
         trusted = R .passes;
         first = λ h u. R .before h (omega arith) u;
-        differs = λ z. true≢false (sym (same-refl v) ∙ ap (λ (x : List ℕ). same x v) (sym z) ∙ k .1);
+        differs = λ z. true≢false (sym (same-refl v) ∙ ap (λ (x : List ℕ). same x v) (sym z) ∙ k .3);
       } in
-      (node t (above t c), k .0, M)
+      (node t (above t c), k .0, none-missing N s c m (k .1), M)
 
 -- ---- a node of the tree
 
@@ -128,18 +136,18 @@ needed-inner N s c l =
     go true = tt
     go false = rw (peaks-bits N) (peaks-inner N (suc (levels N)))
 
-inner-number : (N : ℕ) (n : Node) → Inner N n → num n < 2 * leafPlaces N
+inner-number : (N : ℕ) (n : Node) → Inner N n → suc (num n) < 2 * leafPlaces N
 inner-number N n i = omega (arith, levels-holds N, pow-pos (n .high))
 
 module _ (H : List ℕ → List ℕ) (Z : List ℕ) (N : ℕ) (r : List ℕ) (s : State) (c : ℕ) (l : c < N) (d : List ℕ) (m : Came) where
   -- A node that is named is one of the tree over N chunks.
-  pub named-inside : (b : ℕ) → named (verdict H Z N r s c d m) ≡ NodeNamed b → b < 2 * leafPlaces N
+  pub named-inside : (b : ℕ) → named (verdict H Z N r s c d m) ≡ NodeNamed b → suc b < 2 * leafPlaces N
   named-inside b e = go (verdict H Z N r s c d m) refl e
     where
-      says : (x : ℕ) → NodeNamed x ≡ NodeNamed b → x < 2 * leafPlaces N → b < 2 * leafPlaces N
+      says : (x : ℕ) → NodeNamed x ≡ NodeNamed b → suc x < 2 * leafPlaces N → suc b < 2 * leafPlaces N
       says x e u = let z : x ≡ b = cc in rw (← z) u
 
-      go : (v : Verdict) → verdict H Z N r s c d m ≡ v → named v ≡ NodeNamed b → b < 2 * leafPlaces N
+      go : (v : Verdict) → verdict H Z N r s c d m ≡ v → named v ≡ NodeNamed b → suc b < 2 * leafPlaces N
       go (Fits t) p e = absurd (let w : _≡_ {A = ℕ} 0 1 = cc in omega arith)
       go (Missing x) p e =
           let k = missing-named H Z N r s c d m x p in

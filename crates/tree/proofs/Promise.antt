@@ -19,8 +19,8 @@ use Rattle.tree.proofs.SentNumberLaws as numbers
 pub use Rattle.tree.specs.Bin.{bin, first, last}
 pub use Rattle.tree.specs.Node.{Node, num, above, siblingFrom}
 unfoldable pub use Rattle.tree.specs.Range.{covers, nodeOfRange}
--- Packs and chunks: the sizes of the yard profile, the number of chunks, a chunk's size, the leaf places of the least tree.
-pub use Rattle.tree.specs.Pack.{chunkSize, maxLength, chunks, size, levels, leafPlaces}
+-- Packs and chunks: the sizes of the yard profile, the number of chunks, a chunk's size, the leaf places of the least tree and its root.
+pub use Rattle.tree.specs.Pack.{chunkSize, maxLength, chunks, size, levels, leafPlaces, rootNode}
 -- The peaks and siblings that go out with a chunk, in the sending order.
 pub use Rattle.tree.specs.Peaks.{sent}
 pub use Rattle.tree.specs.Steps.{peakBit, siblingAt, peakTurn, siblingTurn}

@@ -71,8 +71,10 @@ module _ (H : List ℕ → List ℕ) (Z : List ℕ) (N : ℕ) (r : List ℕ) (s 
   abbrev pub Means : Verdict → Type 0
   Means (Fits t) = FitsMeans H Z N r s c d m t
   Means (Missing b) = (n : Node) × (b ≡ num n) × (firstMissing N s c m ≡ some n)
-  Means (WrongPeaks b) = (b ≡ rootNode N) × (rooted H Z N r s c d m ≡ false)
-  Means (WrongClimb b) = (b ≡ bin (reached N s c) (above (reached N s c) c)) × (met H Z N r s c d m ≡ false)
+  Means (WrongPeaks b) = (b ≡ rootNode N) × (firstMissing N s c m ≡ none) × (rooted H Z N r s c d m ≡ false)
+  Means (WrongClimb b) =
+      (b ≡ bin (reached N s c) (above (reached N s c) c)) × (firstMissing N s c m ≡ none)
+      × (rooted H Z N r s c d m ≡ true) × (met H Z N r s c d m ≡ false)
 
   fits-so : rooted H Z N r s c d m ≡ true → met H Z N r s c d m ≡ true → FitsMeans H Z N r s c d m u
   unfolding met
@@ -90,8 +92,8 @@ module _ (H : List ℕ → List ℕ) (Z : List ℕ) (N : ℕ) (r : List ℕ) (s 
       go : (o : Option Node) (y z : Bool) → firstMissing N s c m ≡ o → rooted H Z N r s c d m ≡ y → met H Z N r s c d m ≡ z
           → unlessMissing o (pick y (pick z (Fits u) (WrongClimb (bin u (above u c)))) (WrongPeaks (rootNode N))) ≡ v → Means v
       go (some n) y z p q i e = rw (← e) (n, refl, p)
-      go none false z p q i e = rw (← e) (refl, q)
-      go none true false p q i e = rw (← e) (refl, i)
+      go none false z p q i e = rw (← e) (refl, p, q)
+      go none true false p q i e = rw (← e) (refl, p, q, i)
       go none true true p q i e = rw (← e) (fits-so q i)
 
   pub fits-means : (t : ℕ) → verdict H Z N r s c d m ≡ Fits t → FitsMeans H Z N r s c d m t

@@ -15,11 +15,11 @@ abbrev pub In : Node → List Node → Type 0
 In n [] = ⊥
 In n (m ∷ ms) = (n ≡ m) ⊎ In n ms
 
--- n goes out before m: "by height falling, then by first chunk rising".
+-- n stands before m in the sending order: by height falling, then by first chunk rising.
 abbrev pub Precedes : Node → Node → Type 0
 Precedes n m = (m .high < n .high) ⊎ ((m .high ≡ n .high) × (n .from < m .from))
 
--- 9: n is needed for chunk c and did not come, and every needed node that goes out before it came.
+-- 9: n is needed for chunk c and did not come, and every needed node before it came.
 pub record FirstMissing (N : ℕ) (s : State) (c : ℕ) (m : Came) (n : Node) : Type 0 where
   pub needs : In n (needed N s c)
   pub absent : m (n .high) (n .from) ≡ none
@@ -30,9 +30,11 @@ pub record MissesRoot (H : List ℕ → List ℕ) (Z : List ℕ) (N : ℕ) (r : 
   pub untrusted : peaksTrusted N s ≡ false
   pub differs : combined H Z N (got Z m) ≢ r
 
--- 10 with another node n above chunk c: it counts as trusted, none below it does, and the climb gives another hash.
-pub record MissesNode (H : List ℕ → List ℕ) (Z : List ℕ) (N : ℕ) (s : State) (c : ℕ) (d : List ℕ) (m : Came)
-    (n : Node) : Type 0 where
+-- 10 with the first node n at or above the leaf of chunk c that counts as trusted: the peaks are trusted or give the
+-- root, and the climb gives another hash there. Where N is a power of two it may be the root.
+pub record MissesNode (H : List ℕ → List ℕ) (Z : List ℕ) (N : ℕ) (r : List ℕ) (s : State) (c : ℕ) (d : List ℕ)
+    (m : Came) (n : Node) : Type 0 where
+  pub peaks-right : (peaksTrusted N s ≡ true) ⊎ (combined H Z N (got Z m) ≡ r)
   pub is-above : n .from ≡ above (n .high) c
   pub trusted : counts N s (n .high) (n .from) ≡ true
   pub first : (h : ℕ) → h < n .high → counts N s h (above h c) ≡ false

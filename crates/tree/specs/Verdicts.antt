@@ -21,7 +21,7 @@ use Rattle.tree.specs.declared.verdict.Verdict.the-variants.{Fits, Missi
 abbrev pub Came : Type 0
 Came = ℕ → ℕ → Option (List ℕ)
 
--- One that isn't there is read as the filler: no verdict but Missing depends on it.
+-- One that isn't there is read as the filler; no verdict depends on that.
 abbrev pub got : List ℕ → Came → ℕ → ℕ → List ℕ
 got Z m h a = Option·getD (m h a) Z
 

@@ -10,7 +10,7 @@ pub enum Verdict {
     Missing(u64),
     // The peaks don't give the root, this node.
     WrongPeaks(u64),
-    // The climb misses this trusted node.
+    // The climb misses this node, which counts as trusted.
     WrongClimb(u64),
 }
 

@@ -14,8 +14,8 @@ ghost use Rattle.tree.specs.Tree.{given, joined, climb};
 ghost use Rattle.tree.specs.Verdicts.{every, isMissing, firstOf};
 ghost use Rattle.verdict.specs.Room.{filler};
 ghost use Rattle.verdict.specs.Integrity.{integrityOf, cameFrom};
-ghost use Rattle.verdict.specs.Steps.{trustedIn, gotBy, roomCounts, roomCounted, namedNode, kept, judgedOf, weighed};
-ghost use Rattle.verdict.specs.Steps.{judgeSpec};
+ghost use Rattle.verdict.specs.Steps.{trustedIn, gotBy, roomCounts, roomCounted, namedNode, kept};
+ghost use Rattle.verdict.specs.Steps.{judgedOf, weighed, judgeSpec};
 use crate::integrity;
 use crate::peaks;
 use crate::room;
@@ -232,8 +232,8 @@ fn met(
     value::same(x, y)
 }
 
-// What becomes of chunk c of n where no hash is missing, to be hung from the node of height t. The chunk is hashed once,
-// and only where that decides; the scratch then keeps the climb.
+// What becomes of chunk c of n where no hash is missing, to be hung from the node of height t. The chunk is hashed
+// once, and only where that decides; the scratch then keeps the climb.
 fn weigh(
     scratch: &mut [u32; SCRATCH],
     hashes: &[u32],
