@@ -4,45 +4,31 @@ use Rattle.store_c.proofs.RootLaws.{rooted-not, rooted-by, node-by}
 use borrow.Author.Needs.{needs}
 use Rattle.store_c.proofs.store_take.Statement.{statement}
 use Rattle.store_c.proofs.store_take.Tie as tie
-use Rattle.store_c.proofs.store_take.Reads as reads
-use Rattle.store_c.proofs.store_take.Lts as lts
-use Rattle.base.proofs.node_number.Reads as node-number-reads
-use Rattle.store.proofs.calls.take.Reads as take-reads
-use Rattle.verdict.proofs.room.read.Reads as read-reads
 
--- src/lib.rt:102:9
 returns : tie.Need-returns
 returns c = let a = c .before .before .before .before .before .before .before .before .before .args in rooted-not (a .root .now) (roomsOf (a .chunks .now) (a .map .now) (a .hashes .now) (a .trusted .now)) _ (c .if1 .taken)
 
--- src/lib.rt:105:15
 read-requires : tie.Need-read-requires
 read-requires c κs = search needs
 
--- src/lib.rt:109:9
 take-requires : tie.Need-take-requires
 take-requires c κs = search needs
 
--- src/lib.rt:121:13
 node-number-requires : tie.Need-node-number-requires
 node-number-requires c κs = search needs
 
--- src/lib.rt:78:1
 same-length : tie.Need-same-length
 same-length c = search needs
 
--- src/lib.rt:78:1
 same-length-2 : tie.Need-same-length-2
 same-length-2 c = search needs
 
--- src/lib.rt:78:1
 same-length-3 : tie.Need-same-length-3
 same-length-3 c = search needs
 
--- src/lib.rt:78:1
 same-length-4 : tie.Need-same-length-4
 same-length-4 c = search needs
 
--- src/lib.rt:78:1
 returns-2 : tie.Need-returns-2
 returns-2 c = let a = c .before .before .before .before .before .before .before .before .before .before .before .before .before .before .before .before .before .before .before .before .before .before .before .before .args in rooted-by (λ r. takeSpec (roomsOf (a .chunks .now) (a .map .now) (a .hashes .now) (a .trusted .now)) r (a .length) (a .c) (a .chunk .now) (integrityOf (a .entries .now) (a .bytes .now))) (a .root .now) (roomsOf (a .chunks .now) (a .map .now) (a .hashes .now) (a .trusted .now)) (omega arith) (c .before .before .before .before .before .before .before .before .before .before .before .before .before .before .read .ensures) (node-by (roomsOf (a .chunks .now) (a .map .now) (a .hashes .now) (a .trusted .now)) _ (a .length) (a .c) (a .chunk .now) (integrityOf (a .entries .now) (a .bytes .now)) (c .before .before .before .before .before .before .before .before .before .take .ensures) (c .node-number .ensures))
 

@@ -11,134 +11,94 @@ use Rattle.wire.proofs.Promise.{surveyAll}
 use borrow.Author.Needs.{needs}
 use Rattle.channel.proofs.taking.take.Statement.{statement}
 use Rattle.channel.proofs.taking.take.Tie as tie
-use Rattle.channel.proofs.taking.take.Reads as reads
-use Rattle.channel.proofs.taking.take.Lts as lts
-use Rattle.channel.proofs.messages.take_messages.Reads as take-messages-reads
-use Rattle.channel.proofs.outcome.unnamed.Reads as unnamed-reads
-use Rattle.channel.proofs.rooms.own_rooms_answer.Reads as own-rooms-answer-reads
-use Rattle.channel.proofs.taking.rule.Reads as rule-reads
-use Rattle.table.proofs.words.format_in.Reads as format-in-reads
-use Rattle.table.proofs.words.length_in.Reads as length-in-reads
-use Rattle.wire.proofs.pass.has_size.Reads as has-size-reads
-use Rattle.wire.proofs.pass.plain_front.Reads as plain-front-reads
 
--- src/taking.rt:218:9
 length-in-requires : tie.Need-length-in-requires
 length-in-requires c κs = search needs
 
--- src/taking.rt:217:9
 own-rooms-answer-requires : tie.Need-own-rooms-answer-requires
 own-rooms-answer-requires c κs = search needs
 
--- src/taking.rt:229:9
 same-length : tie.Need-same-length
 same-length c = search needs
 
--- src/taking.rt:229:9
 returns : tie.Need-returns
 returns c = let a = c .before .before .before .before .before .before .before .before .before .before .before .before .before .args in let w = worldOf (a .state .now) (a .chunks .now) (a .map .now) (a .hashes .now) (a .trusted .now) (a .has .now) (a .wants .now) (a .reply .now) in take-refused w (a .clock) (a .id) (a .datagram .now) (own-number w (c .before .before .length-in .ensures) (c .before .own-rooms-answer .ensures)) (c .if1 .taken)
 
--- src/taking.rt:235:9
 has-size-requires : tie.Need-has-size-requires
 has-size-requires c κs = search needs
 
--- src/taking.rt:236:9
 same-length-2 : tie.Need-same-length-2
 same-length-2 c = search needs
 
--- src/taking.rt:236:9
 returns-2 : tie.Need-returns-2
 returns-2 c = let a = c .before .before .before .before .before .before .before .before .before .before .before .before .before .before .before .args in let w = worldOf (a .state .now) (a .chunks .now) (a .map .now) (a .hashes .now) (a .trusted .now) (a .has .now) (a .wants .now) (a .reply .now) in take-laid w (a .clock) (a .id) (a .datagram .now) (own-number w (c .before .before .before .before .length-in .ensures) (c .before .before .before .own-rooms-answer .ensures)) (omega (arith, c .before .before .if1 .left)) (laid-unsized w (a .clock) (a .id) (a .datagram .now) (c .before .has-size .ensures) (c .if2 .taken))
 
--- src/taking.rt:242:9
 format-in-requires : tie.Need-format-in-requires
 format-in-requires c κs = search needs
 
--- src/taking.rt:243:9
 plain-front-requires : tie.Need-plain-front-requires
 plain-front-requires c κs = size-sound _ (sym (c .before .before .before .has-size .ensures) ∙ not-false _ (c .before .before .if2 .left))
 
--- src/taking.rt:244:9
 rule-requires : tie.Need-rule-requires
 rule-requires c κs = let a = c .before .before .before .before .before .before .before .before .before .before .before .before .before .before .before .before .before .before .before .before .before .before .before .before .before .before .args in let w = worldOf (a .state .now) (a .chunks .now) (a .map .now) (a .hashes .now) (a .trusted .now) (a .has .now) (a .wants .now) (a .reply .now) in let p = own-accepted w (sym (own-number w (c .before .before .before .before .before .before .before .before .before .before .before .before .before .before .before .length-in .ensures) (c .before .before .before .before .before .before .before .before .before .before .before .before .before .before .own-rooms-answer .ensures)) ∙ omega (arith, c .before .before .before .before .before .before .before .before .before .before .before .before .before .if1 .left)) in (p .0, (c .before .before .before .before .before .before .before .before .before .format-in .ensures, (p .2, c .before .before .before .before .before .before .before .before .plain-front .ensures)))
 
--- src/taking.rt:261:9
 same-length-3 : tie.Need-same-length-3
 same-length-3 c = search needs
 
--- src/taking.rt:261:9
 same-length-4 : tie.Need-same-length-4
 same-length-4 c = search needs
 
--- src/taking.rt:261:9
 same-length-5 : tie.Need-same-length-5
 same-length-5 c = search needs
 
--- src/taking.rt:261:9
 same-length-6 : tie.Need-same-length-6
 same-length-6 c = search needs
 
--- src/taking.rt:261:9
 same-length-7 : tie.Need-same-length-7
 same-length-7 c = search needs
 
--- src/taking.rt:261:9
 same-length-8 : tie.Need-same-length-8
 same-length-8 c = search needs
 
--- src/taking.rt:261:9
 same-length-9 : tie.Need-same-length-9
 same-length-9 c = search needs
 
--- src/taking.rt:261:9
 same-length-10 : tie.Need-same-length-10
 same-length-10 c = search needs
 
--- src/taking.rt:261:9
 returns-3 : tie.Need-returns-3
 returns-3 c = let a = c .before .before .before .before .before .before .before .before .before .before .before .before .before .before .before .before .before .before .before .before .before .before .before .before .before .before .before .before .before .before .before .before .before .before .before .before .before .before .before .before .before .before .before .before .before .args in let w = worldOf (a .state .now) (a .chunks .now) (a .map .now) (a .hashes .now) (a .trusted .now) (a .has .now) (a .wants .now) (a .reply .now) in take-laid w (a .clock) (a .id) (a .datagram .now) (own-number w (c .before .before .before .before .before .before .before .before .before .before .before .before .before .before .before .before .before .before .before .before .before .before .before .before .before .before .before .before .before .before .before .before .before .before .length-in .ensures) (c .before .before .before .before .before .before .before .before .before .before .before .before .before .before .before .before .before .before .before .before .before .before .before .before .before .before .before .before .before .before .before .before .before .own-rooms-answer .ensures)) (omega (arith, c .before .before .before .before .before .before .before .before .before .before .before .before .before .before .before .before .before .before .before .before .before .before .before .before .before .before .before .before .before .before .before .before .if1 .left)) (ruled-done w (a .clock) (a .id) (a .datagram .now) (layoutIn (a .state .now) (a .datagram .now) .layout) (c .before .before .before .before .before .before .before .before .before .before .before .before .before .before .before .before .before .before .rule .ensures) (c .if3 .taken))
 
--- src/taking.rt:267:22
 take-messages-requires : tie.Need-take-messages-requires
 take-messages-requires c κs = let a = c .before .before .before .before .before .before .before .before .before .before .before .before .before .before .before .before .before .before .before .before .before .before .before .before .before .before .before .before .before .before .before .before .before .before .before .before .before .before .before .before .before .before .before .before .before .before .before .before .before .args in let w = worldOf (a .state .now) (a .chunks .now) (a .map .now) (a .hashes .now) (a .trusted .now) (a .has .now) (a .wants .now) (a .reply .now) in let l = ruled-left w (a .clock) (a .id) (a .datagram .now) (layoutIn (a .state .now) (a .datagram .now) .layout) (c .before .before .before .before .before .before .before .before .before .before .before .before .before .before .before .before .before .before .before .before .before .before .rule .ensures) (c .before .before .before .before .if3 .left) in (ap (λ (x : World). lengthAnswer (orderLength (x .channels .state))) (l .0) ∙ own-accepted w (sym (own-number w (c .before .before .before .before .before .before .before .before .before .before .before .before .before .before .before .before .before .before .before .before .before .before .before .before .before .before .before .before .before .before .before .before .before .before .before .before .before .before .length-in .ensures) (c .before .before .before .before .before .before .before .before .before .before .before .before .before .before .before .before .before .before .before .before .before .before .before .before .before .before .before .before .before .before .before .before .before .before .before .before .before .own-rooms-answer .ensures)) ∙ omega (arith, c .before .before .before .before .before .before .before .before .before .before .before .before .before .before .before .before .before .before .before .before .before .before .before .before .before .before .before .before .before .before .before .before .before .before .before .before .if1 .left)) .0, (c .before .before .before .before .before .before .before .before .before .before .before .before .before .before .before .before .before .before .before .before .before .before .before .before .before .before .before .before .before .before .before .before .format-in .ensures ∙ sym (ap (λ (x : World). orderFormat (x .channels .state)) (l .0)), (c .before .before .before .before .before .before .before .before .before .before .before .before .before .before .before .before .before .before .before .before .before .before .before .before .before .before .before .before .before .before .before .plain-front .ensures .low, l .1 ∙ sym (ap (λ (x : World). surveyAll (orderFormat (x .channels .state)) (a .datagram .now)) (l .0)))))
 
--- src/taking.rt:267:5
 unnamed-requires : tie.Need-unnamed-requires
 unnamed-requires c κs = search needs
 
--- src/taking.rt:196:1
 same-length-11 : tie.Need-same-length-11
 same-length-11 c = search needs
 
--- src/taking.rt:196:1
 same-length-12 : tie.Need-same-length-12
 same-length-12 c = search needs
 
--- src/taking.rt:196:1
 same-length-13 : tie.Need-same-length-13
 same-length-13 c = search needs
 
--- src/taking.rt:196:1
 same-length-14 : tie.Need-same-length-14
 same-length-14 c = search needs
 
--- src/taking.rt:196:1
 same-length-15 : tie.Need-same-length-15
 same-length-15 c = search needs
 
--- src/taking.rt:196:1
 same-length-16 : tie.Need-same-length-16
 same-length-16 c = search needs
 
--- src/taking.rt:196:1
 same-length-17 : tie.Need-same-length-17
 same-length-17 c = search needs
 
--- src/taking.rt:196:1
 same-length-18 : tie.Need-same-length-18
 same-length-18 c = search needs
 
--- src/taking.rt:196:1
 returns-4 : tie.Need-returns-4
 returns-4 c = let a = c .before .before .before .before .before .before .before .before .before .before .before .before .before .before .before .before .before .before .before .before .before .before .before .before .before .before .before .before .before .before .before .before .before .before .before .before .before .before .before .before .before .before .before .before .before .before .before .before .before .before .before .before .before .before .before .before .before .args in let w = worldOf (a .state .now) (a .chunks .now) (a .map .now) (a .hashes .now) (a .trusted .now) (a .has .now) (a .wants .now) (a .reply .now) in let l = ruled-left w (a .clock) (a .id) (a .datagram .now) (layoutIn (a .state .now) (a .datagram .now) .layout) (c .before .before .before .before .before .before .before .before .before .before .before .before .before .before .before .before .before .before .before .before .before .before .before .before .before .before .before .before .before .before .rule .ensures) (c .before .before .before .before .before .before .before .before .before .before .before .before .if3 .left) in take-laid w (a .clock) (a .id) (a .datagram .now) (own-number w (c .before .before .before .before .before .before .before .before .before .before .before .before .before .before .before .before .before .before .before .before .before .before .before .before .before .before .before .before .before .before .before .before .before .before .before .before .before .before .before .before .before .before .before .before .before .before .length-in .ensures) (c .before .before .before .before .before .before .before .before .before .before .before .before .before .before .before .before .before .before .before .before .before .before .before .before .before .before .before .before .before .before .before .before .before .before .before .before .before .before .before .before .before .before .before .before .before .own-rooms-answer .ensures)) (omega (arith, c .before .before .before .before .before .before .before .before .before .before .before .before .before .before .before .before .before .before .before .before .before .before .before .before .before .before .before .before .before .before .before .before .before .before .before .before .before .before .before .before .before .before .before .before .if1 .left)) (left-taken w (a .clock) (a .id) (a .datagram .now) (l .0) (l .2) (c .before .before .before .before .before .before .before .take-messages .ensures) (c .unnamed .ensures))
 

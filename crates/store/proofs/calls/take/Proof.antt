@@ -6,45 +6,31 @@ use Rattle.store.proofs.CallLaws.{take-refused, take-judged, take-facts
 use borrow.Author.Needs.{needs}
 use Rattle.store.proofs.calls.take.Statement.{statement}
 use Rattle.store.proofs.calls.take.Tie as tie
-use Rattle.store.proofs.calls.take.Reads as reads
-use Rattle.store.proofs.calls.take.Lts as lts
-use Rattle.store.proofs.answers.take_answer.Reads as take-answer-reads
-use Rattle.store.proofs.calls.store_if_fits.Reads as store-if-fits-reads
-use Rattle.tree.proofs.pack.chunk_count.Reads as chunk-count-reads
 
--- src/calls.rt:184:9
 take-answer-requires : tie.Need-take-answer-requires
 take-answer-requires c κs = search needs
 
--- src/calls.rt:194:9
 returns : tie.Need-returns
 returns c = let a = c .before .before .before .before .before .before .before .before .before .before .args in take-refused (roomsOf (a .chunks .now) (a .map .now) (a .hashes .now) (a .trusted .now)) (bytesOf (a .order .root .words)) (a .order .length) (a .c) (a .chunk .now) (integrityOf (a .entries .now) (a .bytes .now)) (c .before .take-answer .result) (c .before .take-answer .ensures) (c .if1 .taken)
 
--- src/calls.rt:199:9
 chunk-count-requires : tie.Need-chunk-count-requires
 chunk-count-requires c κs = search needs
 
--- src/calls.rt:200:5
 store-if-fits-requires : tie.Need-store-if-fits-requires
 store-if-fits-requires c κs = let a = c .before .before .before .before .before .before .before .before .before .before .before .before .before .before .before .args in take-facts (roomsOf (a .chunks .now) (a .map .now) (a .hashes .now) (a .trusted .now)) (bytesOf (a .order .root .words)) (a .order .length) (a .c) (a .chunk .now) (integrityOf (a .entries .now) (a .bytes .now)) (c .before .before .before .before .before .before .take-answer .result) (c .before .before .before .before .before .before .take-answer .ensures) (omega arith) (c .before .before .before .before .chunk-count .result) (c .before .before .before .before .chunk-count .ensures)
 
--- src/calls.rt:165:1
 same-length : tie.Need-same-length
 same-length c = search needs
 
--- src/calls.rt:165:1
 same-length-2 : tie.Need-same-length-2
 same-length-2 c = search needs
 
--- src/calls.rt:165:1
 same-length-3 : tie.Need-same-length-3
 same-length-3 c = search needs
 
--- src/calls.rt:165:1
 same-length-4 : tie.Need-same-length-4
 same-length-4 c = search needs
 
--- src/calls.rt:165:1
 returns-2 : tie.Need-returns-2
 returns-2 c = let a = c .before .before .before .before .before .before .before .before .before .before .before .before .before .before .before .before .before .before .before .before .before .before .before .before .args in take-judged (roomsOf (a .chunks .now) (a .map .now) (a .hashes .now) (a .trusted .now)) (bytesOf (a .order .root .words)) (a .order .length) (a .c) (a .chunk .now) (integrityOf (a .entries .now) (a .bytes .now)) (c .before .before .before .before .before .before .before .before .before .before .before .before .before .before .before .take-answer .result) (c .before .before .before .before .before .before .before .before .before .before .before .before .before .before .before .take-answer .ensures) (omega arith) (c .before .before .before .before .before .before .before .before .before .before .before .before .before .chunk-count .result) (c .before .before .before .before .before .before .before .before .before .before .before .before .before .chunk-count .ensures) (c .before .before .before .before .before .before .before .before .store-if-fits .ensures)
 

@@ -9,27 +9,19 @@ use Rattle.store.proofs.StoringLaws.{open-no, open-yes}
 use borrow.Author.Needs.{needs}
 use Rattle.store.proofs.storing.put_new_peaks.Statement.{statement}
 use Rattle.store.proofs.storing.put_new_peaks.Tie as tie
-use Rattle.store.proofs.storing.put_new_peaks.Reads as reads
-use Rattle.store.proofs.storing.put_new_peaks.Lts as lts
-use Rattle.store.proofs.storing.put_peaks.Reads as put-peaks-reads
 
--- src/storing.rt:109:9
 put-peaks-requires : tie.Need-put-peaks-requires
 put-peaks-requires c κs = search needs
 
--- src/storing.rt:89:1
 same-length : tie.Need-same-length
 same-length c = search needs
 
--- src/storing.rt:89:1
 same-length-2 : tie.Need-same-length-2
 same-length-2 c = search needs
 
--- src/storing.rt:89:1
 returns : tie.Need-returns
 returns c = let a = c .before .before .before .before .before .before .before .before .before .before .before .before .args in let e = c .before .before .before .before .before .before .before .before .before .before .before .before .pre .1 in let f = not-true _ (c .before .before .before .before .before .before .before .if1 .taken) in let g = c .before .before .before .before .put-peaks .ensures in (open-no (a .hashes .now) e f (g .0), open-no (a .trusted .now) e f (g .1))
 
--- src/storing.rt:89:1
 returns-2 : tie.Need-returns-2
 returns-2 c = let a = c .before .before .before .before .before .args in let o = integrityOf (a .entries .now) (a .bytes .now) in let e = c .before .before .before .before .before .pre .1 in let f = not-false _ (c .if1 .left) in (open-yes (a .hashes .now) (putPeaks putHash (gotBy o) (a .n) (suc (a .top)) (a .hashes .now)) e f, open-yes (a .trusted .now) (putPeaks mark (gotBy o) (a .n) (suc (a .top)) (a .trusted .now)) e f)
 

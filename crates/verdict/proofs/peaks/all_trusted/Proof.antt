@@ -8,9 +8,6 @@ use Rattle.verdict.specs.Steps.{trustedIn}
 use Rattle.verdict.proofs.LoopLaws.{every-none, every-next, every-not, every-end}
 use Rattle.verdict.proofs.peaks.all_trusted.Statement.{statement}
 use Rattle.verdict.proofs.peaks.all_trusted.Tie as tie
-use Rattle.verdict.proofs.peaks.all_trusted.Reads as reads
-use Rattle.verdict.proofs.peaks.all_trusted.Lts as lts
-use Rattle.verdict.proofs.peaks.peak_untrusted.Reads as peak-untrusted-reads
 
 abbrev Inv-loop : tie.InvT-loop
 Inv-loop trusted n top h₀ h = (h ≤ suc top) × (true ≡ every (trustedIn trusted) (peaksBelow n h))
@@ -18,31 +15,24 @@ Inv-loop trusted n top h₀ h = (h ≤ suc top) × (true ≡ every (trustedIn tr
 abbrev μ-loop : tie.MeasureT-loop
 μ-loop trusted n top h₀ h = suc top - h
 
--- src/peaks.rt:39:5
 loop-holds : tie.Need-loop-holds Inv-loop μ-loop
 loop-holds c = let a = c .before .args in (omega arith, every-none (trustedIn (a .trusted .now)) (a .n))
 
--- src/peaks.rt:40:12
 peak-untrusted-requires : tie.Need-peak-untrusted-requires Inv-loop μ-loop
 peak-untrusted-requires c κs = omega arith
 
--- src/peaks.rt:41:13
 returns : tie.Need-returns Inv-loop μ-loop
 returns c = let a = c .before .before .before .before .before .args in every-not (trustedIn (a .trusted .now)) (a .n) (c .before .before .before .loop .h) (c .before .peak-untrusted .ensures) (c .if1 .taken) (omega arith)
 
--- src/peaks.rt:43:13
 add-h : tie.Need-add-h Inv-loop μ-loop
 add-h c = record { fits = omega arith }
 
--- src/peaks.rt:39:5
 loop-less : tie.Need-loop-less Inv-loop μ-loop
 loop-less c = omega arith
 
--- src/peaks.rt:39:5
 loop-again : tie.Need-loop-again Inv-loop μ-loop
 loop-again c = let a = c .before .before .before .before .before .args in (omega arith, every-next (trustedIn (a .trusted .now)) (a .n) (c .before .before .before .loop .h) (c .before .peak-untrusted .ensures) (c .if1 .left) (c .before .before .before .loop .inv .1))
 
--- src/peaks.rt:34:1
 returns-2 : tie.Need-returns-2 Inv-loop μ-loop
 returns-2 c = let a = c .before .before .before .args in every-end (trustedIn (a .trusted .now)) (a .n) (c .before .loop .h) (omega arith) (c .before .loop .inv .1)
 

@@ -7,29 +7,19 @@ use Rattle.bits.proofs.Promise.{bitAt}
 use borrow.Author.Needs.{needs}
 use Rattle.verdict.proofs.peaks.peak_untrusted.Statement.{statement}
 use Rattle.verdict.proofs.peaks.peak_untrusted.Tie as tie
-use Rattle.verdict.proofs.peaks.peak_untrusted.Reads as reads
-use Rattle.verdict.proofs.peaks.peak_untrusted.Lts as lts
-use Rattle.bits.proofs.test.Reads as test-reads
-use Rattle.tree.proofs.peaks.peak.Reads as peak-reads
-use Rattle.tree.proofs.peaks.side.Reads as side-reads
 
--- src/peaks.rt:26:8
 side-requires : tie.Need-side-requires
 side-requires c κs = search needs
 
--- src/peaks.rt:27:9
 returns : tie.Need-returns
 returns c = let a = c .before .before .before .args in let e : a .n / 2 ^ a .h % 2 ≢ 1 = λ q. c .if1 .taken (c .before .side .ensures ∙ q) in rw (ne-eqb (a .n / 2 ^ a .h % 2) 1 e)
 
--- src/peaks.rt:29:9
 peak-requires : tie.Need-peak-requires
 peak-requires c κs = search needs
 
--- src/peaks.rt:30:6
 test-requires : tie.Need-test-requires
 test-requires c κs = search needs
 
--- src/peaks.rt:22:1
 returns-2 : tie.Need-returns-2
 returns-2 c = let a = c .before .before .before .before .before .args in rw (eq-eqb (a .n / 2 ^ a .h % 2) 1 (sym (c .before .before .before .side .ensures) ∙ c .before .before .if1 .left)) (ap not (c .test .ensures ∙ ap (bitAt (a .trusted .now)) (c .before .peak .ensures)))
 

@@ -11,12 +11,6 @@ use Rattle.verdict.specs.Steps.{namedNode}
 use Rattle.verdict.proofs.LoopLaws.{missing-begin, missing-end, missing-sibling, missing-peak, missing-none}
 use Rattle.verdict.proofs.verdicts.first_missing.Statement.{statement}
 use Rattle.verdict.proofs.verdicts.first_missing.Tie as tie
-use Rattle.verdict.proofs.verdicts.first_missing.Reads as reads
-use Rattle.verdict.proofs.verdicts.first_missing.Lts as lts
-use Rattle.tree.proofs.peaks.peak.Reads as peak-reads
-use Rattle.tree.proofs.peaks.sibling.Reads as sibling-reads
-use Rattle.verdict.proofs.verdicts.peak_missing.Reads as peak-missing-reads
-use Rattle.verdict.proofs.verdicts.sibling_missing.Reads as sibling-missing-reads
 
 abbrev Inv-loop : tie.InvT-loop
 Inv-loop entries bytes opened n c top t h₀ h =
@@ -27,51 +21,39 @@ Inv-loop entries bytes opened n c top t h₀ h =
 abbrev μ-loop : tie.MeasureT-loop
 μ-loop entries bytes opened n c top t h₀ h = h
 
--- src/verdicts.rt:74:17
 add-h : tie.Need-add-h Inv-loop μ-loop
 add-h c = record { fits = omega arith }
 
--- src/verdicts.rt:75:5
 loop-holds : tie.Need-loop-holds Inv-loop μ-loop
 loop-holds c = let a = c .before .before .args in let f = isMissing (cameFrom (integrityOf (a .entries .now) (a .bytes .now))) in (omega arith, missing-begin f (a .opened) (a .n) (a .c) (a .t) (c .before .before .pre .0) refl (c .before .before .pre .2))
 
--- src/verdicts.rt:76:13
 sub-h : tie.Need-sub-h Inv-loop μ-loop
 sub-h c = omega arith
 
--- src/verdicts.rt:77:12
 sibling-missing-requires : tie.Need-sibling-missing-requires Inv-loop μ-loop
 sibling-missing-requires c κs = omega arith
 
--- src/verdicts.rt:78:32
 sibling-requires : tie.Need-sibling-requires Inv-loop μ-loop
 sibling-requires c κs = omega arith
 
--- src/verdicts.rt:78:13
 returns : tie.Need-returns Inv-loop μ-loop
 returns c = let a = c .before .before .before .before .before .before .before .args in let f = isMissing (cameFrom (integrityOf (a .entries .now) (a .bytes .now))) in missing-sibling f (a .opened) (a .n) (a .c) (a .t) (c .before .before .before .before .loop .h) (omega arith) (c .before .before .sibling-missing .ensures) (c .before .if1 .taken) (c .sibling .ensures) ∙ ap namedNode (sym (c .before .before .before .before .loop .inv .1))
 
--- src/verdicts.rt:80:12
 peak-missing-requires : tie.Need-peak-missing-requires Inv-loop μ-loop
 peak-missing-requires c κs = omega arith
 
--- src/verdicts.rt:81:32
 peak-requires : tie.Need-peak-requires Inv-loop μ-loop
 peak-requires c κs = omega arith
 
--- src/verdicts.rt:81:13
 returns-2 : tie.Need-returns-2 Inv-loop μ-loop
 returns-2 c = let a = c .before .before .before .before .before .before .before .before .before .args in let f = isMissing (cameFrom (integrityOf (a .entries .now) (a .bytes .now))) in missing-peak f (a .opened) (a .n) (a .c) (a .t) (c .before .before .before .before .before .before .loop .h) (omega arith) (c .before .before .before .before .sibling-missing .ensures) (c .before .before .before .if1 .left) (c .before .before .peak-missing .ensures) (c .before .if2 .taken) (c .peak .ensures) ∙ ap namedNode (sym (c .before .before .before .before .before .before .loop .inv .1))
 
--- src/verdicts.rt:75:5
 loop-less : tie.Need-loop-less Inv-loop μ-loop
 loop-less c = omega arith
 
--- src/verdicts.rt:75:5
 loop-again : tie.Need-loop-again Inv-loop μ-loop
 loop-again c = let a = c .before .before .before .before .before .before .before .before .args in let f = isMissing (cameFrom (integrityOf (a .entries .now) (a .bytes .now))) in (omega arith, c .before .before .before .before .before .loop .inv .1 ∙ missing-none f (a .opened) (a .n) (a .c) (a .t) (c .before .before .before .before .before .loop .h) (omega arith) (c .before .before .before .sibling-missing .ensures) (c .before .before .if1 .left) (c .before .peak-missing .ensures) (c .if2 .left))
 
--- src/verdicts.rt:60:1
 returns-3 : tie.Need-returns-3 Inv-loop μ-loop
 returns-3 c = let a = c .before .before .before .before .args in let f = isMissing (cameFrom (integrityOf (a .entries .now) (a .bytes .now))) in missing-end f (a .opened) (a .n) (a .c) (a .t) (c .before .loop .h) (omega arith) ∙ ap namedNode (sym (c .before .loop .inv .1))
 

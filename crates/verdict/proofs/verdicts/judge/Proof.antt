@@ -4,37 +4,25 @@ use Rattle.verdict.proofs.VerdictLaws.{judge-inside, judge-missing, jud
 use borrow.Author.Needs.{needs}
 use Rattle.verdict.proofs.verdicts.judge.Statement.{statement}
 use Rattle.verdict.proofs.verdicts.judge.Tie as tie
-use Rattle.verdict.proofs.verdicts.judge.Reads as reads
-use Rattle.verdict.proofs.verdicts.judge.Lts as lts
-use Rattle.verdict.proofs.verdicts.first_missing.Reads as first-missing-reads
-use Rattle.verdict.proofs.verdicts.reach.Reads as reach-reads
-use Rattle.verdict.proofs.verdicts.weigh.Reads as weigh-reads
 
--- src/verdicts.rt:284:9
 reach-requires : tie.Need-reach-requires
 reach-requires c κs = search needs
 
--- src/verdicts.rt:285:9
 first-missing-requires : tie.Need-first-missing-requires
 first-missing-requires c κs = let a = c .before .before .before .before .before .before .args in let o = integrityOf (a .entries .now) (a .bytes .now) in (c .before .before .before .before .before .before .pre .1, c .before .before .before .before .before .before .pre .2, judge-inside (a .scratch .now) (a .n) (bytesOf (a .root .words)) (a .hashes .now) (a .trusted .now) (a .c) (a .chunk .now) o _ _ _ (c .before .before .before .before .before .before .pre .1) (c .before .before .before .before .before .before .pre .3) (c .reach .ensures .0) (c .before .before .before .before .before .before .pre .0))
 
--- src/verdicts.rt:287:21
 enum-known-missing : tie.Need-enum-known-missing
 enum-known-missing c = search needs
 
--- src/verdicts.rt:289:13
 enum-told : tie.Need-enum-told
 enum-told c = search needs
 
--- src/verdicts.rt:288:26
 weigh-requires : tie.Need-weigh-requires
 weigh-requires c κs = search needs
 
--- src/verdicts.rt:266:1
 returns : tie.Need-returns
 returns c = let a = c .before .before .before .before .before .before .before .before .before .before .args in let o = integrityOf (a .entries .now) (a .bytes .now) in judge-missing (a .scratch .now) (a .n) (bytesOf (a .root .words)) (a .hashes .now) (a .trusted .now) (a .c) (a .chunk .now) o _ _ _ (c .before .before .before .before .before .before .before .before .before .before .pre .1) (c .before .before .before .before .before .before .before .before .before .before .pre .3) (c .before .before .before .before .reach .ensures .0) (c .before .before .before .first-missing .ensures) (c .before .missing .given .1)
 
--- src/verdicts.rt:266:1
 returns-2 : tie.Need-returns-2
 returns-2 c = let a = c .before .before .before .before .before .before .before .before .before .before .before .args in let o = integrityOf (a .entries .now) (a .bytes .now) in judge-weighed (a .scratch .now) (a .n) (bytesOf (a .root .words)) (a .hashes .now) (a .trusted .now) (a .c) (a .chunk .now) o _ _ _ (c .before .before .before .before .before .before .before .before .before .before .before .pre .1) (c .before .before .before .before .before .before .before .before .before .before .before .pre .3) (c .before .before .before .before .before .reach .ensures .0) (c .before .before .before .before .first-missing .ensures) (c .before .before .enum-told .given .1) (c .weigh .ensures)
 

@@ -8,33 +8,22 @@ use Rattle.verdict.specs.Steps.{came}
 use borrow.Author.Needs.{needs}
 use Rattle.verdict.proofs.verdicts.peak_missing.Statement.{statement}
 use Rattle.verdict.proofs.verdicts.peak_missing.Tie as tie
-use Rattle.verdict.proofs.verdicts.peak_missing.Reads as reads
-use Rattle.verdict.proofs.verdicts.peak_missing.Lts as lts
-use Rattle.tree.proofs.peaks.peak.Reads as peak-reads
-use Rattle.tree.proofs.peaks.side.Reads as side-reads
-use Rattle.verdict.proofs.integrity.has.Reads as has-reads
 
--- src/verdicts.rt:51:9
 returns : tie.Need-returns
 returns c = search needs
 
--- src/verdicts.rt:53:8
 side-requires : tie.Need-side-requires
 side-requires c κs = search needs
 
--- src/verdicts.rt:54:9
 returns-2 : tie.Need-returns-2
 returns-2 c = let a = c .before .before .before .before .before .args in let e : a .n / 2 ^ a .h % 2 ≢ 1 = λ q. c .if2 .taken (c .before .side .ensures ∙ q) in rw (c .before .before .if1 .left, ne-eqb (a .n / 2 ^ a .h % 2) 1 e)
 
--- src/verdicts.rt:56:37
 peak-requires : tie.Need-peak-requires
 peak-requires c κs = search needs
 
--- src/verdicts.rt:56:6
 has-requires : tie.Need-has-requires
 has-requires c κs = search needs
 
--- src/verdicts.rt:45:1
 returns-3 : tie.Need-returns-3
 returns-3 c = let a = c .before .before .before .before .before .before .before .args in rw (c .before .before .before .before .if1 .left, eq-eqb (a .n / 2 ^ a .h % 2) 1 (sym (c .before .before .before .side .ensures) ∙ c .before .before .if2 .left)) (ap not (c .has .ensures ∙ ap (came (integrityOf (a .entries .now) (a .bytes .now))) (c .before .peak .ensures)))
 

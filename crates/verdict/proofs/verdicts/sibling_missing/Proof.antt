@@ -7,24 +7,16 @@ use Rattle.verdict.specs.Steps.{came}
 use borrow.Author.Needs.{needs}
 use Rattle.verdict.proofs.verdicts.sibling_missing.Statement.{statement}
 use Rattle.verdict.proofs.verdicts.sibling_missing.Tie as tie
-use Rattle.verdict.proofs.verdicts.sibling_missing.Reads as reads
-use Rattle.verdict.proofs.verdicts.sibling_missing.Lts as lts
-use Rattle.tree.proofs.peaks.sibling.Reads as sibling-reads
-use Rattle.verdict.proofs.integrity.has.Reads as has-reads
 
--- src/verdicts.rt:39:48
 sibling-requires : tie.Need-sibling-requires
 sibling-requires c κs = search needs
 
--- src/verdicts.rt:39:17
 has-requires : tie.Need-has-requires
 has-requires c κs = search needs
 
--- src/verdicts.rt:39:9
 returns : tie.Need-returns
 returns c = let a = c .before .before .before .before .before .args in rw (lt-ltb (a .h) (a .t) (c .before .before .if1 .taken)) (ap not (c .has .ensures ∙ ap (came (integrityOf (a .entries .now) (a .bytes .now))) (c .before .sibling .ensures)))
 
--- src/verdicts.rt:33:1
 returns-2 : tie.Need-returns-2
 returns-2 c = let a = c .before .before .before .args in rw (le-ltb (a .h) (a .t) (omega arith))
 
