@@ -209,7 +209,7 @@ uint32_t ppspp_take(uint32_t *state, size_t state_n, uint8_t *chunks, size_t chu
                     uint32_t *wants, size_t wants_n, uint8_t *reply, size_t reply_n, uint64_t clock, uint32_t id,
                     const uint8_t *datagram, size_t datagram_n, size_t *reply_len, uint64_t *node);
 
-/* Writes the datagram of a chunk, at a clock, with all hashes that a new peer needs, for an open channel of ours. */
+/* Writes a chunk's datagram for an open channel: all hashes that a new peer needs, the clock as its timestamp. */
 uint32_t ppspp_write(const uint32_t *state, size_t state_n, const uint8_t *chunks, size_t chunks_n, const uint32_t *map,
                      size_t map_n, const uint32_t *hashes, size_t hashes_n, const uint32_t *trusted,
                      size_t trusted_n, const uint32_t *has, size_t has_n, const uint32_t *wants, size_t wants_n,
