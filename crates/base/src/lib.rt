@@ -1,10 +1,12 @@
 // Definitions and laws that all crates share: one of two by a test, the same strings, one of some numbers, what a call
 // gives back; and the node that it names.
+#![tactic(auto)]
+
 ghost use Rattle.std.specs.Prelude.{◌≡◌};
 ghost use Rattle.base.specs.Out.{node_number};
 
 // The node that an answer names, by its number.
-#[derive(Drop)]
+#[derive(Clone, Copy)]
 pub enum Named {
     Node(u64),
     NoNode,

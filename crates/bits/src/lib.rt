@@ -1,5 +1,7 @@
 // Bit rows in lent words: bit i stands in word i / 32, at place i % 32, the low bit first.
 // A bit past the room is never set, and setting or clearing it has no effect.
+#![tactic(auto)]
+
 ghost use Rattle.std.specs.Prelude.{◌≡◌, ◌+◌, ◌*◌, ◌/◌, ◌^◌, ◌<◌, ◌≤◌, min, get_or};
 ghost use Rattle.bits.specs.Bits.{bit_at, set_bit, clear_bit, set_range, clear_range, clear_words};
 ghost use Rattle.bits.specs.Bits.{count_bits, ones_over, row_words};

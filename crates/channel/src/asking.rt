@@ -5,7 +5,7 @@ ghost use Rattle.channel.specs.Ask.{asked_of, ask_spec};
 use table::words;
 use table::words::STATE_WORDS;
 
-#[derive(Drop)]
+#[derive(Clone, Copy)]
 pub struct Asked {
     pub answer: u32,
     pub held: u32,

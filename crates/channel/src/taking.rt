@@ -19,7 +19,7 @@ use wire::pass::Front;
 use wire::survey::Survey;
 
 // What taking in a datagram gives; or that it has messages without DATA, which are still to be taken, with their survey.
-#[derive(Drop)]
+#[derive(Clone, Copy)]
 struct Ruling {
     answer: u32,
     len: usize,

@@ -1,5 +1,7 @@
 // What the messages of a datagram do to a channel: what they change of what the peer has, what it wants and the choke
 // mark.
+#![tactic(auto)]
+
 ghost use Rattle.std.specs.Prelude.{◌≡◌, ◌≤◌, ◌<◌, ◌^◌, length, get_or};
 ghost use Rattle.wire.proofs.Promise.{named_size, step_at, plain_message};
 ghost use Rattle.writer.proofs.Promise.{read_all};
@@ -81,7 +83,7 @@ fn apply_plain(
 }
 
 // Where the pass stands after a message.
-#[derive(Drop)]
+#[derive(Clone, Copy)]
 pub struct Turn {
     pub choked: bool,
     pub at: usize,

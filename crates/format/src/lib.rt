@@ -1,8 +1,10 @@
 // What of the form of datagrams an order settles: the method of addressing chunks.
+#![tactic(auto)]
+
 ghost use Rattle.std.specs.Prelude.{◌≡◌};
 ghost use Rattle.format.specs.Format.{is_method, format_of};
 
-#[derive(Drop)]
+#[derive(Clone, Copy)]
 pub enum Addressing {
     // 32-bit bins.
     Bins,
@@ -10,7 +12,7 @@ pub enum Addressing {
     Ranges,
 }
 
-#[derive(Drop)]
+#[derive(Clone, Copy)]
 pub struct Format {
     pub addressing: Addressing,
 }

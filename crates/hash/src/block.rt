@@ -9,7 +9,7 @@ use crate::value::{HashValue, load, pair};
 use crate::word::{add, big_sigma0, big_sigma1, ch, maj, small_sigma0, small_sigma1};
 
 // The working variables, and the sixteen words of the schedule that the next rounds use.
-#[derive(Drop)]
+#[derive(Clone, Copy)]
 struct Working {
     variables: HashValue,
     schedule: [u32; 16],

@@ -5,7 +5,7 @@ ghost use Rattle.base.specs.Same.{same};
 ghost use Rattle.hash.specs.Word.{word32, words, be, bytes_of};
 
 // Eight words: a hash value, and the working variables a to h on the way to the next.
-#[derive(Drop)]
+#[derive(Clone, Copy)]
 pub struct HashValue {
     pub words: [u32; 8],
 }

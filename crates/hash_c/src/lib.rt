@@ -1,5 +1,7 @@
 // The calls of the crate hash for C and Rust, on numbers and slices alone: what the comparisons and the benchmark link.
 // A hash value is eight words behind a reference.
+#![tactic(auto)]
+
 ghost use Rattle.std.specs.Prelude.{◌≡◌, ◌++◌, ◌+◌, ◌≤◌, length, take, drop};
 ghost use Rattle.hash.specs.Word.{words, bytes_of};
 ghost use Rattle.hash.specs.Block.{compressed};

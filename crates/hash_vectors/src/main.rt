@@ -1,5 +1,7 @@
 // Writes a line, a label and a digest, for each of FIPS 180-4's published messages and for the lengths around the
 // padding's borders.
+#![tactic(auto)]
+
 ghost use Rattle.std.specs.Prelude.{◌≤◌};
 
 use hash::value::HashValue;

@@ -7,7 +7,7 @@ use format::{Addressing, Format};
 use tree::{bin, pack, peaks};
 
 // The chunks from first to last.
-#[derive(Drop)]
+#[derive(Clone, Copy)]
 pub struct Interval {
     pub first: u32,
     pub last: u32,

@@ -1,4 +1,6 @@
 // What is held: how many chunks of a length the map has, and whether it has all.
+#![tactic(auto)]
+
 ghost use Rattle.std.specs.Prelude.{◌≡◌};
 ghost use Rattle.held.specs.Held.{asked_of, ask_number, held_spec};
 
@@ -6,7 +8,7 @@ use store::answers;
 
 pub mod interval;
 
-#[derive(Drop)]
+#[derive(Clone, Copy)]
 pub struct Asked {
     pub answer: u32,
     pub held: u32,

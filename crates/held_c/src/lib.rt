@@ -1,4 +1,6 @@
 // The crate held for Rust, on numbers and slices alone: what the comparisons and the benchmark link.
+#![tactic(auto)]
+
 ghost use Rattle.std.specs.Prelude.{◌≡◌, ◌+◌, ◌*◌, ◌^◌};
 ghost use Rattle.format.specs.Format.{format_of};
 ghost use Rattle.held.proofs.Promise.{complete_interval};

@@ -1,7 +1,9 @@
 // What a store works under (01; 02, No. 1): the root's hash, the pack's length and the method of addressing chunks.
+#![tactic(auto)]
+
 use hash::value::HashValue;
 
-#[derive(Drop)]
+#[derive(Clone, Copy)]
 pub struct Order {
     pub root: HashValue,
     pub length: u32,

@@ -1,6 +1,8 @@
 // The replay program (01, "The replay program"): reads lines of hexadecimal from standard input, and writes the answer
 // to each to standard output. Its memory is the same for any input. A read that fails counts as the end of input. A
 // write that fails loses its bytes, and that is not told: a program has no exit status here.
+#![tactic(auto)]
+
 ghost use Rattle.std.specs.Prelude.{◌≤◌, ◌<◌, [], length};
 ghost use Rattle.channel.proofs.Promise.{world_of};
 ghost use Rattle.script.proofs.Promise.{filled, line_size};

@@ -1,5 +1,7 @@
 // The datagrams that a store sends: our HANDSHAKE, an ACK, one chunk with its hashes. Each is written from the front of
 // the reply room, and what stands past it stays.
+#![tactic(auto)]
+
 ghost use Rattle.std.specs.Prelude.{◌≡◌, [], ◌∷◌, true, ◌+◌, ◌*◌, ◌≤◌, ◌<◌, ◌^◌, length};
 ghost use Rattle.hash.proofs.Promise.{bytes_of};
 ghost use Rattle.tree.proofs.Promise.{bin, chunk_size, chunks, max_length, sent, sibling_turn, peak_turn};

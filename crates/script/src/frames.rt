@@ -5,7 +5,7 @@ ghost use Rattle.script.specs.Steps.{framed, frame_spec};
 
 use crate::hex;
 
-#[derive(Drop)]
+#[derive(Clone, Copy)]
 pub enum Frame {
     Bytes { len: usize },
     Bad,

@@ -1,4 +1,6 @@
 // The lines of the replay program: hexadecimal frames in, answers out. No input or output here.
+#![tactic(auto)]
+
 pub mod answers; // an answer's line, the closing line
 pub mod frames; // the bytes of a line
 mod hex; // digits and bytes

@@ -19,7 +19,7 @@ use tree::verdict::Verdict;
 use verdict::{peaks, verdicts};
 
 // What building gives back: its answer and the root found; the filler where it was refused.
-#[derive(Drop)]
+#[derive(Clone, Copy)]
 pub struct Built {
     pub answer: u32,
     pub root: HashValue,
@@ -92,7 +92,7 @@ pub fn build(
 }
 
 // What taking a chunk gives back: the number, and the node that 9 or 10 names.
-#[derive(Drop)]
+#[derive(Clone, Copy)]
 pub struct Taken {
     pub answer: u32,
     pub node: Named,

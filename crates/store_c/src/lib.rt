@@ -1,6 +1,8 @@
 // The calls of the crate store for C and Rust, on numbers and slices alone: what the comparisons and the benchmark
 // link. An order's root is eight words; a call with another number of them is refused with 11, before all else. No call
 // here looks at the order's method.
+#![tactic(auto)]
+
 ghost use Rattle.std.specs.Prelude.{◌≡◌};
 ghost use Rattle.base.specs.Out.{out_at, out_of, named_by};
 ghost use Rattle.store.proofs.Promise.{hash_in, rooms_of, integrity_of, root_of, start_spec, build_spec, take_spec};

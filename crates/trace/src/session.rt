@@ -7,7 +7,7 @@ ghost use Rattle.trace.specs.Steps.{spoken};
 
 use crate::{first, later};
 
-#[derive(Drop)]
+#[derive(Clone, Copy)]
 pub enum Stage {
     // Line one is to come.
     First,
@@ -18,7 +18,7 @@ pub enum Stage {
 }
 
 // The ID for the next channel, and which line is to come.
-#[derive(Drop)]
+#[derive(Clone, Copy)]
 pub struct Session {
     pub id: u32,
     pub stage: Stage,
@@ -26,7 +26,7 @@ pub struct Session {
 
 // What a line gives: the session after it, and the number and the length of the reply; `silent` where nothing is
 // written.
-#[derive(Drop)]
+#[derive(Clone, Copy)]
 pub struct Answered {
     pub session: Session,
     pub silent: bool,

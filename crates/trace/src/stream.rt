@@ -13,7 +13,7 @@ use script::{answers, lines};
 
 // The session, how much is kept of the line that has begun, how much of a block was read, and how much of the output
 // room is in use.
-#[derive(Drop)]
+#[derive(Clone, Copy)]
 pub struct Progress {
     pub session: Session,
     pub len: usize,

@@ -5,7 +5,7 @@ ghost use Rattle.tree.specs.Steps.{parent, sibling};
 ghost use Rattle.tree.specs.Range.{node_of_range};
 
 // The node of a range of chunks, if it is one's.
-#[derive(Drop)]
+#[derive(Clone, Copy)]
 pub enum RangeNode {
     Node(u64),
     NoNode,

@@ -4,7 +4,7 @@ ghost use Rattle.tree.specs.Verdicts.{number, named};
 
 use base::Named;
 
-#[derive(Drop)]
+#[derive(Clone, Copy)]
 pub enum Verdict {
     // It hangs from the trusted node of this height, which may be its own leaf.
     Fits(u32),

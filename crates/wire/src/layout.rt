@@ -8,7 +8,7 @@ use crate::limits::MIN_SIZE;
 use crate::message::Options;
 
 // What a datagram is. `entries` says how many words of the room for nodes are written.
-#[derive(Drop)]
+#[derive(Clone, Copy)]
 pub enum Layout {
     // Refused with 1, 2 or 3.
     Fault {

@@ -1,5 +1,7 @@
 // Datagrams of RFC 7574, section 8, in the yard profile: the messages as values, one message at a cursor, the layout
 // checks over a whole datagram.
+#![tactic(auto)]
+
 pub mod bytes; // big-endian numbers
 pub mod layout; // what a datagram is
 pub mod limits; // the sizes of the yard profile

@@ -1,7 +1,7 @@
 // The messages of a datagram as values: numbers, and places of bytes in a slice beside them.
 
 // The options of a HANDSHAKE.
-#[derive(Drop)]
+#[derive(Clone, Copy)]
 pub enum Options {
     // The fixed ones, around the 32 bytes of a swarm ID, which begin at root.
     Fixed { root: usize },
@@ -9,7 +9,7 @@ pub enum Options {
     Other,
 }
 
-#[derive(Drop)]
+#[derive(Clone, Copy)]
 pub enum Message {
     Handshake {
         source: u32,
@@ -56,13 +56,13 @@ pub enum Message {
 }
 
 // Where reading stands in a datagram.
-#[derive(Drop)]
+#[derive(Clone, Copy)]
 pub struct Cursor {
     pub at: usize,
 }
 
 // What stands at a cursor; `step_number` (specs/Read) gives its number.
-#[derive(Drop)]
+#[derive(Clone, Copy)]
 pub enum Step {
     Read { message: Message, next: Cursor },
     End,

@@ -14,7 +14,7 @@ use crate::{layout, plain, range, read, survey};
 use format::Format;
 
 // What a pass gives.
-#[derive(Drop)]
+#[derive(Clone, Copy)]
 pub struct Pass {
     pub layout: Layout,
     pub survey: Survey,
@@ -22,7 +22,7 @@ pub struct Pass {
 
 // Where a pass stands behind the plain messages at the front: the place, how many messages there are at most from there
 // on, and the survey so far.
-#[derive(Drop)]
+#[derive(Clone, Copy)]
 pub struct Front {
     pub at: usize,
     pub left: usize,
@@ -52,7 +52,7 @@ pub fn plain_front(format: Format, datagram: &[u8]) -> Front
 }
 
 // Where the pass stands after a message.
-#[derive(Drop)]
+#[derive(Clone, Copy)]
 pub enum Turn {
     On {
         at: usize,

@@ -10,7 +10,7 @@ use format::{Addressing, Format};
 use tree::bin;
 use tree::bin::RangeNode;
 
-#[derive(Drop)]
+#[derive(Clone, Copy)]
 pub struct Range {
     pub first: u32,
     pub last: u32,

@@ -6,7 +6,7 @@ use crate::range;
 use format::Format;
 
 // The highest chunk by which one may be past the pack, 0 where none has one, and whether one of them is plain.
-#[derive(Drop)]
+#[derive(Clone, Copy)]
 pub struct Survey {
     pub highest: u32,
     pub effective: bool,

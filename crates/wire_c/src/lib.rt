@@ -6,6 +6,8 @@
 // of the chunk's bytes.
 //
 // A slice that is too short for its words is answered with 11, before all else.
+#![tactic(auto)]
+
 mod words; // the words of a layout
 
 ghost use Rattle.std.specs.Prelude.{◌≡◌};

@@ -128,7 +128,7 @@ fn own_fault(format: Format, destination: u32, len: usize, message: Message) -> 
 }
 
 // What a datagram so far says to one message more: its own number, and the number for what comes behind it.
-#[derive(Drop)]
+#[derive(Clone, Copy)]
 struct Before {
     fault: u32,
     behind: u32,
@@ -229,7 +229,7 @@ fn add_answer(room: &[u8], format: Format, len: usize, message: Message, bytes: 
     own
 }
 
-#[derive(Drop)]
+#[derive(Clone, Copy)]
 pub struct Added {
     pub answer: u32,
     // The datagram's length, 0 after a refusal.

@@ -1,0 +1,8 @@
+use Rattle.std.proofs.Common.{ap₂}
+use lib.Bits.{bit_xor}
+use Rattle.hash.proofs.Rotation.{shared_rotation}
+use Rattle.hash.proofs.word.big_sigma1.Goals as goal
+
+pub returns : goal.returns
+unfolding Σ1
+returns c = ap₂ bit_xor (shared_rotation 5 6 21 _ c.ranges.x.fits c.rotr.ensures c.rotr-2.ensures) c.rotr-3.ensures
