@@ -8,7 +8,7 @@ use Rattle.bits.proofs.PartLaws.{set-words-are}
 use Rattle.bits.proofs.set_words.Goals as goal
 
 pub loop-w-init : goal.loop-w-init
-loop-w-init c = (refl, omega arith, omega arith, run_none _ c.args.from _ _ (omega arith))
+loop-w-init c = (refl, omega arith, omega arith, run_none _ c.args.from _ _ (omega arith), (λ i. (c.type_inv.ws i).fits))
 
 pub loop-w-preserved : goal.loop-w-preserved
 loop-w-preserved c = (
@@ -16,8 +16,9 @@ loop-w-preserved c = (
   omega arith,
   omega arith,
   run-turn (fill_at (2 ^ 32 - 1)) _ c.loop-w.w _ c.loop-w.invariant.1 c.loop-w.invariant.3,
+  c.loop-w.invariant.4,
 )
 
 pub returns : goal.returns
 returns c = fill_end (2 ^ 32 - 1) c.args.from c.args.upto c.loop-w.w _ c.loop-w.invariant.1 c.loop-w.invariant.2 (omega arith) c.loop-w.invariant.3
-    ∙ set-words-are c.args.ws.now c.args.from c.args.upto (λ i. (c.type_inv.ws i).fits)
+    ∙ set-words-are c.args.ws.now c.args.from c.args.upto c.loop-w.invariant.4

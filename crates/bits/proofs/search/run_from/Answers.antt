@@ -1,11 +1,12 @@
 use Rattle.bits.proofs.OnesLaws.{low-ones-word, short-at-gap, short-at-end, word_more, word-last, words_left}
 use Prim.Native.Nat.{◌-◌, ◌*◌}
 use native.Mathlib.Omega.{arith}
-use mathlib.Core.Logic.{⊎_elim}
+use Rattle.std.proofs.Common.{ne_eqb}
 use borrow.Author.Tests.{eqb-true}
 use Rattle.bits.proofs.HeldLaws.{held-from_le}
 use Rattle.bits.proofs.BlockLaws.{block_more}
 use Rattle.bits.proofs.search.run_from.Goals as goal
+use Rattle.bits.proofs.search.run_from.Goals.{then-loop-w-2-test+else-ws-w-eq32, else-loop-w-2-test}
 
 pub overflow_add-w : goal.overflow_add-w
 overflow_add-w c = omega (arith, held-from_le c.args.ws.now (c.args.upto - c.args.x) c.args.x)
@@ -37,7 +38,7 @@ overflow_mul-w c = omega (arith, held-from_le c.args.ws.now (c.args.upto - c.arg
 
 pub returns : goal.returns
 returns c = word-last c.args.ws.now c.args.x c.loop-w-2.w c.args.upto c.loop-w-2.invariant.0 c.loop-w-2.invariant.1 c.stop_in_word.ensures
-    (⊎_elim
-    (λ t. short-at-gap c.args.ws.now c.loop-w-2.w c.args.upto c.least-end.ensures (t.1.given c.loop-w-2.w).fits t.0.taken t.2.left)
-    (λ t. short-at-end c.args.ws.now c.loop-w-2.w c.args.upto c.least-end.ensures t.left)
-    c.loop-w-2-test.branch)
+    (elim c.loop-w-2-test.branch [
+    | then-loop-w-2-test+else-ws-w-eq32 w ↦ short-at-gap c.args.ws.now c.loop-w-2.w c.args.upto c.least-end.ensures (c.type_inv.ws c.loop-w-2.w).fits w.loop-w-2-test.true (ne_eqb _ _ w.if-ws-w-eq32.false)
+    | else-loop-w-2-test w ↦ short-at-end c.args.ws.now c.loop-w-2.w c.args.upto c.least-end.ensures w.loop-w-2-test.false
+    ])

@@ -11,8 +11,8 @@ use Rattle.bits.proofs.search.stop_in_word.Goals as goal
 pub returns-then-upto-i : goal.returns-then-upto-i
 returns-then-upto-i c = ⊎_elim
     (λ t. omega (arith, held-from_le c.args.ws.now (c.args.upto - c.args.i) c.args.i))
-    (λ t. omega (arith, from_past c.args.ws.now (c.args.upto - c.args.i) c.args.i (omega (arith, leb-true))))
-    c.then-upto-i.branch
+    (λ t. omega (arith, from_past c.args.ws.now (c.args.upto - c.args.i) c.args.i (omega arith)))
+    c.then-upto-i.either
 
 pub offset_bounds-ws-w : goal.offset_bounds-ws-w
 offset_bounds-ws-w c = omega (arith, leb-false)

@@ -1,5 +1,5 @@
 use Rattle.std.proofs.Common.{◌*◌, ◌/◌, length, refl, ◌∙◌, arith, length-drop}
-use Rattle.hash.specs.Word.{◌⊞◌, word32, words}
+use Rattle.hash.specs.Word.{◌⊞◌, σ0, σ1, word32, words}
 use Rattle.hash.specs.Block.{next, extended}
 use Rattle.hash.specs.Rows.{next_sixteen}
 use Rattle.hash.specs.Message.{padded}

@@ -3,18 +3,15 @@ use Rattle.hash.specs.Word.{bytes_of}
 use Rattle.hash.proofs.BytesLaws.{written-long, write_law, write_end, write-pair}
 use Rattle.hash.proofs.value.pair_bytes.Goals as goal
 
-room : (c : tie.After-b invariant-loop decreases-loop) → length c.before.before.loop.b ≡ 64
-room c = let l : length c.before.before.before.pair.result ≡ 16 = search rules in written-long 16 c.before.before.loop.i c.before.before.before.pair.result c.before.before.loop.b c.before.before.loop.invariant.0 l c.before.before.loop.invariant.1
-
 pub loop-i-init : goal.loop-i-init
 unfolding bytes_of
 loop-i-init c = (omega arith, refl)
 
 pub slice_bounds-put-end : goal.slice_bounds-put-end
-slice_bounds-put-end c = sym (room c)
+slice_bounds-put-end c = sym (let l : length c.pair-w.result ≡ 16 = search rules in written-long 16 c.loop-i.i c.pair-w.result c.loop-i.b c.loop-i.invariant.0 l c.loop-i.invariant.1)
 
 pub put-requires : goal.put-requires
-put-requires c = omega (arith, room c, c.loop-i-test)
+put-requires c = omega (arith, let l : length c.pair-w.result ≡ 16 = search rules in written-long 16 c.loop-i.i c.pair-w.result c.loop-i.b c.loop-i.invariant.0 l c.loop-i.invariant.1, c.loop-i-test)
 
 pub loop-i-preserved : goal.loop-i-preserved
 loop-i-preserved c = let l : length c.pair-w.result ≡ 16 = search rules in (omega arith, write_law 16 c.pair-w.result c.loop-i.b c.loop-i.i (search rules) l c.loop-i.invariant.1 c.put.ensures)

@@ -1,5 +1,6 @@
 use Rattle.std.proofs.Common.{ap₂}
 use lib.Bits.{bit_xor}
+use Rattle.hash.specs.Word.{Σ1}
 use Rattle.hash.proofs.Rotation.{shared_rotation}
 use Rattle.hash.proofs.word.big_sigma1.Goals as goal
 

@@ -1,5 +1,6 @@
 use Rattle.std.proofs.Common.{ℕ, ◌/◌, ◌^◌, ap}
 use lib.Bits.{bit_xor}
+use Rattle.hash.specs.Word.{σ1}
 use Rattle.hash.proofs.Rotation.{shared_rotation}
 use Rattle.hash.proofs.word.small_sigma1.Goals as goal
 

@@ -1,4 +1,4 @@
-use Rattle.std.proofs.Common.{◌^◌, ◌∙◌, one-mul, arith, pow_pos, shl_exact}
+use Rattle.std.proofs.Common.{◌^◌, ◌∙◌, one-mul, arith, lit<, pow_pos, shl_exact}
 use Rattle.tree.proofs.bin.pow2.Goals as goal
 
 pub returns : goal.returns

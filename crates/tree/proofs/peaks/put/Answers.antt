@@ -1,14 +1,13 @@
 use Rattle.std.proofs.Common.{◌≡◌, length, set, sym, refl, ap, ◌∙◌, ⊎_elim, arith, length-set}
 use lib.Seq.{set_out}
 use Rattle.tree.proofs.peaks.put.Goals as goal
-
-room-is : (c : tie.Joined1) → c.if1.room ≡ set c.before.args.room.now c.before.args.k c.before.args.b
-room-is c =
-    let a = c.before.args in
-    ⊎_elim (λ w. w.1) (λ w. w.1 ∙ sym (set_out a.room.now a.k a.b (omega arith))) c.if1.branch
-
-pub shape_of-room : goal.shape_of-room
-shape_of-room c = ap length (room-is c) ∙ simp length-set
+use Rattle.tree.proofs.peaks.put.Goals.{then-k-room, else-k-room}
 
 pub returns : goal.returns
-returns c = (refl, room-is c)
+returns c = (
+  refl,
+  elim c.if-k-room.branch [
+  | then-k-room w ↦ w.room-is
+  | else-k-room w ↦ w.room-is ∙ sym (set_out c.args.room.now c.args.k c.args.b (omega arith))
+  ],
+)
