@@ -1,0 +1,52 @@
+use native.Mathlib.Omega.{arith}
+use lib.ListN.{length-drop}
+use Rattle.wire.proofs.BytesLaws.{part}
+use Rattle.wire.proofs.PlainLaws.{size-inside, node-inside}
+use Rattle.wire.proofs.PlaceLaws.{place-least}
+use Rattle.wire.proofs.TurnLaws.{turn-plain, turn-node, turn_last, note-room}
+use Rattle.wire.proofs.pass.take_turn.Goals as goal
+
+pub overflow_add-result : goal.overflow_add-result
+overflow_add-result c = omega (arith, c.requires.high, size-inside _ _ _ c.any_size-size.ensures c.if-size-ne0.true)
+
+pub slice_bounds-acting-count : goal.slice_bounds-acting-count
+slice_bounds-acting-count c = omega (arith, size-inside _ _ _ c.any_size-size.ensures c.if-size-ne0.true)
+
+pub slice_bounds-acting-start : goal.slice_bounds-acting-start
+slice_bounds-acting-start c = omega (arith, size-inside _ _ _ c.any_size-size.ensures c.if-size-ne0.true)
+
+pub acting-requires : goal.acting-requires
+acting-requires c = simp (part, length-drop) (omega (arith, size-inside _ _ _ c.any_size-size.ensures c.if-size-ne0.true))
+
+pub returns-then-size-ne0 : goal.returns-then-size-ne0
+returns-then-size-ne0 c = turn-plain _ _ _ _ _ _ c.any_size-size.ensures c.if-size-ne0.true (rw part at c.acting.ensures)
+
+pub slice_bounds-rest-count : goal.slice_bounds-rest-count
+slice_bounds-rest-count c = omega (arith, node-inside _ _ _ c.is_node.ensures c.if-is_node.true)
+
+pub slice_bounds-rest-start : goal.slice_bounds-rest-start
+slice_bounds-rest-start c = omega (arith, node-inside _ _ _ c.is_node.ensures c.if-is_node.true)
+
+pub last-requires : goal.last-requires
+last-requires c = simp (part, length-drop) (omega (arith, node-inside _ _ _ c.is_node.ensures c.if-is_node.true))
+
+pub node-requires : goal.node-requires
+node-requires c = simp (part, length-drop) (omega (arith, node-inside _ _ _ c.is_node.ensures c.if-is_node.true))
+
+pub overflow_add-at : goal.overflow_add-at
+overflow_add-at c = omega (arith, c.requires.high, c.named_size-named.ensures.0, node-inside _ _ _ c.is_node.ensures c.if-is_node.true)
+
+pub overflow_add-named : goal.overflow_add-named
+overflow_add-named c = omega (arith, c.requires.high, c.named_size-named.ensures.0, node-inside _ _ _ c.is_node.ensures c.if-is_node.true)
+
+pub overflow_add-at-then-is_node : goal.overflow_add-at-then-is_node
+overflow_add-at-then-is_node c = omega (arith, c.requires.high, c.named_size-named.ensures.0, node-inside _ _ _ c.is_node.ensures c.if-is_node.true)
+
+pub note-requires : goal.note-requires
+note-requires c = note-room _ _ _ _ c.requires (simp length-drop (omega (arith, place-least c.args.format, node-inside _ _ _ c.is_node.ensures c.if-is_node.true)))
+
+pub returns-then-is_node : goal.returns-then-is_node
+returns-then-is_node c = turn-node _ _ _ _ _ _ c.is_node.ensures c.if-is_node.true c.last.ensures c.node.ensures c.naming.ensures c.named_size-named.ensures.0 c.note.ensures
+
+pub returns : goal.returns
+returns c = turn_last _ _ _ _ _ _ c.any_size-size.ensures (omega (arith, c.if-size-ne0.false)) c.is_node.ensures c.if-is_node.false c.last_turn.ensures

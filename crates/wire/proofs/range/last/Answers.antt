@@ -1,0 +1,15 @@
+use Rattle.wire.proofs.PlaceLaws.{last-bins, last-ranges, place_ranges, place-least}
+use native.Mathlib.Omega.{arith}
+use Rattle.wire.proofs.range.last.Goals as goal
+
+pub load32-requires : goal.load32-requires
+load32-requires c = omega (arith, c.requires, place-least c.args.format)
+
+pub load32-requires-in-Ranges : goal.load32-requires-in-Ranges
+load32-requires-in-Ranges c = omega (arith, c.requires, place_ranges c.args.format c.in-Ranges.is)
+
+pub returns-in-Bins : goal.returns-in-Bins
+returns-in-Bins c = last-bins _ _ c.in-Bins.is c.load32.ensures c.last.ensures
+
+pub returns-in-Ranges : goal.returns-in-Ranges
+returns-in-Ranges c = last-ranges _ _ c.in-Ranges.is c.load32-in-Ranges.ensures

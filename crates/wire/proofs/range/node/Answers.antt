@@ -1,0 +1,18 @@
+use Rattle.wire.proofs.PlaceLaws.{number-bins, number-ranges, place_ranges, place-least}
+use native.Mathlib.Omega.{arith}
+use Rattle.wire.proofs.range.node.Goals as goal
+
+pub load32-requires : goal.load32-requires
+load32-requires c = omega (arith, c.requires, place-least c.args.format)
+
+pub load32-requires-in-Ranges : goal.load32-requires-in-Ranges
+load32-requires-in-Ranges c = omega (arith, c.requires, place_ranges c.args.format c.in-Ranges.is)
+
+pub load32-requires-in-Ranges-2 : goal.load32-requires-in-Ranges-2
+load32-requires-in-Ranges-2 c = omega (arith, c.requires, place_ranges c.args.format c.in-Ranges.is)
+
+pub returns-in-Bins : goal.returns-in-Bins
+returns-in-Bins c = number-bins _ _ c.in-Bins.is c.load32.ensures
+
+pub returns-in-Ranges : goal.returns-in-Ranges
+returns-in-Ranges c = number-ranges _ _ c.in-Ranges.is c.load32-in-Ranges.ensures c.load32-in-Ranges-2.ensures
