@@ -21,13 +21,13 @@ number-sound (MessagesAndData c x b n k) h = refl
 -- neither HANDSHAKE nor DATA
 pub last-other : (s : List ℕ) (used at : ℕ) (v : Survey) (next : ℕ) (m : Message) → ((a : ℕ) (o : Options) → m ≡ Handshake a o → ⊥) → ((f l x b n : ℕ) → m ≡ Data f l x b n → ⊥)
     → {w : Survey} → w ≡ no_survey → pass_of (Fault 2) w ≡ last_on s used at v next m
-last-other s used at v next (Handshake a o) h d e = absurd (h a o refl)
-last-other s used at v next (Data f l x b n) h d e = absurd (d f l x b n refl)
-last-other s used at v next (Ack f l d) h d e = rw e
-last-other s used at v next (Have f l) h d e = rw e
-last-other s used at v next (Integrity f l d) h d e = rw e
-last-other s used at v next (Request f l) h d e = rw e
-last-other s used at v next (Cancel f l) h d e = rw e
-last-other s used at v next Choke h d e = rw e
-last-other s used at v next Unchoke h d e = rw e
-last-other s used at v next (Empty k) h d e = rw e
+last-other s used at v next (Handshake a o) h k e = absurd (h a o refl)
+last-other s used at v next (Data f l x b n) h k e = absurd (k f l x b n refl)
+last-other s used at v next (Ack f l d) h k e = rw e
+last-other s used at v next (Have f l) h k e = rw e
+last-other s used at v next (Integrity f l d) h k e = rw e
+last-other s used at v next (Request f l) h k e = rw e
+last-other s used at v next (Cancel f l) h k e = rw e
+last-other s used at v next Choke h k e = rw e
+last-other s used at v next Unchoke h k e = rw e
+last-other s used at v next (Empty y) h k e = rw e

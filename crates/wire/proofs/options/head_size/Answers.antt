@@ -1,3 +1,4 @@
+use Rattle.std.proofs.Common.{◌≡◌}
 use native.Mathlib.Omega.{arith}
 use Rattle.wire.proofs.OptionsLaws.{tests}
 use Rattle.wire.specs.Options.{head_size}
@@ -18,4 +19,8 @@ returns-in-9 c = (rw c.in-9.is, search rules)
 
 pub returns-in_default : goal.returns-in_default
 unfolding head_size
-returns-in_default c = (search (tests, (omega arith), (omega arith), (omega arith)), search rules)
+returns-in_default c =
+    let a : c.args.code ≡ 2 → ⊥ = omega arith in
+    let b : c.args.code ≡ 7 → ⊥ = omega arith in
+    let d : c.args.code ≡ 9 → ⊥ = omega arith in
+    (search (tests, a, b, d), search rules)

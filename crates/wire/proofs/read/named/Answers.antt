@@ -9,4 +9,4 @@ pub returns-in-8 : goal.returns-in-8
 returns-in-8 c = named-request _ _ _ c.in-8.is
 
 pub returns-in_default : goal.returns-in_default
-returns-in_default c = named-cancel _ _ _ (omega arith) (omega arith)
+returns-in_default c = named-cancel c.args.kind _ _ (omega arith) (omega arith)
