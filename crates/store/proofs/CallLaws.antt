@@ -6,8 +6,6 @@ use mathlib.Core.List.{List, [], ◌∷◌}
 use Prim.Native.Nat.{ℕ, zero, suc, ◌+◌, ◌*◌, ◌≤◌, ◌<◌}
 use native.Mathlib.Omega.{arith}
 use borrow.Author.Tests.{eqb-true}
-use types.Run.{OneOf, miss}
-use denote.Enum.Declared.{tag_of}
 use lib.Dec.{eqb}
 use lib.ListN.{length}
 use Rattle.base.specs.Pick.{pick}
@@ -18,7 +16,6 @@ use Rattle.tree.specs.Verdicts.{number, named, peaksTrusted, reached}
 use Rattle.tree.specs.Verdicts as theory
 use Rattle.tree.specs.declared.verdict.Verdict.{Verdict}
 use Rattle.tree.specs.declared.verdict.Verdict.TheVariants.{Fits, Missing, WrongPeaks, WrongClimb}
-use Rattle.tree.specs.contracts.verdict.Verdict as verdict
 use Rattle.verdict.specs.Room.{filler, put_hash}
 use Rattle.verdict.specs.Integrity.{Integrity, came_from}
 use Rattle.verdict.specs.Rooms.{Rooms, rooms_of, count_of, state_of}
@@ -115,11 +112,8 @@ root_not (suc k) r d e = e
 -- ---- taking
 
 -- the verdicts that refuse a chunk
-abbrev refusals : List ℕ
-refusals = 1 ∷ 2 ∷ 3 ∷ []
-
-refuses : (v : Verdict) → OneOf refusals (tag_of verdict.the_type v) → number v ≢ 0
-refuses (Fits t) h e = absurd (miss refusals 0 tt h)
+refuses : (v : Verdict) → ((t : ℕ) → v ≡ Fits t → ⊥) → number v ≢ 0
+refuses (Fits t) h e = absurd (h t refl)
 refuses (Missing b) h e = omega arith
 refuses (WrongPeaks b) h e = omega arith
 refuses (WrongClimb b) h e = omega arith
@@ -143,7 +137,7 @@ module _ (w : Rooms) (r : List ℕ) (N c : ℕ) (d : List ℕ) (o : Integrity) (
       (ap (out_of 0 0) (f ∙ ap (λ (h : ℕ). store_spec w N c h d o) (fits-at w r 0 N c d o t (sym vo ∙ e)))
       ∙ at_done _ _ w _ (ap number (sym vo) ∙ z))
 
-  pub if-refused : OneOf refusals (tag_of verdict.the_type v) → out_at n 0 b w ≡ store_if_fits w r N c d o
+  pub if-refused : ((t : ℕ) → v ≡ Fits t → ⊥) → out_at n 0 b w ≡ store_if_fits w r N c d o
   unfolding store_if_fits
   if-refused h =
       ap₂ (λ (x : ℕ) (y : Named). out_at x 0 y w) (ne ∙ ap number vo) (be ∙ ap named vo)

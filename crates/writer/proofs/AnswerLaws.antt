@@ -8,13 +8,10 @@ use mathlib.Core.Bool.{Bool, true, false, not, true≢false}
 use lib.ListN.{length, take, drop, length-append}
 use lib.Seq.{length-take-le}
 use borrow.Author.Tests.{lt-ltb, le-ltb, eq-eqb, ne_eqb, not-true, not-false, le-leb, lt-leb, ltb-false, ltb-true}
-use types.Run.{OneOf, miss}
-use denote.Enum.Declared.{tag_of}
 use Rattle.base.specs.Pick.{pick, earlier}
 use Rattle.base.specs.Out.{out_of, unless}
 use Rattle.tree.specs.declared.bin.RangeNode.{RangeNode}
 use Rattle.tree.specs.declared.bin.RangeNode.TheVariants.{Node, NoNode}
-use Rattle.wire.specs.contracts.message.Message as message
 use Rattle.wire.specs.Bytes.{be32, placed}
 use Rattle.wire.specs.Limits.{min_size, max_size}
 use Rattle.wire.specs.Layout.{Checked, checked_of, number_of, seen, handshake_fault, layout_of}
@@ -244,15 +241,12 @@ pub seen-node : (es : List ℕ) {r : RangeNode} {b : ℕ} → r ≡ Node b → {
 seen-node es e p q = rw (e, ← p, q)
 
 -- the node of any other message than INTEGRITY
-abbrev others : List ℕ
-others = 0 ∷ 1 ∷ 2 ∷ 3 ∷ 5 ∷ 6 ∷ 7 ∷ 8 ∷ 9 ∷ []
-
-pub no_node_of : (m : Message) → OneOf others (tag_of message.the_type m) → NoNode ≡ node_of m
+pub no_node_of : (m : Message) → ((f l d : ℕ) → m ≡ Integrity f l d → ⊥) → NoNode ≡ node_of m
 no_node_of (Handshake a o) h = refl
 no_node_of (Data f l x b n) h = refl
 no_node_of (Ack f l d) h = refl
 no_node_of (Have f l) h = refl
-no_node_of (Integrity f l d) h = absurd (miss others 4 tt h)
+no_node_of (Integrity f l d) h = absurd (h f l d refl)
 no_node_of (Request f l) h = refl
 no_node_of (Cancel f l) h = refl
 no_node_of Choke h = refl

@@ -5,17 +5,14 @@ use mathlib.Core.Path.{◌≡◌, refl, sym}
 use mathlib.Core.List.{List, [], ◌∷◌, ◌++◌}
 use mathlib.Core.Bool.{true, Bool, false, true≢false}
 use borrow.Author.Tests.{leb-true}
-use denote.Enum.Declared.{tag_of}
 use lib.Dec.{leb}
 use lib.ListN.{length, length-append}
-use types.Run.{OneOf, miss}
 use Rattle.base.proofs.PickLaws.{both_true}
 use Rattle.wire.specs.Options.{fixed_head, fixed_tail}
 use Rattle.wire.specs.declared.message.Options.{Options}
 use Rattle.wire.specs.declared.message.Options.TheVariants.{Fixed, EndOnly, Other}
 use Rattle.wire.specs.declared.message.Message.{Message}
 use Rattle.wire.specs.declared.message.Message.TheVariants.{Handshake, Data, Ack, Have, Integrity, Request, Cancel, Choke, Unchoke, Empty}
-use Rattle.wire.specs.contracts.message.Message as message
 use Rattle.writer.specs.Bytes.{bytes32, bytes64, name_bytes, emptyable}
 use Rattle.writer.specs.Message.{within, option_bytes, bytes_of, in_bounds, writable, writable_options}
 use Rattle.writer.specs.Steps.{size_of, option_span}
@@ -40,23 +37,20 @@ data_in F size {b = b} {n = n} w e = lies_in size b n (rw e at w)
 
 -- ---- messages that name no bytes of a source
 
--- their tags
-abbrev others : List ℕ
-others = 2 ∷ 3 ∷ 5 ∷ 6 ∷ 7 ∷ 8 ∷ []
-
 -- they can be written
-pub writable_other : (F : Format) (size : ℕ) (m : Message) → OneOf others (tag_of message.the_type m) → true ≡ writable F size m
+pub writable_other : (F : Format) (size : ℕ) (m : Message) → ((a : ℕ) (o : Options) → m ≡ Handshake a o → ⊥)
+    → ((f l x b n : ℕ) → m ≡ Data f l x b n → ⊥) → ((f l d : ℕ) → m ≡ Integrity f l d → ⊥) → ((k : ℕ) → m ≡ Empty k → ⊥) → true ≡ writable F size m
 unfolding writable
-writable_other F size (Handshake a o) h = absurd (miss others 0 tt h)
-writable_other F size (Data a b d e f) h = absurd (miss others 1 tt h)
-writable_other F size (Ack a b d) h = refl
-writable_other F size (Have a b) h = refl
-writable_other F size (Integrity a b d) h = absurd (miss others 4 tt h)
-writable_other F size (Request a b) h = refl
-writable_other F size (Cancel a b) h = refl
-writable_other F size Choke h = refl
-writable_other F size Unchoke h = refl
-writable_other F size (Empty k) h = absurd (miss others 9 tt h)
+writable_other F size (Handshake a o) h p q r = absurd (h a o refl)
+writable_other F size (Data a b d e f) h p q r = absurd (p a b d e f refl)
+writable_other F size (Ack a b d) h p q r = refl
+writable_other F size (Have a b) h p q r = refl
+writable_other F size (Integrity a b d) h p q r = absurd (q a b d refl)
+writable_other F size (Request a b) h p q r = refl
+writable_other F size (Cancel a b) h p q r = refl
+writable_other F size Choke h p q r = refl
+writable_other F size Unchoke h p q r = refl
+writable_other F size (Empty k) h p q r = absurd (r k refl)
 
 -- ---- sizes
 

@@ -25,8 +25,8 @@ pub loop-k-init : goal.loop-k-init
 loop-k-init c = (omega arith, ap (λ (x : ℕ). c.args.n / x) c.pow2.ensures.0, level-none put_hash (tree_of c.args.content.now) c.args.h c.args.hashes.now, level-none mark (tree_of c.args.content.now) c.args.h c.args.trusted.now)
 
 pub put_node-requires : goal.put_node-requires
-put_node-requires c = let h = let e = ap length c.loop-k.invariant.2 ∙ length-level put_hash (tree_of c.args.content.now) length-put_hash c.args.h c.loop-k.k c.args.hashes.now in
-    ((c.requires.h_bound.0, omega (arith, c.loop-k-test.true, c.loop-k.invariant.1), c.requires.h_bound.1, omega (arith, c.requires.h_bound.2, e)), rw c.loop-k.invariant.2 (filled-level c.args.content.now c.args.n c.args.h c.loop-k.k c.args.hashes.now c.requires.filled)) in record { h_bound = h.0; filled = h.1 }
+put_node-requires c = let e = ap length c.loop-k.invariant.2 ∙ length-level put_hash (tree_of c.args.content.now) length-put_hash c.args.h c.loop-k.k c.args.hashes.now in
+    record { h_bound = (c.requires.h_bound.0, omega (arith, c.loop-k-test.true, c.loop-k.invariant.1), c.requires.h_bound.1, omega (arith, c.requires.h_bound.2, e)); filled = rw c.loop-k.invariant.2 (filled-level c.args.content.now c.args.n c.args.h c.loop-k.k c.args.hashes.now c.requires.filled) }
 
 pub overflow_add-k : goal.overflow_add-k
 overflow_add-k c = record { fits = omega (arith, c.loop-k-test.true, c.loop-k.invariant.1, less c.args.n c.args.h) }
@@ -36,11 +36,11 @@ loop-k-smaller c = omega (arith, c.loop-k-test.true)
 
 pub loop-k-preserved : goal.loop-k-preserved
 loop-k-preserved c = (
-      omega (arith, c.loop-k-test.true, c.loop-k.invariant.1),
-      c.loop-k.invariant.1,
-      level-more put_hash (tree_of c.args.content.now) c.args.h c.loop-k.k c.args.hashes.now c.put_node.ensures.0 refl refl c.loop-k.invariant.2,
-      level-more mark (tree_of c.args.content.now) c.args.h c.loop-k.k c.args.trusted.now c.put_node.ensures.1 refl refl c.loop-k.invariant.3,
-    )
+  omega (arith, c.loop-k-test.true, c.loop-k.invariant.1),
+  c.loop-k.invariant.1,
+  level-more put_hash (tree_of c.args.content.now) c.args.h c.loop-k.k c.args.hashes.now c.put_node.ensures.0 refl refl c.loop-k.invariant.2,
+  level-more mark (tree_of c.args.content.now) c.args.h c.loop-k.k c.args.trusted.now c.put_node.ensures.1 refl refl c.loop-k.invariant.3,
+)
 
 pub shape_of-hashes : goal.shape_of-hashes
 shape_of-hashes c = ap length c.loop-k.invariant.2 ∙ length-level put_hash (tree_of c.args.content.now) length-put_hash c.args.h c.loop-k.k c.args.hashes.now

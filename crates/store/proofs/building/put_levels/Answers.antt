@@ -15,8 +15,8 @@ pub loop-h-init : goal.loop-h-init
 loop-h-init c = (omega arith, levels-none put_hash (tree_of c.args.content.now) c.args.n c.args.hashes.now, levels-none mark (tree_of c.args.content.now) c.args.n c.args.trusted.now)
 
 pub put_level-requires : goal.put_level-requires
-put_level-requires c = let h = let e = ap length c.loop-h.invariant.1 ∙ length-levels put_hash (tree_of c.args.content.now) length-put_hash c.args.n c.loop-h.h c.args.hashes.now in
-    ((omega (arith, c.loop-h-test.true, c.requires.0), c.requires.1, omega (arith, c.requires.2, e)), rw c.loop-h.invariant.1 (filled-levels c.args.content.now c.args.n c.loop-h.h c.args.hashes.now c.requires.2)) in record { h_bound = h.0; filled = h.1 }
+put_level-requires c = let e = ap length c.loop-h.invariant.1 ∙ length-levels put_hash (tree_of c.args.content.now) length-put_hash c.args.n c.loop-h.h c.args.hashes.now in
+    record { h_bound = (omega (arith, c.loop-h-test.true, c.requires.0), c.requires.1, omega (arith, c.requires.2, e)); filled = rw c.loop-h.invariant.1 (filled-levels c.args.content.now c.args.n c.loop-h.h c.args.hashes.now c.requires.2) }
 
 pub overflow_add-h : goal.overflow_add-h
 overflow_add-h c = record { fits = omega (arith, c.loop-h-test.true, c.requires.0) }

@@ -13,12 +13,12 @@ loop-j-init c = (omega arith, refl, paste-zero c.args.dst.now c.args.at c.args.s
 
 pub loop-j-preserved : goal.loop-j-preserved
 loop-j-preserved c = (
-      omega arith,
-      simp length-set (omega arith),
-      ap (λ (x : List ℕ). set x (c.args.at + c.loop-j.j) (get_or c.args.src.now c.loop-j.j 0)) c.loop-j.invariant.2
-          ∙ paste-suc c.args.dst.now c.args.at c.args.src.now c.loop-j.j 0 (omega arith) (omega arith)
-          ∙ ap (paste c.args.dst.now c.args.at c.args.src.now) (sym (add-one c.loop-j.j)),
-    )
+  omega arith,
+  simp length-set (omega arith),
+  ap (λ (x : List ℕ). set x (c.args.at + c.loop-j.j) (get_or c.args.src.now c.loop-j.j 0)) c.loop-j.invariant.2
+      ∙ paste-suc c.args.dst.now c.args.at c.args.src.now c.loop-j.j 0 (omega arith) (omega arith)
+      ∙ ap (paste c.args.dst.now c.args.at c.args.src.now) (sym (add-one c.loop-j.j)),
+)
 
 pub returns : goal.returns
 unfolding copied

@@ -18,12 +18,11 @@ pub overflow_add-h : goal.overflow_add-h
 overflow_add-h c = record { fits = omega arith }
 
 pub loop-h-preserved : goal.loop-h-preserved
-loop-h-preserved c = let o = integrity_of c.args.entries.now c.args.bytes.now in
-    (
-      omega arith,
-      path-more put_hash (hash_in c.args.scratch.now) (got_by o) c.args.c c.args.hashes.now c.loop-h.h c.put_pair.ensures.0 c.read-own.ensures c.loop-h.invariant.1,
-      path-more mark (hash_in c.args.scratch.now) (got_by o) c.args.c c.args.trusted.now c.loop-h.h c.put_pair.ensures.1 c.read-own.ensures c.loop-h.invariant.2,
-    )
+loop-h-preserved c = let o = integrity_of c.args.entries.now c.args.bytes.now in (
+  omega arith,
+  path-more put_hash (hash_in c.args.scratch.now) (got_by o) c.args.c c.args.hashes.now c.loop-h.h c.put_pair.ensures.0 c.read-own.ensures c.loop-h.invariant.1,
+  path-more mark (hash_in c.args.scratch.now) (got_by o) c.args.c c.args.trusted.now c.loop-h.h c.put_pair.ensures.1 c.read-own.ensures c.loop-h.invariant.2,
+)
 
 pub shape_of-hashes : goal.shape_of-hashes
 shape_of-hashes c = ap length c.loop-h.invariant.1 ∙ length-path put_hash length-put_hash (hash_in c.args.scratch.now) (got_by (integrity_of c.args.entries.now c.args.bytes.now)) c.args.c c.loop-h.h c.args.hashes.now
