@@ -5,14 +5,15 @@
 ghost use Rattle.std.specs.Prelude.{◌≤◌};
 
 use hash::value::HashValue;
-use libc::STDOUT_FILENO;
+use std::io::Write;
 
 fn digit(x: u8) -> u8 {
     let y = x % 16;
     if y < 10 { b'0' + y } else { b'a' - 10 + y }
 }
 
-fn write_line(label: &[u8], v: HashValue) {
+// A write that fails loses its bytes, and that is not told.
+fn write_line(output: &mut impl Write, label: &[u8], v: HashValue) {
     let d = hash::value::bytes(v);
     let mut line = [b'\n'; 66];
     line[0] = b' ';
@@ -23,8 +24,8 @@ fn write_line(label: &[u8], v: HashValue) {
         line[2 * i + 2] = digit(x);
         i += 1;
     }
-    io::write_all(STDOUT_FILENO, label);
-    io::write_all(STDOUT_FILENO, &line);
+    let _ = output.write_all(label);
+    let _ = output.write_all(&line);
 }
 
 // A million times the letter a, block by block.
@@ -50,41 +51,44 @@ fn counting() -> [u8; 1024] {
     m
 }
 
-fn published() {
-    write_line(b"empty", hash::message::sha256(b""));
-    write_line(b"abc", hash::message::sha256(b"abc"));
+fn published(output: &mut impl Write) {
+    write_line(output, b"empty", hash::message::sha256(b""));
+    write_line(output, b"abc", hash::message::sha256(b"abc"));
     write_line(
+        output,
         b"fips-448",
         hash::message::sha256(b"abcdbcdecdefdefgefghfghighijhijkijkljklmklmnlmnomnopnopq"),
     );
     write_line(
+        output,
         b"fips-896",
         hash::message::sha256(
             b"abcdefghbcdefghicdefghijdefghijkefghijklfghijklmghijklmnhijklmnoijklmnopjklmnopqklmnopqrlmnopqrsmnopqrstnopqrstu",
         ),
     );
-    write_line(b"million-a", million());
+    write_line(output, b"million-a", million());
 }
 
 // The line of the bytes 0, 1, 2 and so on, n of them.
-fn write_length(label: &[u8], n: usize)
+fn write_length(output: &mut impl Write, label: &[u8], n: usize)
     requires { n ≤ 1024 }
 {
     let m = counting();
-    write_line(label, hash::message::sha256(&m[..n]));
+    write_line(output, label, hash::message::sha256(&m[..n]));
 }
 
-fn main() {
-    published();
-    write_length(b"length-55", 55);
-    write_length(b"length-56", 56);
-    write_length(b"length-63", 63);
-    write_length(b"length-64", 64);
-    write_length(b"length-65", 65);
-    write_length(b"length-119", 119);
-    write_length(b"length-120", 120);
-    write_length(b"length-127", 127);
-    write_length(b"length-128", 128);
-    write_length(b"length-1023", 1023);
-    write_length(b"length-1024", 1024);
+fn main(rt: HostRuntime) {
+    let mut output = rt.stdout();
+    published(&mut output);
+    write_length(&mut output, b"length-55", 55);
+    write_length(&mut output, b"length-56", 56);
+    write_length(&mut output, b"length-63", 63);
+    write_length(&mut output, b"length-64", 64);
+    write_length(&mut output, b"length-65", 65);
+    write_length(&mut output, b"length-119", 119);
+    write_length(&mut output, b"length-120", 120);
+    write_length(&mut output, b"length-127", 127);
+    write_length(&mut output, b"length-128", 128);
+    write_length(&mut output, b"length-1023", 1023);
+    write_length(&mut output, b"length-1024", 1024);
 }

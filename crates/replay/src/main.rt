@@ -1,6 +1,6 @@
 // The replay program (01, "The replay program"): reads lines of hexadecimal from standard input, and writes the answer
-// to each to standard output. Its memory is the same for any input. A read that fails counts as the end of input. A
-// write that fails loses its bytes, and that is not told: a program has no exit status here.
+// to each to standard output. Its memory is the same for any input, and it allocates none. A read that fails counts as
+// the end of input. A write that fails loses its bytes, and that is not told.
 #![tactic(auto)]
 
 ghost use Rattle.std.specs.Prelude.{◌≤◌, ◌<◌, [], length};
@@ -8,7 +8,7 @@ ghost use Rattle.channel.proofs.Promise.{world_of};
 ghost use Rattle.script.proofs.Promise.{filled, line_size};
 ghost use Rattle.trace.proofs.Promise.{replay_of, ReplayRooms, Fed};
 
-use libc::{STDIN_FILENO, STDOUT_FILENO};
+use std::io::{Read, Write};
 use table::words::STATE_WORDS;
 use trace::limits::LINE_ROOM;
 use trace::session::Session;
@@ -16,16 +16,20 @@ use trace::stream::Progress;
 use trace::{ending, session, stream};
 use wire::limits::MAX_SIZE;
 
-// Writes the first bytes of the output room.
-fn flush(out: &[u8], used: usize)
+// The bytes of the room for input, and of that for output.
+const BLOCK_ROOM: usize = 65536;
+
+// Writes the first bytes of the output room. What a write that fails comes to is let go.
+fn flush(output: &mut impl Write, out: &[u8], used: usize)
     requires { used ≤ length out.now }
 {
-    io::write_all(STDOUT_FILENO, &out[..used]);
+    let _ = output.write_all(&out[..used]);
 }
 
 // Answers the lines of a block; what is left is a line that has begun. As many as fit the output room are answered and
 // written, until all of the block is read.
 fn feed(
+    output: &mut impl Write,
     session: Session,
     state: &mut [u32],
     chunks: &mut [u8],
@@ -59,7 +63,7 @@ fn feed(
         let p = stream::answer_lines(
             current, state, chunks, map, hashes, trusted, has, wants, reply, line, kept, rest, out,
         );
-        flush(out, p.used);
+        flush(output, out, p.used);
         current = p.session;
         kept = p.len;
         let read = p.read;
@@ -74,18 +78,20 @@ fn feed(
 }
 
 // Reads a block of input: how many bytes, none where the input ends. Where no turn is left it counts as ended.
-fn read_block(block: &mut [u8], turns: u64) -> usize
+fn read_block(input: &mut impl Read, block: &mut [u8], turns: u64) -> usize
     ensures { (result ≤ length block.new) × (0 < result → 0 < turns) }
 {
     if turns == 0 {
         return 0;
     }
-    io::count(libc::read(STDIN_FILENO, block), block)
+    input.read(block).unwrap_or(0)
 }
 
 // Reads block after block, and ends. A proved loop has to end, and nothing says that the input does: it counts its
 // turns down, from a number that no run uses up.
 fn run(
+    input: &mut impl Read,
+    output: &mut impl Write,
     state: &mut [u32],
     chunks: &mut [u8],
     map: &mut [u32],
@@ -106,9 +112,10 @@ fn run(
     let mut current = session::fresh();
     let mut len: usize = 0;
     let mut turns = u64::MAX;
-    let mut n = read_block(block, turns);
+    let mut n = read_block(input, block, turns);
     while 0 < n {
         let p = feed(
+            output,
             current,
             state,
             chunks,
@@ -126,17 +133,19 @@ fn run(
         current = p.session;
         len = p.len;
         turns -= 1;
-        n = read_block(block, turns);
+        n = read_block(input, block, turns);
     }
     let last = ending::finish(
         current, state, chunks, map, hashes, trusted, has, wants, reply, line, len, out,
     );
-    flush(out, last.used);
+    flush(output, out, last.used);
 }
 
 // The rooms of a store for 32 chunks, and those for a line, for input and for output: they suffice. The words of the
 // state are none with an order until line one starts the store.
-fn main() {
+fn main(rt: HostRuntime) {
+    let mut input = rt.stdin();
+    let mut output = rt.stdout();
     let mut state = [0u32; STATE_WORDS];
     let mut chunks = [0u8; 32768];
     let mut map = [0u32; 1];
@@ -146,9 +155,11 @@ fn main() {
     let mut wants = [0u32; 16];
     let mut reply = [0u8; MAX_SIZE];
     let mut line = [0u8; LINE_ROOM];
-    let mut block = io::large_buffer();
-    let mut out = io::large_buffer();
+    let mut block = [0u8; BLOCK_ROOM];
+    let mut out = [0u8; BLOCK_ROOM];
     run(
+        &mut input,
+        &mut output,
         &mut state,
         &mut chunks,
         &mut map,
