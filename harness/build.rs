@@ -29,7 +29,7 @@ fn link(directory: &Path, name: &str) {
     println!("cargo::rerun-if-changed={}", archive.display());
     if !archive.is_file() {
         panic!(
-            "{} is missing: run `rt staticlib {name}` first",
+            "{} is missing: run `tools/library {name}` first",
             archive.display()
         );
     }

@@ -16,7 +16,7 @@ fn main() {
     println!("cargo::rerun-if-changed={}", archive.display());
     if !archive.is_file() {
         panic!(
-            "{} is missing: run `rt staticlib loader` first",
+            "{} is missing: run `tools/library` first",
             archive.display()
         );
     }
