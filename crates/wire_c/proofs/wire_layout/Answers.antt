@@ -1,0 +1,15 @@
+use Rattle.wire_c.proofs.CallLaws.{layout-short, layout-few, layout-done}
+use Rattle.format.specs.Format.{format_of}
+use Rattle.format.specs.declared.Format.{Format}
+use Rattle.wire.proofs.Promise.{check_spec}
+use mathlib.Core.Path.{ap, ◌∙◌}
+use Rattle.wire_c.proofs.wire_layout.Goals as goal
+
+pub returns-then-out-lt6 : goal.returns-then-out-lt6
+returns-then-out-lt6 c = layout-short (format_of c.args.addressing) c.args.datagram.now c.args.entries.now c.args.out.now c.if-out-lt6.true
+
+pub returns-then-entries-lt-ENTRIES : goal.returns-then-entries-lt-ENTRIES
+returns-then-entries-lt-ENTRIES c = layout-few (format_of c.args.addressing) c.args.datagram.now c.args.entries.now c.args.out.now c.if-out-lt6.false c.if-entries-lt-ENTRIES.true
+
+pub returns : goal.returns
+returns c = layout-done (format_of c.args.addressing) c.args.datagram.now c.args.entries.now c.args.out.now c.if-out-lt6.false c.if-entries-lt-ENTRIES.false (c.check-found.ensures ∙ ap (λ (G : Format). check_spec G c.args.entries.now c.args.datagram.now) c.of_method.ensures) c.put_layout.ensures c.number.ensures
