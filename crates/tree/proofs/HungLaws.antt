@@ -2,7 +2,7 @@
 use Rattle.std.proofs.Common.{◌≡◌, ℕ, zero, suc, ◌+◌, ◌/◌, ◌%◌, ◌^◌, ◌<◌, ◌≤◌, Bool, true, false, eqb, ltb, leb, ◌⊎◌, List, ◌++◌, sym, refl, ap, ◌∙◌, subst, ap₂, inl, inr, true≢false, arith, pow_pos, ltb-true, le-ltb, lt-ltb, eq-eqb, ne_eqb, eqb-true}
 use Rattle.base.specs.Pick.{pick}
 use Rattle.tree.specs.Node.{sibling_from, above}
-use Rattle.tree.specs.Tree.{root, combined, joined, climb}
+use Rattle.tree.specs.Tree.{combined, joined, climb}
 use Rattle.tree.specs.State.{State, is_peak}
 use Rattle.tree.proofs.Sound.{on_path, adopted, hung, Sound}
 use Rattle.tree.proofs.NodeLaws.{split, above-left, above-right, beside-left, beside-right, whole_below, above_aligned, parent-right, parent_above, aligned_left, aligned_right, above_zero, child_cases}

@@ -1,6 +1,5 @@
 -- Sound stores: what the peaks give, and what holds where two stores agree. Assumes nothing.
 use Rattle.std.proofs.Common.{◌≡◌, ℕ, zero, suc, ◌+◌, ◌/◌, ◌%◌, ◌^◌, ◌<◌, ◌≤◌, true, ltb, leb, ◌⊎◌, List, ◌++◌, sym, refl, ap, ◌∙◌, ap₂, inl, inr, arith, pow_pos, lt-ltb, le-leb, leb-true}
-use Rattle.base.specs.Same.{same}
 use Rattle.tree.specs.Node.{above}
 use Rattle.tree.specs.Pack.{levels}
 use Rattle.tree.specs.Tree.{given, combined}

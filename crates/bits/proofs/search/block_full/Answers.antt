@@ -1,4 +1,3 @@
-use Prim.Native.Nat.{◌-◌}
 use native.Mathlib.Omega.{arith}
 use Rattle.bits.proofs.BlockLaws.{none_in_all, all_more, all_eight}
 use Rattle.bits.proofs.search.block_full.Goals as goal

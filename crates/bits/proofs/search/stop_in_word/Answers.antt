@@ -3,7 +3,7 @@ use native.Mathlib.Nat.{lt_of_le_of_lt}
 use native.Mathlib.Omega.{arith}
 use mathlib.Core.Logic.{⊎_elim}
 use lib.Count.{trailing_le}
-use borrow.Author.Tests.{leb-true, leb-false}
+use borrow.Author.Tests.{leb-false}
 use Rattle.bits.proofs.HeldLaws.{held-from_le, from_past}
 use Rattle.bits.proofs.OnesLaws.{low-ones-from}
 use Rattle.bits.proofs.search.stop_in_word.Goals as goal

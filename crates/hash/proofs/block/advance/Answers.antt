@@ -1,4 +1,4 @@
-use Rattle.std.proofs.Common.{◌≡◌, length, rules}
+use Rattle.std.proofs.Common.{rules}
 use Rattle.hash.proofs.RoundLaws.{steps_law}
 use Rattle.hash.proofs.block.advance.Goals as goal
 

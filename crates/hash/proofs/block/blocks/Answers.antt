@@ -1,4 +1,4 @@
-use Rattle.std.proofs.Common.{◌-◌, refl, arith, rules}
+use Rattle.std.proofs.Common.{refl, arith, rules}
 use Rattle.hash.proofs.MessageLaws.{after_none, after_turn, after_end}
 use Rattle.hash.proofs.block.blocks.Goals as goal
 

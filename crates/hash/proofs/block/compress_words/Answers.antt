@@ -1,4 +1,4 @@
-use Rattle.std.proofs.Common.{◌≡◌, ◌-◌, length, refl, arith, rules}
+use Rattle.std.proofs.Common.{refl, arith, rules}
 use Rattle.hash.proofs.BlockLaws.{advance-turn, advance_end}
 use Rattle.hash.proofs.block.compress_words.Goals as goal
 

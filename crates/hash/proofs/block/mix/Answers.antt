@@ -1,4 +1,4 @@
-use Rattle.std.proofs.Common.{◌-◌, refl, arith, rules}
+use Rattle.std.proofs.Common.{refl, arith, rules}
 use Rattle.hash.proofs.BlockLaws.{mix-turn, mix_end}
 use Rattle.hash.proofs.block.mix.Goals as goal
 

@@ -1,4 +1,4 @@
-use Rattle.std.proofs.Common.{◌-◌, refl, arith}
+use Rattle.std.proofs.Common.{refl, arith}
 use Rattle.hash.proofs.MessageLaws.{copy_turn, mark_law}
 use Rattle.hash.proofs.message.marked.Goals as goal
 

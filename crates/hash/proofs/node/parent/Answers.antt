@@ -1,4 +1,4 @@
-use Rattle.std.proofs.Common.{◌≡◌, length, refl, rules}
+use Rattle.std.proofs.Common.{refl, rules}
 use Rattle.hash.specs.Word.{◌⊞◌, σ0, σ1, word32, words}
 use Rattle.hash.specs.Block.{next, extended}
 use Rattle.hash.specs.Rows.{next_sixteen}

@@ -1,4 +1,4 @@
-use Rattle.std.proofs.Common.{◌≡◌, length, rules}
+use Rattle.std.proofs.Common.{rules}
 use Rattle.hash.proofs.BytesLaws.{pair_law}
 use Rattle.hash.proofs.value.pair.Goals as goal
 

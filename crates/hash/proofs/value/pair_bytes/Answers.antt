@@ -1,4 +1,4 @@
-use Rattle.std.proofs.Common.{◌≡◌, ◌-◌, length, sym, refl, arith, rules}
+use Rattle.std.proofs.Common.{◌≡◌, length, sym, refl, arith, rules}
 use Rattle.hash.specs.Word.{bytes_of}
 use Rattle.hash.proofs.BytesLaws.{written-long, write_law, write_end, write-pair}
 use Rattle.hash.proofs.value.pair_bytes.Goals as goal

@@ -1,5 +1,5 @@
 use Rattle.hash.proofs.SameLaws.{same-no, same-yes}
-use Rattle.std.proofs.Common.{◌≡◌, ℕ, ◌-◌, length, get_or, arith, w32, Fits, rules, below_more}
+use Rattle.std.proofs.Common.{get_or, arith, w32, Fits, rules, below_more}
 use Rattle.hash.proofs.value.same.Goals as goal
 
 pub loop-i-init : goal.loop-i-init

@@ -1,6 +1,5 @@
 use native.Mathlib.Omega.{arith}
 use mathlib.Core.Path.{◌∙◌}
-use Prim.Native.Nat.{◌-◌}
 use Rattle.script.proofs.LineLaws.{feed-none, feed-here, feed-on}
 use Rattle.script.proofs.lines.before_feed.Goals as goal
 

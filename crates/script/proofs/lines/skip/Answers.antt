@@ -1,6 +1,5 @@
 use native.Mathlib.Omega.{arith}
 use mathlib.Core.Path.{sym, ◌∙◌}
-use Prim.Native.Nat.{◌-◌}
 use Rattle.script.proofs.LineLaws.{feed-clear}
 use Rattle.script.proofs.lines.skip.Goals as goal
 

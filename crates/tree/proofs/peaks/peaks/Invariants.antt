@@ -1,6 +1,5 @@
 use Rattle.std.proofs.Common.{suc, ◌≤◌}
 use Rattle.tree.specs.Pack.{levels}
-use Rattle.tree.specs.Peaks.{peaks}
 use Rattle.tree.proofs.Below.{peaks_below}
 use Rattle.tree.proofs.StepLaws.{LeftBelow}
 use Rattle.tree.proofs.peaks.peaks.Given as goal

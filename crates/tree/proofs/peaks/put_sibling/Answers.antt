@@ -1,4 +1,3 @@
-use borrow.Author.Tests.{not-true, not-false}
 use Rattle.tree.proofs.StepLaws.{sibling-none, sibling-put}
 use Rattle.tree.proofs.peaks.put_sibling.Goals as goal
 

@@ -1,4 +1,4 @@
-use Rattle.std.proofs.Common.{suc, ◌-◌, ◌≤◌}
+use Rattle.std.proofs.Common.{suc, ◌≤◌}
 use Rattle.tree.specs.Pack.{levels}
 use Rattle.tree.proofs.Below.{sent_below}
 use Rattle.tree.proofs.StepLaws.{LeftBelow}

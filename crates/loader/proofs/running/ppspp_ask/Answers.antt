@@ -1,0 +1,5 @@
+use Rattle.loader.proofs.CallLaws.{ask-counted}
+use Rattle.loader.proofs.running.ppspp_ask.Goals as goal
+
+pub returns : goal.returns
+returns c = ask-counted _ c.ask-asked.ensures c.flag.ensures
