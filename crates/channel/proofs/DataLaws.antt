@@ -9,7 +9,7 @@ use Rattle.held.specs.declared.interval.Interval.{Interval}
 use Rattle.table.proofs.Promise.{row_at, order_in}
 use Rattle.table.specs.declared.rows.Row.{Row}
 use Rattle.order.specs.declared.Order.{Order}
-use Rattle.hash.proofs.Promise.{bytes_of, words}
+use Rattle.hash.proofs.Promise.{bytes_of}
 use Rattle.store.proofs.Promise.{Rooms, Integrity, count_of, length_answer, length_accepted, integrity_of}
 use Rattle.store.proofs.Promise.{take_spec as storeTake, refused-same, taken-chunk, taken-map}
 use Rattle.channel.specs.World.{Channels, channels_of, World, Out, out_at, out_of, order_length, chunk_count}

@@ -24,7 +24,6 @@ use Rattle.channel.specs.Ask.{Asked, asked_of, ask_spec}
 use Rattle.wire.specs.declared.message.Message.{Message}
 use Rattle.channel.specs.Adding.{adding_spec}
 use Rattle.format.specs.Format.{format_of, is_method}
-use Rattle.hash.proofs.Promise.{words}
 use Rattle.writer.proofs.Promise.{add_spec, add_numbered}
 
 -- ---- 12 and 11

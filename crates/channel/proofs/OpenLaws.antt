@@ -5,7 +5,7 @@ use Rattle.wire.proofs.Promise.{placed}
 use Rattle.table.proofs.Promise.{row_count, order_in, lowest_free, put_row}
 use Rattle.table.specs.declared.rows.Row.{Row}
 use Rattle.hash.specs.declared.value.HashValue.{HashValue}
-use Rattle.hash.proofs.Promise.{bytes_of, words}
+use Rattle.hash.proofs.Promise.{bytes_of}
 use Rattle.replies.proofs.Promise.{handshake_reply}
 use Rattle.store.proofs.Promise.{earlier, count_of}
 use Rattle.channel.specs.World.{Channels, channels_of, World, Out, out_of, beside, table_rows, cleared_row, order_format}

@@ -2,7 +2,7 @@
 -- checks and reads back as its messages. Assumes nothing.
 use Rattle.std.proofs.Common.{◌≡◌, ℕ, ◌+◌, ◌-◌, ◌*◌, ◌^◌, ◌<◌, ◌≤◌, Bool, true, false, eqb, ◌≢◌, ◌⊎◌, List, length, take, drop, sym, refl, ap, ◌∙◌, inl, inr, true≢false, mod-lt, arith, length-take, get_or-drop, eq-eqb, eqb-true}
 use mathlib.Core.Option.{none, some}
-use Rattle.hash.proofs.Promise.{Words, bytes-length, words}
+use Rattle.hash.proofs.Promise.{Words, bytes-length}
 use Rattle.base.specs.Pick.{pick}
 use Rattle.table.proofs.Promise.{order_in, root-eight, peer-fits, row_at, open_row_of, open_answer, handshake_answer, write_answer, open_some, handshake-opened, handshake_taken_lem}
 use Rattle.table.specs.declared.rows.Row.{Row}

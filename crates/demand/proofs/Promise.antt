@@ -14,7 +14,6 @@ use Rattle.demand.proofs.DemandLaws as demand
 use Rattle.demand.proofs.SufficeLaws as suffice
 pub use Rattle.demand.specs.Run.{Call, opening, taking, writing, asking, lend, out, step, run, ReplyFits, FreshOrBuilt, fresh, built, first_brought}
 pub use Rattle.demand.specs.Demand.{chunks_in, ask, BothWhole, Demand}
-use lib.ListN.{length}
 
 -- After a start or a building that answered 0, no call of a list, lent a reply room of at least the least size, is refused with
 -- 11 or 12: its other rooms are the store's own, as the last call left them.

@@ -13,7 +13,6 @@ use Rattle.store.proofs.Promise.{Rooms, Integrity, count_of, chunk_in, Running, 
 use Rattle.channel.specs.World.{World, order_root, order_length}
 use Rattle.demand.specs.Run.{Call, step, run, brings, or_next, first_brought, was_brought, brought_bytes}
 use Rattle.demand.proofs.StepLaws.{Kept, kept_by, step_keeps, Moved, stays, takes, step-moved}
-use lib.ListN.{length}
 
 -- What no call of a list changes: the order, and how long the rooms are.
 pub run-keeps : (w : World) (ks : List Call) → kept_by (run w ks) ≡ kept_by w

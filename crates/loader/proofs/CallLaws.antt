@@ -9,7 +9,7 @@ use Rattle.table.proofs.Promise.{flag}
 use Rattle.base.specs.declared.Named.{Named}
 use Rattle.channel.proofs.Promise.{World, Out, out_at, node_number, named_by, start_spec, build_spec, take_spec, take-node, Asked, asked_of}
 use Rattle.order.specs.declared.Order.{Order}
-use lib.ListN.{drop, length}
+use lib.ListN.{drop}
 use Rattle.loader.specs.Order.{le32, order_from}
 
 -- The order in the bytes.

@@ -19,7 +19,6 @@ use Rattle.tree.specs.Bin.{bin}
 use Rattle.tree.specs.Node.{above}
 use Rattle.tree.specs.Pack.{chunk_size, chunks, size, levels, leaf_places}
 use Rattle.tree.specs.Tree.{tree, root, given, combined}
-use Rattle.tree.specs.Verdicts.{got}
 use Rattle.verdict.specs.Room.{filler, Digest, hash_in, put_hash}
 use Rattle.verdict.specs.Rooms.{rooms_of, count_of, chunk_in}
 use Rattle.store.specs.Steps.{Filled, put_level, put_levels}

@@ -15,7 +15,6 @@ use Rattle.tree.specs.Node.{sibling_from, above}
 use Rattle.tree.specs.Pack.{levels}
 use Rattle.tree.specs.State.{is_peak}
 use Rattle.tree.proofs.Sound.{on_path}
-use Rattle.tree.specs.Verdicts.{got}
 use Rattle.verdict.specs.Room.{Digest}
 use Rattle.store.specs.Storing.{Put}
 use Rattle.store.specs.Steps.{put_peaks, put_path, put_if}

@@ -7,7 +7,6 @@ use Rattle.table.specs.declared.rows.Phase.TheVariants.{Free, Calling, Open}
 use Rattle.table.specs.declared.rows.Row.{Row}
 use Rattle.table.specs.declared.rows.Search.{Search}
 use Rattle.table.specs.declared.rows.Search.TheVariants.{InUse}
-use Rattle.table.specs.declared.rows.Search.TheVariants as Search
 
 -- How many channels there are.
 abbrev pub row_count : ℕ

@@ -11,7 +11,6 @@ use Rattle.base.specs.Pick.{pick}
 use Rattle.format.specs.declared.Addressing.{Addressing}
 use Rattle.format.specs.declared.Addressing.TheVariants.{Bins, Ranges}
 use Rattle.format.specs.declared.Format.{Format}
-use Rattle.tree.proofs.Promise.{first, last}
 use Rattle.wire.specs.Bytes.{be16, be32, be64}
 use Rattle.wire.specs.Place.{place_by, place_size, named_size, timed_size, integrity_size, empty_bin, everything_bin}
 use Rattle.wire.specs.Place.{first_by, first_of, last_by, last_of, empty_by, is_empty, special_by, is_special}

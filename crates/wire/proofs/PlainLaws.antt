@@ -13,8 +13,7 @@ use Rattle.base.specs.Pick.{pick}
 use Rattle.wire.specs.Bytes.{be64}
 use Rattle.wire.specs.Place.{first_of, last_of, integrity_size, is_empty, is_special, named_size, timed_size}
 use Rattle.wire.specs.Read.{cursor, ack_at, ranged_at, typed, step_of, step_at, named, names_node, is_ranged}
-use Rattle.wire.specs.Steps.{range_of, is_single, ranged_size, plain_size, plain_message, is_node, ack_size}
-use Rattle.wire.specs.declared.range.Range.{Range}
+use Rattle.wire.specs.Steps.{is_single, ranged_size, plain_size, plain_message, is_node, ack_size}
 use Rattle.wire.specs.declared.message.Message.{Message}
 use Rattle.wire.specs.declared.message.Message.TheVariants.{Ack, Integrity, Empty}
 use Rattle.wire.specs.declared.message.Step.{Step}
@@ -24,7 +23,6 @@ use Rattle.wire.proofs.PlaceLaws.{not_none, none-order}
 use Rattle.wire.proofs.ViewLaws.{View, the_end, refused, a_handshake, a_data, an_ack, a_have, an_integrity, a_request, a_cancel, a_choke, an_unchoke, view, an_empty, ranged_types}
 use Rattle.wire.proofs.ViewLaws.{refusing, typed-is, end_is, choke-is, unchoke-is, integrity-is}
 use Rattle.format.specs.declared.Format.{Format}
-use Rattle.tree.proofs.Promise.{first, last}
 
 -- ---- the types
 

@@ -9,8 +9,7 @@ use borrow.Author.Tests.{lt-ltb, le-ltb, eq-eqb}
 use Rattle.wire.specs.Limits.{min_size, max_size}
 use Rattle.wire.specs.Read.{step_at}
 use Rattle.wire.specs.Layout.{Checked, checked_of, number_of, layout_step, layout_from, layout_of}
-use Rattle.wire.specs.Steps.{range_of, plain_size, survey_of, no_survey, higher, acting, survey_step, survey_from, survey_all, survey_spec, Fronted, surveyed}
-use Rattle.wire.specs.declared.range.Range.{Range}
+use Rattle.wire.specs.Steps.{plain_size, survey_of, no_survey, higher, acting, survey_step, survey_from, survey_all, survey_spec, Fronted, surveyed}
 use Rattle.wire.specs.declared.message.Step.{Step}
 use Rattle.wire.specs.declared.message.Step.TheVariants.{End, Read}
 use Rattle.wire.specs.declared.layout.Layout.TheVariants.{Messages}
@@ -24,7 +23,6 @@ use Rattle.format.specs.declared.Format.{Format}
 use Rattle.wire.specs.declared.message.Message.{Message}
 use Rattle.wire.specs.Place.{first_of, is_empty, last_of, named_size, reach, timed_size}
 use lib.Dec.{ltb}
-use Rattle.tree.proofs.Promise.{first, last}
 use Rattle.base.specs.Pick.{pick}
 
 -- ---- one turn of the definitions, and their end

@@ -30,7 +30,6 @@ use Rattle.wire.proofs.BytesLaws.{part}
 use Rattle.wire.proofs.ViewLaws.{View, the_end, refused, a_handshake, a_data, an_ack, a_have, an_integrity, a_request, a_cancel, a_choke, an_unchoke, view, an_empty}
 use Rattle.wire.proofs.SpanLaws.{Reaches}
 use Rattle.format.specs.declared.Format.{Format}
-use Rattle.tree.proofs.Promise.{first, last}
 use Rattle.wire.proofs.SurveyLaws.{plain-surveyed}
 
 -- ---- a turn by what stands there, as the code has it

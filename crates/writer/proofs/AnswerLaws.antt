@@ -3,11 +3,11 @@ use Prim.Native.Nat.{ℕ, zero, suc, ◌+◌, ◌-◌, ◌<◌, ◌≤◌}
 use native.Mathlib.Omega.{arith}
 use native.Mathlib.Nat.{sub-zero}
 use mathlib.Core.Path.{◌≡◌, refl, sym, ap, ap₂, ◌∙◌}
-use mathlib.Core.List.{List, [], ◌∷◌, ◌++◌}
+use mathlib.Core.List.{List, [], ◌++◌}
 use mathlib.Core.Bool.{Bool, true, false, not, true≢false}
 use lib.ListN.{length, take, drop, length-append}
 use lib.Seq.{length-take-le}
-use borrow.Author.Tests.{lt-ltb, le-ltb, eq-eqb, ne_eqb, not-true, not-false, le-leb, lt-leb, ltb-false, ltb-true}
+use borrow.Author.Tests.{lt-ltb, le-ltb, eq-eqb, ne_eqb, not-true, not-false}
 use Rattle.base.specs.Pick.{pick, earlier}
 use Rattle.base.specs.Out.{out_of, unless}
 use Rattle.tree.specs.declared.bin.RangeNode.{RangeNode}
@@ -32,7 +32,7 @@ use Rattle.writer.specs.Bytes.{bytes32, is_everything, nameable}
 use Rattle.writer.specs.Message.{bytes_of, writable}
 use Rattle.writer.specs.Add.{has_data, add_answer, begin_spec, add_spec}
 use Rattle.writer.specs.Lists.{HasWidths}
-use Rattle.writer.specs.Steps.{size_of, fault_behind, node_of, own_fault, seen_fault, behind_of, before_numbers, before_of, Addable, named_so, part_so}
+use Rattle.writer.specs.Steps.{size_of, node_of, own_fault, seen_fault, behind_of, before_numbers, before_of, Addable, named_so, part_so}
 use Rattle.writer.specs.declared.add.Before.{Before}
 use Rattle.writer.proofs.SizeLaws.{bytes-length}
 use Rattle.writer.proofs.AcceptLaws.{size_some, own_good}

@@ -16,7 +16,6 @@ use Rattle.wire.proofs.NumberLaws.{layout-one}
 use Rattle.writer.specs.Message.{bytes_of, writable}
 use Rattle.writer.specs.Add.{has_data, add_answer, begin_spec, add_spec}
 use Rattle.format.specs.declared.Format.{Format}
-use Rattle.tree.proofs.Promise.{last}
 
 pub begin-one : (room : List ℕ) (to : ℕ) → OneOf (0 ∷ 11 ∷ []) (begin_spec room to).answer
 unfolding begin_spec among

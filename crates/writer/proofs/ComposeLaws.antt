@@ -27,7 +27,6 @@ use Rattle.writer.proofs.ReadBackLaws.{Chain, list_back}
 use Rattle.writer.proofs.WriteBackLaws.{Goes, noted, goes_on}
 use Rattle.writer.proofs.RoundTrips.{alone, destination}
 use Rattle.format.specs.declared.Format.{Format}
-use Rattle.tree.proofs.Promise.{first}
 
 -- The entries behind messages that begin at `at`.
 abbrev pub noted_all : (F : Format) → ℕ → List ℕ → List Item → List ℕ

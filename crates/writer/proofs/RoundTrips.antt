@@ -27,7 +27,6 @@ use Rattle.writer.proofs.NumberLaws.{joined32, split-word}
 use Rattle.writer.proofs.ReadBackLaws.{added, list_back}
 use Rattle.writer.proofs.WriteBackLaws.{Here, write-back}
 use Rattle.format.specs.declared.Format.{Format}
-use Rattle.tree.proofs.Promise.{first}
 
 -- ---- a datagram begun
 module _ (room : List ℕ) (to : ℕ) where

@@ -1,6 +1,6 @@
 -- Lists of messages, added one after another and read from a datagram: what the two round trips of demand 2 speak of.
 -- Assumes nothing.
-use Rattle.std.specs.Prelude.{ℕ, zero, suc, ◌+◌, ◌<◌, ◌^◌, List, [], ◌∷◌, ◌++◌, map, length, get_or, take, eqb, ◌≡◌, ◌≢◌}
+use Rattle.std.specs.Prelude.{ℕ, zero, suc, ◌<◌, ◌^◌, List, [], ◌∷◌, ◌++◌, map, length, get_or, take, eqb, ◌≡◌, ◌≢◌}
 use Rattle.base.specs.Pick.{pick}
 use Rattle.base.specs.Out.{Out, out_of}
 use Rattle.format.specs.declared.Format.{Format}

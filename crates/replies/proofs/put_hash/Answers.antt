@@ -1,4 +1,3 @@
-use Prim.Native.Nat.{◌-◌}
 use native.Mathlib.Omega.{arith}
 use Rattle.wire.proofs.Promise.{placed-length}
 use Rattle.replies.proofs.HashLaws.{words-none, word_more, words-all}

@@ -1,4 +1,4 @@
-use Prim.Native.Nat.{◌-◌, ◌≤◌}
+use Prim.Native.Nat.{◌≤◌}
 use Rattle.replies.proofs.SendingLaws.{DoneFrom}
 use Rattle.replies.proofs.put_hashes.Given as goal
 

@@ -2,8 +2,6 @@ use Rattle.channel.proofs.TakeLaws.{quiet_affected}
 use Rattle.channel.proofs.DataLaws.{part_is, data-refused, data-held, data-unfit, data-done}
 use Rattle.channel.specs.World.{world_of}
 use Rattle.std.proofs.Common.{arith}
-use Rattle.std.proofs.Common.{ap}
-use mathlib.Core.Bool.{not}
 use Rattle.channel.proofs.messages.take_chunk.Goals as goal
 
 pub returns-then-refused-ne0 : goal.returns-then-refused-ne0

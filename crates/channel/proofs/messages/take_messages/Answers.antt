@@ -1,8 +1,6 @@
 use Rattle.channel.proofs.TakeLaws.{messages-refused, messages-done, affected-beside, quiet_affected}
 use Rattle.channel.specs.World.{channels_of}
 use Rattle.std.proofs.Common.{arith}
-use Rattle.std.proofs.Common.{ap}
-use mathlib.Core.Bool.{not}
 use Rattle.channel.proofs.messages.take_messages.Goals as goal
 
 pub returns-then-answer-ne0 : goal.returns-then-answer-ne0

@@ -3,7 +3,6 @@ use Rattle.channel.proofs.OpenLaws.{both_numbers}
 use Rattle.channel.proofs.AcceptLaws.{build-state}
 use Rattle.store.proofs.Promise.{rooms_of}
 use Rattle.std.proofs.Common.{◌≡◌, length, get_or, sym, ◌∙◌, arith, w32, Fits, rules}
-use lib.ListN.{length-map}
 use Rattle.hash.proofs.Promise.{Words}
 use Rattle.channel.specs.World.{world_of}
 use Rattle.channel.proofs.starting.build.Goals as goal

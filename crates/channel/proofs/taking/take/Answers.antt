@@ -3,7 +3,6 @@ use Rattle.channel.proofs.AcceptLaws.{own_number, own_accepted}
 use Rattle.channel.specs.Take.{layout_in}
 use Rattle.channel.specs.World.{World, world_of, order_length, order_format}
 use Rattle.store.proofs.Promise.{length_answer}
-use borrow.Author.Tests.{not-false}
 use Rattle.std.proofs.Common.{sym, ap, ◌∙◌, arith}
 use Rattle.wire.proofs.Promise.{size-sound}
 use Rattle.wire.proofs.Promise.{survey_all}

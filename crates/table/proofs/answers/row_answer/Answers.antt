@@ -1,6 +1,5 @@
 use mathlib.Core.Path.{◌≡◌, sym, ap, ◌∙◌}
 use mathlib.Core.Bool.{Bool}
-use mathlib.Core.Logic.{⊎_elim}
 use Rattle.base.specs.Pick.{pick}
 use Rattle.table.specs.Answers.{row_answer}
 use Rattle.table.proofs.AnswerLaws.{row_closes, row_moved, row-early, row_same, row-called}

@@ -1,5 +1,4 @@
 use Rattle.table.specs.Rows.{passes}
-use Prim.Native.Nat.{◌-◌}
 use native.Mathlib.Omega.{arith}
 use Rattle.table.proofs.RowLaws.{first-here, first_next, first_end}
 use Rattle.table.proofs.RowWordLaws.{rows_length, row_found_in}

@@ -1,4 +1,4 @@
-use Rattle.std.proofs.Common.{◌-◌, sym, refl, ◌∙◌, arith}
+use Rattle.std.proofs.Common.{sym, refl, ◌∙◌, arith}
 use Rattle.trace.proofs.BlockLaws.{lines-begin, step-reads, lines-again, lines_end}
 use Rattle.trace.proofs.stream.answer_lines.Goals as goal
 

@@ -1,5 +1,3 @@
-use mathlib.Core.Bool.{true}
-use Prim.Native.Nat.{◌-◌}
 use native.Mathlib.Omega.{arith}
 use Rattle.verdict.specs.Steps.{trusted_in}
 use Rattle.verdict.proofs.LoopLaws.{every-none, every-next, every-not, every-end}

@@ -1,4 +1,3 @@
-use Prim.Native.Nat.{◌-◌}
 use native.Mathlib.Omega.{arith}
 use Rattle.wire.proofs.PlacedLaws.{placed-length, placed-none}
 use Rattle.writer.proofs.PlaceLaws.{copy-one, copy-all}
