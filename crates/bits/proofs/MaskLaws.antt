@@ -9,7 +9,7 @@ use lib.Bits.{bit_and, bit_or, and_le_r, and_zero_r, or_shifted_r}
 use Rattle.bits.specs.Bits.{bit, with_bit, without_bit}
 use Rattle.bits.specs.Steps.{mask, with_bits, without_bits}
 use Rattle.bits.proofs.WordLaws.{shl_one, bit_lt, bit-low, bit-suc, bit_or_lem, bit_and_lem, bit_not, or_one}
-use Rattle.bits.proofs.WordLaws.{withBit-same, withBit-other, withoutBit-same, withoutBit-other}
+use Rattle.bits.proofs.WordLaws.{with_bit-same, with_bit-other, without_bit-same, without_bit-other}
 
 -- ---- numbers with the same bits are the same
 
@@ -70,8 +70,8 @@ with_bits-more w a b h = rw (mask-more a b h) (bit_ext _ _ (λ j. go j (ℕ_disc
     m = mask a b
 
     go : (j : ℕ) → Dec (j ≡ b) → bit (with_bit (bit_or w m) b) j ≡ bit (bit_or w (with_bit m b)) j
-    go j (yes e) = rw (e, withBit-same, bit_or_lem, withBit-same) (sym (or_one (bit w b) (bit_lt w b)))
-    go j (no d) = rw (withBit-other (bit_or w m) b j d, bit_or_lem w m j, bit_or_lem w (with_bit m b) j, withBit-other m b j d)
+    go j (yes e) = rw (e, with_bit-same, bit_or_lem, with_bit-same) (sym (or_one (bit w b) (bit_lt w b)))
+    go j (no d) = rw (with_bit-other (bit_or w m) b j d, bit_or_lem w m j, bit_or_lem w (with_bit m b) j, with_bit-other m b j d)
 
 -- From bit 32 on a word with some bits clear has none.
 bit_high : (w m j : ℕ) → 32 ≤ j → bit (bit_and w (2 ^ 32 - 1 - m)) j ≡ 0
@@ -98,10 +98,10 @@ without_bits-more w a b h l = rw (mask-more a b h) (bit_ext _ _ (λ j. go j (dec
         → bit (without_bit (bit_and w (2 ^ 32 - 1 - m)) b) j ≡ bit (bit_and w (2 ^ 32 - 1 - with_bit m b)) j
     go j (no k) _ = without_bit-high _ b j (omega arith) ∙ sym (bit_high w (with_bit m b) j (omega arith))
     go j (yes k) (yes e) =
-        rw (e, withoutBit-same _ b l, bit_and_lem, bit_not 32 (with_bit m b) b n l, withBit-same)
+        rw (e, without_bit-same _ b l, bit_and_lem, bit_not 32 (with_bit m b) b n l, with_bit-same)
         (sym (and_zero_r (bit w b)))
     go j (yes k) (no d) =
         let p : m < 2 ^ 32 = mask_lt a b (omega arith) in
-        withoutBit-other _ b l j k d
+        without_bit-other _ b l j k d
         ∙ rw (bit_and_lem w (2 ^ 32 - 1 - m) j, bit_and_lem w (2 ^ 32 - 1 - with_bit m b) j)
-        (rw (bit_not 32 m j p k, bit_not 32 (with_bit m b) j n k, withBit-other m b j d))
+        (rw (bit_not 32 m j p k, bit_not 32 (with_bit m b) j n k, with_bit-other m b j d))

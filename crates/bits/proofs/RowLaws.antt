@@ -11,7 +11,7 @@ use lib.Seq.{get_or-set_same, get_or-set_other, set_out}
 use lib.Dec.{eqb}
 use lib.Bits.{bit_and, bit_or, and_mask}
 use Rattle.bits.specs.Bits.{bit, bit_at, with_bit, without_bit, set_bit, clear_bit}
-use Rattle.bits.proofs.WordLaws.{shl_one, bit_of_zero, withBit-same, withBit-other, withoutBit-same, withoutBit-other}
+use Rattle.bits.proofs.WordLaws.{shl_one, bit_of_zero, with_bit-same, with_bit-other, without_bit-same, without_bit-other}
 
 -- ---- what the code computes where the row has the word
 
@@ -69,23 +69,23 @@ module _ (ws : List ℕ) (i : ℕ) where
   unfolding bit_at set_bit
   bit_at-set-same h =
       let l : i / 32 < length ws = omega arith in
-      rw (get_or-set_same ws (i / 32)) (rw withBit-same refl)
+      rw (get_or-set_same ws (i / 32)) (rw with_bit-same refl)
 
   pub bit_at-clear-same : i < length ws * 32 → bit_at (clear_bit ws i) i ≡ false
   unfolding bit_at clear_bit
   bit_at-clear-same h =
       let l : i / 32 < length ws = omega arith in
       let m : i % 32 < 32 = omega arith in
-      rw (get_or-set_same ws (i / 32)) (rw withoutBit-same refl)
+      rw (get_or-set_same ws (i / 32)) (rw without_bit-same refl)
 
   pub bit_at-set-other : (j : ℕ) → j ≢ i → bit_at (set_bit ws i) j ≡ bit_at ws j
   unfolding bit_at set_bit
   bit_at-set-other j n =
       ap (λ (x : ℕ). eqb x 1)
-      (row_other ws (i / 32) _ (j / 32) (j % 32) (λ e. withBit-other _ (i % 32) (j % 32) (λ f. n (omega arith))))
+      (row_other ws (i / 32) _ (j / 32) (j % 32) (λ e. with_bit-other _ (i % 32) (j % 32) (λ f. n (omega arith))))
 
   pub bit_at-clear-other : (j : ℕ) → j ≢ i → bit_at (clear_bit ws i) j ≡ bit_at ws j
   unfolding bit_at clear_bit
   bit_at-clear-other j n =
       ap (λ (x : ℕ). eqb x 1)
-      (row_other ws (i / 32) _ (j / 32) (j % 32) (λ e. withoutBit-other _ (i % 32) (omega arith) (j % 32) (omega arith) (λ f. n (omega arith))))
+      (row_other ws (i / 32) _ (j / 32) (j % 32) (λ e. without_bit-other _ (i % 32) (omega arith) (j % 32) (omega arith) (λ f. n (omega arith))))

@@ -75,19 +75,19 @@ and_one (suc zero) h = refl
 and_one (suc (suc x)) h = absurd (omega arith)
 
 module _ (w k : ℕ) where
-  pub withBit-same : bit (with_bit w k) k ≡ 1
+  pub with_bit-same : bit (with_bit w k) k ≡ 1
   unfolding with_bit
-  withBit-same = rw (bit_or_lem, bit-pow-same) (or_one (bit w k) (bit_lt w k))
+  with_bit-same = rw (bit_or_lem, bit-pow-same) (or_one (bit w k) (bit_lt w k))
 
-  pub withBit-other : (j : ℕ) → j ≢ k → bit (with_bit w k) j ≡ bit w j
+  pub with_bit-other : (j : ℕ) → j ≢ k → bit (with_bit w k) j ≡ bit w j
   unfolding with_bit
-  withBit-other j n = rw (bit_or_lem, bit-pow-other k j n) (or_zero_r (bit w j))
+  with_bit-other j n = rw (bit_or_lem, bit-pow-other k j n) (or_zero_r (bit w j))
 
-  pub withoutBit-same : k < 32 → bit (without_bit w k) k ≡ 0
+  pub without_bit-same : k < 32 → bit (without_bit w k) k ≡ 0
   unfolding without_bit
-  withoutBit-same h = rw (bit_and_lem, bit_not 32 (2 ^ k) k (pow-lt h) h, bit-pow-same) (and_zero_r (bit w k))
+  without_bit-same h = rw (bit_and_lem, bit_not 32 (2 ^ k) k (pow-lt h) h, bit-pow-same) (and_zero_r (bit w k))
 
-  pub withoutBit-other : k < 32 → (j : ℕ) → j < 32 → j ≢ k → bit (without_bit w k) j ≡ bit w j
+  pub without_bit-other : k < 32 → (j : ℕ) → j < 32 → j ≢ k → bit (without_bit w k) j ≡ bit w j
   unfolding without_bit
-  withoutBit-other h j l n =
+  without_bit-other h j l n =
       rw (bit_and_lem, bit_not 32 (2 ^ k) j (pow-lt h) l, bit-pow-other k j n) (and_one (bit w j) (bit_lt w j))

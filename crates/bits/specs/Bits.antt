@@ -69,7 +69,7 @@ ones_over ws zero = 0
 ones_over ws (suc w) = ones_over ws w + ones (get_or ws w 0 % 2 ^ 32)
 
 -- "bits past N left out": of the words that n bits fill all ones, and of the next word those of its n % 32 low bits.
--- "this sum is the number of set map bits": `words_count` in proofs/Promise.
+-- "this sum is the number of set map bits": `words_count` in proofs/WordCountLaws.
 unfoldable pub ones_below : List ℕ → ℕ → ℕ
 ones_below ws n = ones_over ws (n / 32) + ones (get_or ws (n / 32) 0 % 2 ^ (n % 32))
 

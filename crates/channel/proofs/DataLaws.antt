@@ -11,7 +11,7 @@ use Rattle.table.specs.declared.rows.Row.{Row}
 use Rattle.order.specs.declared.Order.{Order}
 use Rattle.hash.proofs.Promise.{bytes_of}
 use Rattle.store.proofs.Promise.{Rooms, Integrity, count_of, length_answer, length_accepted, integrity_of}
-use Rattle.store.proofs.Promise.{take_spec as storeTake, refused-same, taken-chunk, taken-map}
+use Rattle.store.proofs.Promise.{take_spec as store_take, refused-same, taken-chunk, taken-map}
 use Rattle.channel.specs.World.{Channels, channels_of, World, Out, out_at, out_of, order_length, chunk_count}
 use Rattle.channel.specs.World.{table_rows, order_format}
 use Rattle.channel.specs.Take.{row_for, messages_number, affected, delay, acknowledged, acknowledgement, replied}
@@ -65,8 +65,8 @@ pub part_is : (s : List ℕ) (b n : ℕ) → take (b + n - b) (drop b s) ≡ wit
 part_is s b n = let e : b + n - b ≡ n = omega arith in rw e
 
 -- A chunk taken with 0 is one of the pack, and in the map afterwards.
-pub store-held : (w : Rooms) (r : List ℕ) (L c : ℕ) (d : List ℕ) (o : Integrity) → (storeTake w r L c d o).answer ≡ 0
-    → (c < count_of L) × (bit_at (storeTake w r L c d o).after.map c ≡ true)
+pub store-held : (w : Rooms) (r : List ℕ) (L c : ℕ) (d : List ℕ) (o : Integrity) → (store_take w r L c d o).answer ≡ 0
+    → (c < count_of L) × (bit_at (store_take w r L c d o).after.map c ≡ true)
 store-held w r L c d o z =
     let h = (taken-chunk w r L c d o z).0 in
     (h, taken-map w r L c d o z c h ∙ rw (eq-eqb c c refl))
@@ -79,12 +79,12 @@ module _ (w : World) (clock : ℕ) (s es : List ℕ) (c x b n : ℕ) {k : ℕ}
 
   module _ (z : k ≡ 0) {o : Order} (oe : o ≡ order_in w.channels.state) {d : List ℕ} (de : d ≡ within s b n)
       {m : ℕ} {node : Named} {after : Rooms}
-      (me : out_at m 0 node after ≡ storeTake w.rooms (bytes_of o.root.words) o.length c d (integrity_of es s)) where
+      (me : out_at m 0 node after ≡ store_take w.rooms (bytes_of o.root.words) o.length c d (integrity_of es s)) where
     out-is : out_at m 0 node after ≡ store_out w s es c b n
     out-is = me ∙ ap (λ (q : Order). by q d) oe ∙ ap (by (order_in w.channels.state)) de
       where
         by : Order → List ℕ → Out Rooms
-        by q y = storeTake w.rooms (bytes_of q.root.words) q.length c y (integrity_of es s)
+        by q y = store_take w.rooms (bytes_of q.root.words) q.length c y (integrity_of es s)
 
     answer-is : m ≡ (store_out w s es c b n).answer
     answer-is = ap (λ (o : Out Rooms). o.answer) out-is

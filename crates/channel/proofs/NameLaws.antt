@@ -10,7 +10,7 @@ use Rattle.wire.proofs.Promise.{number_of, layout-one}
 use Rattle.wire.specs.declared.layout.Layout.{Layout}
 use Rattle.wire.specs.declared.layout.Layout.TheVariants.{Fault, HandshakeAlone, Messages, MessagesAndData}
 use Rattle.writer.proofs.Promise.{within}
-use Rattle.store.proofs.Promise.{Integrity, integrity_of, taken-named, named_small, take_spec as storeTake}
+use Rattle.store.proofs.Promise.{Integrity, integrity_of, taken-named, named_small, take_spec as store_take}
 use Rattle.order.specs.declared.Order.{Order}
 use Rattle.channel.specs.World.{World, Out, out_of, is_named, unless_at, unless, order_format, order_root, order_length}
 use Rattle.channel.specs.Answers.{own_rooms_answer}
@@ -135,8 +135,8 @@ module _ (w : World) (clock id : ℕ) (s : List ℕ) where
   answer-of (suc n) x len old new k d e = (e, refl)
 
   pub take-names : (k : ℕ) → among others k ≡ false → (P : (c : ℕ) (d : List ℕ) (o : Integrity) (b : ℕ) → Type 0)
-      → ((c : ℕ) (d : List ℕ) (o : Integrity) → (storeTake w.rooms (order_root st) (order_length st) c d o).answer ≡ k
-      → (b : ℕ) × ((storeTake w.rooms (order_root st) (order_length st) c d o).node ≡ Node b) × P c d o b)
+      → ((c : ℕ) (d : List ℕ) (o : Integrity) → (store_take w.rooms (order_root st) (order_length st) c d o).answer ≡ k
+      → (b : ℕ) × ((store_take w.rooms (order_root st) (order_length st) c d o).node ≡ Node b) × P c d o b)
       → (take_spec w clock id s).answer ≡ k → Names st s (take_spec w clock id s).node P
   unfolding data_by among
   take-names k other P stored =

@@ -140,27 +140,27 @@ module _ (w : World) (enough : own_rooms_answer w ≡ 0) where
       (pick-one ms (leb N c) 7 _ refl (pick-one ms (not (bit_at w.rooms.map c)) 13 0 refl refl))))
       refl
 
-  abbrev takeNumbers : List ℕ
-  takeNumbers = 0 ∷ 1 ∷ 2 ∷ 3 ∷ 4 ∷ 5 ∷ 6 ∷ 7 ∷ 8 ∷ 9 ∷ 10 ∷ 14 ∷ []
+  abbrev take_numbers : List ℕ
+  take_numbers = 0 ∷ 1 ∷ 2 ∷ 3 ∷ 4 ∷ 5 ∷ 6 ∷ 7 ∷ 8 ∷ 9 ∷ 10 ∷ 14 ∷ []
 
-  data-one : (clock : ℕ) (s entries : List ℕ) (c timestamp start n : ℕ) → OneOf takeNumbers (data_taken w clock s entries c timestamp start n).answer
+  data-one : (clock : ℕ) (s entries : List ℕ) (c timestamp start n : ℕ) → OneOf take_numbers (data_taken w clock s entries c timestamp start n).answer
   unfolding data_taken data_by among all_among
   data-one clock s entries c timestamp start n =
       let out = store_out w s entries c start n in
       let p = both_zero (rooms_answer (order_length w.channels.state) w.rooms) (channels_answer (order_length w.channels.state) w.channels) (passed (ltb (length w.channels.state) state_words) 10 _ enough).1 in
-      unless-one takeNumbers (messages_number w.channels.state s) w _
-      (one_of_more (0 ∷ 3 ∷ 5 ∷ 7 ∷ []) takeNumbers (messages_number w.channels.state s) refl (messages-number-one w.channels.state s))
-      (at_one out.node takeNumbers out.answer w _
-      (one_of_more (0 ∷ 7 ∷ 8 ∷ 9 ∷ 10 ∷ []) takeNumbers out.answer refl (take_numbered w.rooms (order_root w.channels.state) (order_length w.channels.state) c _ _ p.0))
+      unless-one take_numbers (messages_number w.channels.state s) w _
+      (one_of_more (0 ∷ 3 ∷ 5 ∷ 7 ∷ []) take_numbers (messages_number w.channels.state s) refl (messages-number-one w.channels.state s))
+      (at_one out.node take_numbers out.answer w _
+      (one_of_more (0 ∷ 7 ∷ 8 ∷ 9 ∷ 10 ∷ []) take_numbers out.answer refl (take_numbered w.rooms (order_root w.channels.state) (order_length w.channels.state) c _ _ p.0))
       refl)
 
-  by-layout-one : (clock id : ℕ) (s : List ℕ) (l : Layout) → OneOf (0 ∷ 1 ∷ 2 ∷ 3 ∷ []) (number_of l) → OneOf takeNumbers (by_layout w clock id s l).answer
+  by-layout-one : (clock id : ℕ) (s : List ℕ) (l : Layout) → OneOf (0 ∷ 1 ∷ 2 ∷ 3 ∷ []) (number_of l) → OneOf take_numbers (by_layout w clock id s l).answer
   unfolding by_layout among all_among
-  by-layout-one clock id s (Fault n) h = one_of_more (0 ∷ 1 ∷ 2 ∷ 3 ∷ []) takeNumbers n refl h
+  by-layout-one clock id s (Fault n) h = one_of_more (0 ∷ 1 ∷ 2 ∷ 3 ∷ []) take_numbers n refl h
   by-layout-one clock id s (HandshakeAlone source o) h =
-      one_of_more (0 ∷ 3 ∷ 4 ∷ 5 ∷ 6 ∷ 14 ∷ []) takeNumbers (handshake_taken w.channels id s source o).answer refl (handshake-one w.channels id s source o)
+      one_of_more (0 ∷ 3 ∷ 4 ∷ 5 ∷ 6 ∷ 14 ∷ []) take_numbers (handshake_taken w.channels id s source o).answer refl (handshake-one w.channels id s source o)
   by-layout-one clock id s (Messages k) h =
-      one_of_more (0 ∷ 3 ∷ 5 ∷ 7 ∷ []) takeNumbers (messages_taken w.channels s).answer refl (messages-one w.channels s)
+      one_of_more (0 ∷ 3 ∷ 5 ∷ 7 ∷ []) take_numbers (messages_taken w.channels s).answer refl (messages-one w.channels s)
   by-layout-one clock id s (MessagesAndData c timestamp start n k) h = data-one clock s (layout_in w.channels.state s).entries c timestamp start n
 
   pub take-enough : (clock id : ℕ) (s : List ℕ) → OneOf (0 ∷ 1 ∷ 2 ∷ 3 ∷ 4 ∷ 5 ∷ 6 ∷ 7 ∷ 8 ∷ 9 ∷ 10 ∷ 14 ∷ []) (take_spec w clock id s).answer

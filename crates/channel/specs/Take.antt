@@ -14,7 +14,7 @@ use Rattle.held.proofs.Promise.{complete_interval}
 use Rattle.held.specs.declared.interval.Interval.{Interval}
 use Rattle.table.specs.declared.rows.Row.{Row}
 use Rattle.table.proofs.Promise.{row_of, row_at, row_after, put_row, messages_answer, handshake_answer}
-use Rattle.store.proofs.Promise.{Rooms, earlier, integrity_of, take_spec as storeTake}
+use Rattle.store.proofs.Promise.{Rooms, earlier, integrity_of, take_spec as store_take}
 use Rattle.channel.specs.World.{Channels, channels_of, World, Out, out_of, unless_at, unless, beside}
 use Rattle.channel.specs.World.{order_root, order_length, order_format, chunk_count, table_rows, row_bit}
 use Rattle.channel.specs.Answers.{own_rooms_answer}
@@ -110,7 +110,7 @@ replied ch r = channels_of ch.state ch.has ch.wants (placed ch.reply 0 r)
 -- the INTEGRITY messages and the places of their hashes.
 abbrev pub store_out : World → (s entries : List ℕ) (c start n : ℕ) → Out Rooms
 store_out w s entries c start n =
-    storeTake w.rooms (order_root w.channels.state) (order_length w.channels.state) c (within s start n)
+    store_take w.rooms (order_root w.channels.state) (order_length w.channels.state) c (within s start n)
     (integrity_of entries s)
 
 -- Messages with DATA that are taken: these chunk rooms, the effects of the messages, and a reply.

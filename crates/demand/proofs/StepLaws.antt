@@ -12,7 +12,7 @@ use Rattle.base.specs.Pick.{pick}
 use Rattle.wire.specs.declared.layout.Layout.{Layout}
 use Rattle.wire.specs.declared.layout.Layout.TheVariants.{Fault, HandshakeAlone, Messages, MessagesAndData}
 use Rattle.writer.proofs.Promise.{within}
-use Rattle.store.proofs.Promise.{Rooms, Integrity, take_spec as storeTake}
+use Rattle.store.proofs.Promise.{Rooms, Integrity, take_spec as store_take}
 use Rattle.order.specs.declared.Order.{Order}
 use Rattle.bits.proofs.Promise.{length-clear_words}
 use Rattle.effects.proofs.Promise.{peer_of, effects_lengths}
@@ -88,8 +88,8 @@ step_keeps w asking = refl
 pub data Moved (w : World) (after : Rooms) (brought : ℕ → Option (List ℕ)) : Type 0 where
   stays : after ≡ w.rooms → ((x : ℕ) → brought x ≡ none) → Moved w after brought
   takes : (c : ℕ) (d : List ℕ) (o : Integrity)
-      → (storeTake w.rooms (order_root w.channels.state) (order_length w.channels.state) c d o).answer ≡ 0
-      → after ≡ (storeTake w.rooms (order_root w.channels.state) (order_length w.channels.state) c d o).after
+      → (store_take w.rooms (order_root w.channels.state) (order_length w.channels.state) c d o).answer ≡ 0
+      → after ≡ (store_take w.rooms (order_root w.channels.state) (order_length w.channels.state) c d o).after
       → ((x : ℕ) → brought x ≡ pick (eqb x c) (some d) none) → Moved w after brought
 
 pick_same : (b : Bool) (o : Option (List ℕ)) → pick b o o ≡ o

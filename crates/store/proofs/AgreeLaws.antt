@@ -18,8 +18,8 @@ use Rattle.tree.specs.Pack.{chunk_size, chunks, size, levels}
 use Rattle.tree.specs.Peaks.{peaks}
 use Rattle.tree.specs.Tree.{climb}
 use Rattle.tree.specs.State.{State, is_peak}
-use Rattle.tree.proofs.Sound.{on_path, adopted, hung, Sound, counted, afterBy, after}
-use Rattle.tree.specs.Verdicts.{every, peaksTrusted, verdict}
+use Rattle.tree.proofs.Sound.{on_path, adopted, hung, Sound, counted, after_by, after}
+use Rattle.tree.specs.Verdicts.{every, peaks_trusted, verdict}
 use Rattle.tree.specs.declared.verdict.Verdict.{Verdict}
 use Rattle.tree.specs.declared.verdict.Verdict.TheVariants.{Fits}
 use Rattle.verdict.specs.Room.{filler, Digest, hash_in, put_hash}
@@ -110,7 +110,7 @@ module _ (L : ℕ) (w : Rooms) (N c t : ℕ) (d : List ℕ) (o : Integrity) (R :
   hangs = hung sha256 c t d (got_by o) (pick trusts (state_of L w) (adopted N (got_by o) (state_of L w)))
 
   hash-agrees : (h a : ℕ) → above h a ≡ a → (state_of L (stored w N c t d o)).hash h a ≡ hangs.hash h a
-  unfolding stored peaksTrusted
+  unfolding stored peaks_trusted
   hash-agrees h a e =
       all-show (List ℕ) put_hash hash_in (λ v. v) (λ l. 8 * 2 ^ suc (levels N) ≤ length l) (2 ^ suc (levels N))
       (λ l b v k u g. hash-same l b v (omega arith) g) hash-other (λ l b v k. rw (length-put_hash l b v) k)
@@ -123,7 +123,7 @@ module _ (L : ℕ) (w : Rooms) (N c t : ℕ) (d : List ℕ) (o : Integrity) (R :
       go false = refl
 
   trust-agrees : (h a : ℕ) → above h a ≡ a → (state_of L (stored w N c t d o)).trust h a ≡ hangs.trust h a
-  unfolding stored peaksTrusted
+  unfolding stored peaks_trusted
   trust-agrees h a e =
       all-show Bool mark bit_at (λ v. true) (λ l. 2 ^ suc (levels N) ≤ length l * 32) (2 ^ suc (levels N))
       (λ l b v k u g. bit_at-set-same l b (omega arith)) (λ l b x v n. bit_at-set-other l b x n) (λ l b v k. rw (length-set_bit l b) k)
@@ -188,8 +188,8 @@ module _ (L : ℕ) (w : Rooms) (N c : ℕ) (d r : List ℕ) (o : Integrity) (R :
 
   -- where the chunk fits the rooms hold what the theory says
   taken-agrees : (t : ℕ) → room_verdict N r w.hashes w.trusted c d o ≡ Fits t
-      → Agrees N (afterBy sha256 filler N r (state_of L w) c d (came_from o) (Fits t)) (state_of L (store_spec w N c t d o))
-  unfolding store_spec counted peaksTrusted
+      → Agrees N (after_by sha256 filler N r (state_of L w) c d (came_from o) (Fits t)) (state_of L (store_spec w N c t d o))
+  unfolding store_spec counted peaks_trusted
   taken-agrees t e = go (bit_at w.map c)
     where
       go : (x : Bool)
@@ -207,6 +207,6 @@ module _ (L : ℕ) (w : Rooms) (N c : ℕ) (d r : List ℕ) (o : Integrity) (R :
       let T : Sound sha256 filler N r (state_of L w) = rw R.pack_is S in
       let G = taken-agrees t e in
       let A = after-sound sha256 filler N r (state_of L w) T c R.chunk_within d (came_from o) in
-      let B : Sound sha256 filler N r (afterBy sha256 filler N r (state_of L w) c d (came_from o) v) = rw (seen_here v e) at A in
-      let U = sound-agree sha256 filler N r (afterBy sha256 filler N r (state_of L w) c d (came_from o) v) (state_of L (store_spec w N c t d o)) G.nodes G.chunks_are B in
+      let B : Sound sha256 filler N r (after_by sha256 filler N r (state_of L w) c d (came_from o) v) = rw (seen_here v e) at A in
+      let U = sound-agree sha256 filler N r (after_by sha256 filler N r (state_of L w) c d (came_from o) v) (state_of L (store_spec w N c t d o)) G.nodes G.chunks_are B in
       rw (← R.pack_is) U

@@ -12,7 +12,7 @@ use Rattle.base.specs.Pick.{pick}
 use Rattle.bits.proofs.Promise.{set_bit}
 use Rattle.hash.proofs.Promise.{sha256}
 use Rattle.tree.specs.Pack.{chunk_size, max_length, leaf_places, root_node}
-use Rattle.tree.specs.Verdicts.{number, named, peaksTrusted, reached}
+use Rattle.tree.specs.Verdicts.{number, named, peaks_trusted, reached}
 use Rattle.tree.specs.Verdicts as theory
 use Rattle.tree.specs.declared.verdict.Verdict.{Verdict}
 use Rattle.tree.specs.declared.verdict.Verdict.TheVariants.{Fits, Missing, WrongPeaks, WrongClimb}
@@ -120,7 +120,7 @@ refuses (WrongClimb b) h e = omega arith
 
 -- the height reached is found in the row of trusted nodes alone
 reached_in : (w : Rooms) (L N c : ℕ) → room_reached N w.trusted c ≡ reached N (state_of L w) c
-unfolding room_reached reached peaksTrusted
+unfolding room_reached reached peaks_trusted
 reached_in w L N c = refl
 
 -- a chunk that fits does so below the node reached

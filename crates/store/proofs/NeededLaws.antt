@@ -13,7 +13,7 @@ use Rattle.tree.specs.Node.{sibling_from, above}
 use Rattle.tree.specs.Pack.{chunk_size, levels}
 use Rattle.tree.specs.Peaks.{peaks}
 use Rattle.tree.specs.Tree.{climb}
-use Rattle.tree.specs.Verdicts.{every, number, named, peaksTrusted, reached, verdict}
+use Rattle.tree.specs.Verdicts.{every, number, named, peaks_trusted, reached, verdict}
 use Rattle.tree.specs.declared.verdict.Verdict.{Verdict}
 use Rattle.tree.proofs.PeakTests.{bit-peak}
 use Rattle.tree.proofs.TrueLaws as truth
@@ -37,11 +37,11 @@ module _ (w : Rooms) (L c : ℕ) (o p : Integrity) (A : SameNeeded L w c o p) wh
   abbrev N : ℕ
   N = count_of L
 
-  abbrev peaksOpen : Bool
-  peaksOpen = every (trusted_in w.trusted) (peaks N)
+  abbrev peaks_open : Bool
+  peaks_open = every (trusted_in w.trusted) (peaks N)
 
-  peaks-agree : peaksOpen ≡ false → (h : ℕ) → N / 2 ^ h % 2 ≡ 1 → got_by o h (above (suc h) N) ≡ got_by p h (above (suc h) N)
-  unfolding SameNeeded peaksTrusted
+  peaks-agree : peaks_open ≡ false → (h : ℕ) → N / 2 ^ h % 2 ≡ 1 → got_by o h (above (suc h) N) ≡ got_by p h (above (suc h) N)
+  unfolding SameNeeded peaks_trusted
   peaks-agree e h b =
       let q = bit-peak N h b in
       ap (λ (x : Option (List ℕ)). get_or x filler) (theory.peaks-agree N (state_of L w) c (came_from o) (came_from p) A e h (above (suc h) N) q.0 q.1)
@@ -55,21 +55,21 @@ module _ (w : Rooms) (L c : ℕ) (o p : Integrity) (A : SameNeeded L w c o p) wh
     unfolding SameNeeded
     verdicts-same = theory.needed_only N (state_of L w) c (came_from o) (came_from p) A sha256 filler r d
 
-    put_same : (put : Put) (t : ℕ) (l : List ℕ) → t ≡ reached N (state_of L w) c → put_all put peaksOpen N c t d (got_by o) l ≡ put_all put peaksOpen N c t d (got_by p) l
+    put_same : (put : Put) (t : ℕ) (l : List ℕ) → t ≡ reached N (state_of L w) c → put_all put peaks_open N c t d (got_by o) l ≡ put_all put peaks_open N c t d (got_by p) l
     put_same put t l e =
-        all-is put peaksOpen N c t d (got_by o) l
+        all-is put peaks_open N c t d (got_by o) l
         ∙ path-alike put (got_by o) (got_by p) (λ h. climb sha256 (got_by o) (sha256 d) c h) (λ h. climb sha256 (got_by p) (sha256 d) c h) c t
-        (go peaksOpen refl)
+        (go peaks_open refl)
         (λ h u. truth.climb-agree sha256 (got_by o) (got_by p) (sha256 d) c h (λ k i. siblings-agree k (omega arith)))
         (λ h u. siblings-agree h (omega arith))
-        ∙ sym (all-is put peaksOpen N c t d (got_by p) l)
+        ∙ sym (all-is put peaks_open N c t d (got_by p) l)
       where
-        go : (b : Bool) → peaksOpen ≡ b → pick b l (put_peaks put (got_by o) N (suc (levels N)) l) ≡ pick b l (put_peaks put (got_by p) N (suc (levels N)) l)
+        go : (b : Bool) → peaks_open ≡ b → pick b l (put_peaks put (got_by o) N (suc (levels N)) l) ≡ pick b l (put_peaks put (got_by p) N (suc (levels N)) l)
         go true q = refl
         go false q = peaks-alike put (got_by o) (got_by p) N (suc (levels N)) l (peaks-agree q)
 
     store_same : (t : ℕ) → t ≡ reached N (state_of L w) c → store_spec w N c t d o ≡ store_spec w N c t d p
-    unfolding store_spec stored peaksTrusted
+    unfolding store_spec stored peaks_trusted
     store_same t e =
         ap₂ (λ (x y : List ℕ). pick (bit_at w.map c) w (rooms_of (copied w.bytes (chunk_size * c) d) (set_bit w.map c) x y))
         (put_same put_hash t w.hashes e) (put_same mark t w.trusted e)

@@ -18,7 +18,7 @@ use Rattle.tree.specs.Node.{sibling_from, above}
 use Rattle.tree.specs.Pack.{chunk_size, chunks, levels}
 use Rattle.tree.specs.Peaks.{peaks}
 use Rattle.tree.specs.Steps.{peak_bit}
-use Rattle.tree.specs.Verdicts.{got, every, peaksTrusted}
+use Rattle.tree.specs.Verdicts.{got, every, peaks_trusted}
 use Rattle.verdict.specs.Room.{hash_in, put_hash}
 use Rattle.verdict.specs.Integrity.{Integrity}
 use Rattle.verdict.specs.Rooms.{Rooms, rooms_of}
@@ -137,7 +137,7 @@ pub stored_is : (chunks map hashes trusted : List ℕ) (N c t : ℕ) (d : List �
     × (t1 ≡ pick (every (trusted_in trusted) (peaks N)) trusted (put_peaks mark (got_by o) N (suc top) trusted))
     → (h2 ≡ put_path put_hash (hash_in s) (got_by o) c t h1) × (t2 ≡ put_path mark (hash_in s) (got_by o) c t t1)
     → rooms_of chunks' map' h2 t2 ≡ stored (rooms_of chunks map hashes trusted) N c t d o
-unfolding stored Climbed peaksTrusted
+unfolding stored Climbed peaks_trusted
 stored_is chunks map hashes trusted N c t d o s e f g K p q =
     let b = every (trusted_in trusted) (peaks N) in
     rooms_eq e f (q.0 ∙ climbed put_hash hashes b p.0 g) (q.1 ∙ climbed mark trusted b p.1 g)

@@ -17,7 +17,7 @@ use Rattle.tree.specs.Pack.{chunk_size, size, levels, leaf_places, root_node}
 use Rattle.tree.specs.Peaks.{peaks}
 use Rattle.tree.specs.State.{State}
 use Rattle.tree.proofs.Sound.{adopted}
-use Rattle.tree.specs.Verdicts.{every, number, named, peaksTrusted, reached, verdict}
+use Rattle.tree.specs.Verdicts.{every, number, named, peaks_trusted, reached, verdict}
 use Rattle.tree.specs.declared.verdict.Verdict.{Verdict}
 use Rattle.tree.specs.declared.verdict.Verdict.TheVariants.{Fits, Missing, WrongPeaks, WrongClimb}
 use Rattle.verdict.specs.Room.{filler, put_hash}
@@ -115,7 +115,7 @@ module _ (w : Rooms) (r : List ℕ) (L c : ℕ) (d : List ℕ) (o : Integrity) w
   -- ---- sizes
 
   stored-sizes : (t : ℕ) → chunk_size * c + length d ≤ length w.bytes → SameSizes w (stored w (count_of L) c t d o)
-  unfolding stored copied peaksTrusted
+  unfolding stored copied peaks_trusted
   stored-sizes t l = record {
     bytes-long = length-paste w.bytes (chunk_size * c) d (length d) l (omega arith);
     map-long = length-set_bit w.map c;
@@ -164,9 +164,9 @@ module _ (w : Rooms) (r : List ℕ) (L c : ℕ) (d : List ℕ) (o : Integrity) w
       held-too true e q = ap (bit_at w.map) (eqb-true x c q) ∙ e
       held-too false e q = refl
 
-      peaksTrusted-so : (b : Bool) (s : State) → ((pick b s (adopted (count_of L) (got_by o) s)).in_map x ≡ s.in_map x) × ((pick b s (adopted (count_of L) (got_by o) s)).chunk x ≡ s.chunk x)
-      peaksTrusted-so true s = (refl, refl)
-      peaksTrusted-so false s = (refl, refl)
+      peaks_trusted-so : (b : Bool) (s : State) → ((pick b s (adopted (count_of L) (got_by o) s)).in_map x ≡ s.in_map x) × ((pick b s (adopted (count_of L) (got_by o) s)).chunk x ≡ s.chunk x)
+      peaks_trusted-so true s = (refl, refl)
+      peaks_trusted-so false s = (refl, refl)
 
       go : (b : Bool) → bit_at w.map c ≡ b
           → (bit_at (pick b w (stored w (count_of L) c t d o)).map x ≡ pick (eqb x c) true (bit_at w.map x))
@@ -174,7 +174,7 @@ module _ (w : Rooms) (r : List ℕ) (L c : ℕ) (d : List ℕ) (o : Integrity) w
       go true e = (held-too (eqb x c) e refl, refl)
       go false e =
           let g = (stored-agrees L w (count_of L) c t d o F h).chunks_are x l in
-          let k = peaksTrusted-so (every (trusted_in w.trusted) (peaks (count_of L))) (state_of L w) in (
+          let k = peaks_trusted-so (every (trusted_in w.trusted) (peaks (count_of L))) (state_of L w) in (
             sym g.0 ∙ ap (pick (eqb x c) true) k.0,
             sym g.1 ∙ ap (pick (eqb x c) d) k.1,
           )

@@ -16,7 +16,7 @@ use Rattle.base.proofs.PickLaws.{both_true}
 use Rattle.tree.specs.Bin.{bin}
 use Rattle.tree.specs.Pack.{chunk_size, size, levels, leaf_places}
 use Rattle.tree.specs.Tree.{root}
-use Rattle.tree.specs.Verdicts.{peaksTrusted, reached}
+use Rattle.tree.specs.Verdicts.{peaks_trusted, reached}
 use Rattle.tree.proofs.Sound.{counted}
 use Rattle.tree.proofs.ChunkLaws.{chunk_inside}
 use Rattle.tree.proofs.TakeLaws.{fits-means}
@@ -90,7 +90,7 @@ take_true w s c o e l T B =
 module _ (w : Rooms) (s : List ℕ) (c : ℕ) (o : Integrity) (T : HoldsTrue w s) (B : BringsTrue s c o) where
   stored-true : (t : ℕ) → Fitting (length s) w (count_of (length s)) c (chunk_in (length s) s c) → t ≤ levels (count_of (length s))
       → t ≡ reached (count_of (length s)) (state_of (length s) w) c → HoldsTrue (stored w (count_of (length s)) c t (chunk_in (length s) s c) o) s
-  unfolding HoldsTrue BringsTrue tree_of counted peaksTrusted
+  unfolding HoldsTrue BringsTrue tree_of counted peaks_trusted
   stored-true t F u q h a al i f =
       let g = (stored-agrees (length s) w (count_of (length s)) c t (chunk_in (length s) s c) o F u).nodes h a al i in
       sym g.0 ∙ (rw (← q) at (theory.hung-true sha256 filler (count_of (length s)) (chunk_in (length s) s) (state_of (length s) w) T c F.chunk_within (came_from o) B)) h a al i (g.1 ∙ f)

@@ -8,7 +8,7 @@ use Rattle.tree.specs.Node.{Node, node, num, above, sibling_from}
 use Rattle.tree.specs.Pack.{chunk_size}
 use Rattle.tree.specs.Peaks.{peaks}
 use Rattle.tree.specs.Tree.{climb}
-use Rattle.tree.specs.Verdicts.{got, peaksTrusted}
+use Rattle.tree.specs.Verdicts.{got, peaks_trusted}
 use Rattle.verdict.specs.Room.{filler, put_hash}
 use Rattle.verdict.specs.Integrity.{Integrity, came_from}
 use Rattle.verdict.specs.Rooms.{Rooms, state_of}
@@ -48,8 +48,8 @@ unfoldable pub stored : Rooms → ℕ → ℕ → ℕ → List ℕ → Integrity
 stored w N c t d o = record {
   bytes = copied w.bytes (chunk_size * c) d;
   map = set_bit w.map c;
-  hashes = put_all put_hash (peaksTrusted N (state_of 0 w)) N c t d (got filler (came_from o)) w.hashes;
-  trusted = put_all mark (peaksTrusted N (state_of 0 w)) N c t d (got filler (came_from o)) w.trusted;
+  hashes = put_all put_hash (peaks_trusted N (state_of 0 w)) N c t d (got filler (came_from o)) w.hashes;
+  trusted = put_all mark (peaks_trusted N (state_of 0 w)) N c t d (got filler (came_from o)) w.trusted;
 }
 
 -- A chunk already held changes nothing.

@@ -10,17 +10,17 @@ use Rattle.trace.proofs.StreamLaws.{how-far, out_within}
 
 module _ (block read room used reply : ℕ) where
   -- The test, by numbers.
-  abbrev goesOn : Bool
-  goesOn = pick (ltb read block) (fits room used reply) false
+  abbrev going_on : Bool
+  going_on = pick (ltb read block) (fits room used reply) false
 
-  pub goes_on : read < block → fits room used reply ≡ goesOn
+  pub goes_on : read < block → fits room used reply ≡ going_on
   goes_on h = rw (lt-ltb read block h)
 
-  pub goes-not : block ≤ read → false ≡ goesOn
+  pub goes-not : block ≤ read → false ≡ going_on
   goes-not h = rw (le-ltb read block h)
 
   -- Where it does, something is left, and an answer's line fits.
-  pub more-means : goesOn ≡ true → (read < block) × (fits room used reply ≡ true)
+  pub more-means : going_on ≡ true → (read < block) × (fits room used reply ≡ true)
   more-means = go (ltb read block) refl
     where
       go : (b : Bool) → ltb read block ≡ b → pick b (fits room used reply) false ≡ true → (read < block) × (fits room used reply ≡ true)

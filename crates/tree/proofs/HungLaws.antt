@@ -48,37 +48,37 @@ module _ (H : List ℕ → List ℕ) (Z : List ℕ) (N : ℕ) (r : List ℕ) (s 
       go (inr g) = g
 
   -- at a left and a right child of an aligned node
-  onPath-left : (k a : ℕ) → above (suc k) a ≡ a → on_path c t k a ≡ pick (ltb k t) (eqb a (above (suc k) c)) false
-  onPath-left k a e = ap (λ (x : ℕ). pick (ltb k t) (eqb x (above (suc k) c)) false) e
+  on_path-left : (k a : ℕ) → above (suc k) a ≡ a → on_path c t k a ≡ pick (ltb k t) (eqb a (above (suc k) c)) false
+  on_path-left k a e = ap (λ (x : ℕ). pick (ltb k t) (eqb x (above (suc k) c)) false) e
 
-  onPath-right : (k a : ℕ) → above (suc k) a ≡ a → on_path c t k (a + 2 ^ k) ≡ pick (ltb k t) (eqb a (above (suc k) c)) false
-  onPath-right k a e = ap (λ (x : ℕ). pick (ltb k t) (eqb x (above (suc k) c)) false) (parent-right k a e)
+  on_path-right : (k a : ℕ) → above (suc k) a ≡ a → on_path c t k (a + 2 ^ k) ≡ pick (ltb k t) (eqb a (above (suc k) c)) false
+  on_path-right k a e = ap (λ (x : ℕ). pick (ltb k t) (eqb x (above (suc k) c)) false) (parent-right k a e)
 
   hung-pair : (k a : ℕ) → above (suc k) a ≡ a → a + 2 ^ suc k ≤ N → (hung H c t d msg s).trust k a ≡ (hung H c t d msg s).trust k (a + 2 ^ k)
   hung-pair k a e w =
-      ap₂ (λ (b x : Bool). pick b true x) (onPath-left k a e ∙ sym (onPath-right k a e)) (S.pair k a e w)
+      ap₂ (λ (b x : Bool). pick b true x) (on_path-left k a e ∙ sym (on_path-right k a e)) (S.pair k a e w)
 
   -- at the children of a node above c
-  onPath-kids : (k : ℕ) → k < t → (on_path c t k (above (suc k) c) ≡ true) × (on_path c t k (above (suc k) c + 2 ^ k) ≡ true)
-  onPath-kids k l =
+  on_path-kids : (k : ℕ) → k < t → (on_path c t k (above (suc k) c) ≡ true) × (on_path c t k (above (suc k) c + 2 ^ k) ≡ true)
+  on_path-kids k l =
       let e = above_aligned (suc k) c in
       let b : pick (ltb k t) (eqb (above (suc k) c) (above (suc k) c)) false ≡ true =
       rw (lt-ltb k t l, eq-eqb (above (suc k) c) (above (suc k) c) refl) in
-      (onPath-left k (above (suc k) c) e ∙ b, onPath-right k (above (suc k) c) e ∙ b)
+      (on_path-left k (above (suc k) c) e ∙ b, on_path-right k (above (suc k) c) e ∙ b)
 
-  onPath-on : (k : ℕ) → k < t → on_path c t k (above k c) ≡ true
-  onPath-on k l = rw (lt-ltb k t l, eq-eqb (above (suc k) (above k c)) (above (suc k) c) (parent_above k c))
+  on_path-on : (k : ℕ) → k < t → on_path c t k (above k c) ≡ true
+  on_path-on k l = rw (lt-ltb k t l, eq-eqb (above (suc k) (above k c)) (above (suc k) c) (parent_above k c))
 
-  onPath-off : (h a : ℕ) → t ≤ h → on_path c t h a ≡ false
-  onPath-off h a l = rw (le-ltb h t l)
+  on_path-off : (h a : ℕ) → t ≤ h → on_path c t h a ≡ false
+  on_path-off h a l = rw (le-ltb h t l)
 
   -- what is held on the way, and beside it
   pub held_on : (k : ℕ) → k ≤ t → (hung H c t d msg s).hash k (above k c) ≡ climb H msg (H d) c k
   held_on k l = go (split (suc k) t)
     where
       go : (k < t) ⊎ (t < suc k) → (hung H c t d msg s).hash k (above k c) ≡ climb H msg (H d) c k
-      go (inl u) = rw (onPath-on k u, eq-eqb (above k c) (above k c) refl)
-      go (inr u) = let e : t ≡ k = omega arith in rw (onPath-off k (above k c) (omega arith)) (rw e at (sym hit))
+      go (inl u) = rw (on_path-on k u, eq-eqb (above k c) (above k c) refl)
+      go (inr u) = let e : t ≡ k = omega arith in rw (on_path-off k (above k c) (omega arith)) (rw e at (sym hit))
 
   beside-is-right : (k : ℕ) → c / 2 ^ k % 2 ≡ 0 → sibling_from k c ≡ above (suc k) c + 2 ^ k
   beside-is-right k e = beside-left k c e ∙ ap (λ (x : ℕ). x + 2 ^ k) (sym (above-left k c e))
@@ -91,9 +91,9 @@ module _ (H : List ℕ → List ℕ) (Z : List ℕ) (N : ℕ) (r : List ℕ) (s 
     where
       go : (x : ℕ) → c / 2 ^ k % 2 ≡ x → (hung H c t d msg s).hash k (sibling_from k c) ≡ msg k (sibling_from k c)
       go zero e =
-          rw (ap (on_path c t k) (beside-is-right k e) ∙ (onPath-kids k l).1, ne_eqb (sibling_from k c) (above k c) (λ f. omega (arith, beside-left k c e, pow_pos k)))
+          rw (ap (on_path c t k) (beside-is-right k e) ∙ (on_path-kids k l).1, ne_eqb (sibling_from k c) (above k c) (λ f. omega (arith, beside-left k c e, pow_pos k)))
       go (suc x) e =
-          rw (ap (on_path c t k) (beside-is-left k (omega arith)) ∙ (onPath-kids k l).0, ne_eqb (sibling_from k c) (above k c) (λ f. omega (arith, beside-right k c (omega arith), pow_pos k)))
+          rw (ap (on_path c t k) (beside-is-left k (omega arith)) ∙ (on_path-kids k l).0, ne_eqb (sibling_from k c) (above k c) (λ f. omega (arith, beside-right k c (omega arith), pow_pos k)))
 
   up-on : (k : ℕ) → k < t
       → (hung H c t d msg s).hash (suc k) (above (suc k) c)
@@ -119,8 +119,8 @@ module _ (H : List ℕ → List ℕ) (Z : List ℕ) (N : ℕ) (r : List ℕ) (s 
   trust-on k l = go (split (suc k) t)
     where
       go : (k < t) ⊎ (t < suc k) → (hung H c t d msg s).trust k (above k c) ≡ true
-      go (inl u) = rw (onPath-on k u)
-      go (inr u) = let e : t ≡ k = omega arith in rw (onPath-off k (above k c) (omega arith)) (rw e at reach)
+      go (inl u) = rw (on_path-on k u)
+      go (inr u) = let e : t ≡ k = omega arith in rw (on_path-off k (above k c) (omega arith)) (rw e at reach)
 
   -- what was trusted stays, trusted and as it was
   trust-kept : (h a : ℕ) → above h a ≡ a → s.trust h a ≡ true → (hung H c t d msg s).trust h a ≡ true

@@ -13,7 +13,7 @@ use Rattle.tree.specs.Peaks.{peaks, siblings, sort}
 use Rattle.tree.specs.Tree.{combined}
 use Rattle.tree.specs.State.{State}
 use Rattle.tree.specs.Steps.{peak_bit, peak_at}
-use Rattle.tree.specs.Verdicts.{Came, is_there, is_missing, got, Each, peaksTrusted, countedHash, reached, needed}
+use Rattle.tree.specs.Verdicts.{Came, is_there, is_missing, got, Each, peaks_trusted, counted_hash, reached, needed}
 use Rattle.tree.specs.Verdicts.{first_missing, rooted, met, verdict, named}
 use Rattle.tree.specs.Named.{FirstMissing, MissesRoot, MissesNode}
 use Rattle.tree.specs.declared.verdict.Verdict.{Verdict}
@@ -71,17 +71,17 @@ module _ (H : List ℕ → List ℕ) (Z : List ℕ) (N : ℕ) (r : List ℕ) (s 
   unfolding rooted
   peaks-named e =
       let k = verdict-means H Z N r s c d m (WrongPeaks b) e in
-      (k.0, none-missing N s c m k.1, go (peaksTrusted N s) refl k.2)
+      (k.0, none-missing N s c m k.1, go (peaks_trusted N s) refl k.2)
     where
-      go : (t : Bool) → peaksTrusted N s ≡ t → pick t true (same (combined H Z N (got Z m)) r) ≡ false → MissesRoot H Z N r s m
+      go : (t : Bool) → peaks_trusted N s ≡ t → pick t true (same (combined H Z N (got Z m)) r) ≡ false → MissesRoot H Z N r s m
       go true p q = absurd (true≢false q)
       go false p q = record {
         untrusted = p;
         differs = λ z. true≢false (sym (same_refl r) ∙ ap (λ (x : List ℕ). same x r) (sym z) ∙ q);
       }
 
-  right : (t : Bool) → peaksTrusted N s ≡ t → pick t true (same (combined H Z N (got Z m)) r) ≡ true
-      → (peaksTrusted N s ≡ true) ⊎ (combined H Z N (got Z m) ≡ r)
+  right : (t : Bool) → peaks_trusted N s ≡ t → pick t true (same (combined H Z N (got Z m)) r) ≡ true
+      → (peaks_trusted N s ≡ true) ⊎ (combined H Z N (got Z m) ≡ r)
   right true p q = inl p
   right false p q = inr (same_is (combined H Z N (got Z m)) r q)
 
@@ -92,9 +92,9 @@ module _ (H : List ℕ → List ℕ) (Z : List ℕ) (N : ℕ) (r : List ℕ) (s 
       let k = verdict-means H Z N r s c d m (WrongClimb b) e in
       let t = reached N s c in
       let R = reached_least N s c l in
-      let v = countedHash N s (got Z m) t (above t c) in
+      let v = counted_hash N s (got Z m) t (above t c) in
       let M : MissesNode H Z N r s c d m (node t (above t c)) = record {
-        peaks-right = right (peaksTrusted N s) refl k.2;
+        peaks-right = right (peaks_trusted N s) refl k.2;
         is-above = refl;
         trusted = R.passes;
         first = λ h u. R.before h (omega arith) u;
@@ -122,7 +122,7 @@ needed_inner : (N : ℕ) (s : State) (c : ℕ) → c < N → Each (Inner N) (nee
 unfolding needed
 needed_inner N s c l =
     let t = reached N s c in
-    each_append (Inner N) (pick (peaksTrusted N s) [] (peaks N)) (siblings c t) (go (peaksTrusted N s))
+    each_append (Inner N) (pick (peaks_trusted N s) [] (peaks N)) (siblings c t) (go (peaks_trusted N s))
     (siblings-each (Inner N) c t
     (λ h u. sibling-inside N c h (le-leb (above (suc h) c + 2 ^ suc h) N (inside-below N c t (reached_inside N s c l) h u))))
   where

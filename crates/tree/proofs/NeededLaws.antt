@@ -9,7 +9,7 @@ use Rattle.tree.specs.Node.{Node, sibling_from, above}
 use Rattle.tree.specs.Peaks.{peaks, siblings, sort}
 use Rattle.tree.specs.Tree.{combined}
 use Rattle.tree.specs.State.{State, is_peak}
-use Rattle.tree.specs.Verdicts.{Came, is_there, is_missing, got, Each, peaksTrusted, reached, needed}
+use Rattle.tree.specs.Verdicts.{Came, is_there, is_missing, got, Each, peaks_trusted, reached, needed}
 use Rattle.tree.specs.Verdicts.{first_missing, rooted, met, verdict}
 use Rattle.tree.proofs.NodeLaws.{above_aligned}
 use Rattle.tree.proofs.EachLaws.{each_map, each-split, sort-each, siblings-at}
@@ -23,11 +23,11 @@ abbrev pub SameAt : Came → Came → Node → Type 0
 SameAt m k n = m n.high n.from ≡ k n.high n.from
 
 module _ (N : ℕ) (s : State) (c : ℕ) (m k : Came) (A : Each (SameAt m k) (needed N s c)) where
-  parts : Each (SameAt m k) (pick (peaksTrusted N s) [] (peaks N)) × Each (SameAt m k) (siblings c (reached N s c))
+  parts : Each (SameAt m k) (pick (peaks_trusted N s) [] (peaks N)) × Each (SameAt m k) (siblings c (reached N s c))
   unfolding needed
-  parts = each-split (SameAt m k) (pick (peaksTrusted N s) [] (peaks N)) (siblings c (reached N s c)) A
+  parts = each-split (SameAt m k) (pick (peaks_trusted N s) [] (peaks N)) (siblings c (reached N s c)) A
 
-  pub peaks-agree : peaksTrusted N s ≡ false → (h a : ℕ) → above h a ≡ a → is_peak N h a ≡ true → m h a ≡ k h a
+  pub peaks-agree : peaks_trusted N s ≡ false → (h a : ℕ) → above h a ≡ a → is_peak N h a ≡ true → m h a ≡ k h a
   peaks-agree e = each_peak (SameAt m k) N (rw e at parts.0)
 
   pub siblings-agree : (h : ℕ) → h < reached N s c → m h (sibling_from h c) ≡ k h (sibling_from h c)
@@ -43,13 +43,13 @@ module _ (N : ℕ) (s : State) (c : ℕ) (m k : Came) (A : Each (SameAt m k) (ne
   module _ (H : List ℕ → List ℕ) (Z r d : List ℕ) where
     rooted-same : rooted H Z N r s c d m ≡ rooted H Z N r s c d k
     unfolding rooted
-    rooted-same = go (either (peaksTrusted N s))
+    rooted-same = go (either (peaks_trusted N s))
       where
-        go : (peaksTrusted N s ≡ true) ⊎ (peaksTrusted N s ≡ false)
-            → pick (peaksTrusted N s) true (same (combined H Z N (got Z m)) r) ≡ pick (peaksTrusted N s) true (same (combined H Z N (got Z k)) r)
+        go : (peaks_trusted N s ≡ true) ⊎ (peaks_trusted N s ≡ false)
+            → pick (peaks_trusted N s) true (same (combined H Z N (got Z m)) r) ≡ pick (peaks_trusted N s) true (same (combined H Z N (got Z k)) r)
         go (inl e) = rw e
         go (inr e) =
-            ap (λ (x : List ℕ). pick (peaksTrusted N s) true (same x r))
+            ap (λ (x : List ℕ). pick (peaks_trusted N s) true (same x r))
             (combined-peaks H Z N (got Z m) (got Z k) (λ h b f p. ap (λ (o : Option (List ℕ)). get_or o Z) (peaks-agree e h b f p)))
 
     met-same : met H Z N r s c d m ≡ met H Z N r s c d k
@@ -57,9 +57,9 @@ module _ (N : ℕ) (s : State) (c : ℕ) (m k : Came) (A : Each (SameAt m k) (ne
     met-same =
         ap₂ same
         (climb-agree H (got Z m) (got Z k) (H d) c (reached N s c) (λ h u. ap (λ (o : Option (List ℕ)). get_or o Z) (siblings-agree h u)))
-        (at-reached (peaksTrusted N s) refl (reached N s c))
+        (at-reached (peaks_trusted N s) refl (reached N s c))
       where
-        at-reached : (b : Bool) → peaksTrusted N s ≡ b → (t : ℕ)
+        at-reached : (b : Bool) → peaks_trusted N s ≡ b → (t : ℕ)
             → pick b (s.hash t (above t c)) (pick (is_peak N t (above t c)) (got Z m t (above t c)) (s.hash t (above t c)))
             ≡ pick b (s.hash t (above t c)) (pick (is_peak N t (above t c)) (got Z k t (above t c)) (s.hash t (above t c)))
         at-reached true e t = refl

@@ -6,7 +6,7 @@ use Rattle.tree.specs.Node.{above}
 use Rattle.tree.specs.Pack.{levels}
 use Rattle.tree.specs.Tree.{tree, combined, climb}
 use Rattle.tree.specs.State.{State, is_peak, AllPeaks}
-use Rattle.tree.specs.Verdicts.{Came, got, peaksTrusted, verdict}
+use Rattle.tree.specs.Verdicts.{Came, got, peaks_trusted, verdict}
 use Rattle.tree.specs.declared.verdict.Verdict.{Verdict}
 use Rattle.tree.specs.declared.verdict.Verdict.TheVariants.{Fits, Missing, WrongPeaks, WrongClimb}
 
@@ -58,18 +58,18 @@ hung H c t d came s = record {
 module _ (H : List ℕ → List ℕ) (Z : List ℕ) (N : ℕ) (r : List ℕ) (s : State) (c : ℕ) (d : List ℕ) (m : Came) where
   -- The store with the peaks that came, where they aren't trusted yet.
   unfoldable pub counted : State
-  counted = pick (peaksTrusted N s) s (adopted N (got Z m) s)
+  counted = pick (peaks_trusted N s) s (adopted N (got Z m) s)
 
   -- The store after a chunk was judged: one that fits is hung, one that is already held changes nothing, and so does any
   -- other verdict.
-  abbrev pub afterBy : Verdict → State
-  afterBy (Fits t) = pick (s.in_map c) s (hung H c t d (got Z m) counted)
-  afterBy (Missing b) = s
-  afterBy (WrongPeaks b) = s
-  afterBy (WrongClimb b) = s
+  abbrev pub after_by : Verdict → State
+  after_by (Fits t) = pick (s.in_map c) s (hung H c t d (got Z m) counted)
+  after_by (Missing b) = s
+  after_by (WrongPeaks b) = s
+  after_by (WrongClimb b) = s
 
   unfoldable pub after : State
-  after = afterBy (verdict H Z N r s c d m)
+  after = after_by (verdict H Z N r s c d m)
 
 -- What holds of a store under the root r at any time.
 pub record Sound (H : List ℕ → List ℕ) (Z : List ℕ) (N : ℕ) (r : List ℕ) (s : State) : Type 0 where

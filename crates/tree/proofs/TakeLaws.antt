@@ -10,8 +10,8 @@ use Rattle.tree.specs.Pack.{least_from, levels, root_node}
 use Rattle.tree.specs.Peaks.{peaks, peak_height}
 use Rattle.tree.specs.Tree.{combined, climb}
 use Rattle.tree.specs.State.{State, is_peak, AllPeaks}
-use Rattle.tree.proofs.Sound.{adopted, hung, Sound, counted, afterBy, after}
-use Rattle.tree.specs.Verdicts.{Came, got, every, peaksTrusted, counts, countedHash, reached}
+use Rattle.tree.proofs.Sound.{adopted, hung, Sound, counted, after_by, after}
+use Rattle.tree.specs.Verdicts.{Came, got, every, peaks_trusted, counts, counted_hash, reached}
 use Rattle.tree.specs.Verdicts.{first_missing, unless_missing, rooted, met, verdict}
 use Rattle.tree.specs.declared.verdict.Verdict.{Verdict}
 use Rattle.tree.specs.declared.verdict.Verdict.TheVariants.{Fits, Missing, WrongPeaks, WrongClimb}
@@ -46,9 +46,9 @@ module _ (H : List ℕ → List ℕ) (Z : List ℕ) (N : ℕ) (r : List ℕ) (s 
 
 -- the hash that counts is the one held with the peaks that came
 pub counted-hash : (H : List ℕ → List ℕ) (Z : List ℕ) (N : ℕ) (r : List ℕ) (s : State) (c : ℕ) (d : List ℕ) (m : Came) (h a : ℕ)
-    → countedHash N s (got Z m) h a ≡ (counted H Z N r s c d m).hash h a
+    → counted_hash N s (got Z m) h a ≡ (counted H Z N r s c d m).hash h a
 unfolding counted
-counted-hash H Z N r s c d m h a = go (peaksTrusted N s)
+counted-hash H Z N r s c d m h a = go (peaks_trusted N s)
   where
     go : (b : Bool) → pick b (s.hash h a) (pick (is_peak N h a) (got Z m h a) (s.hash h a)) ≡ (pick b s (adopted N (got Z m) s)).hash h a
     go true = refl
@@ -77,7 +77,7 @@ module _ (H : List ℕ → List ℕ) (Z : List ℕ) (N : ℕ) (r : List ℕ) (s 
   fits-so q i = record {
     rooted_is = q;
     reached_is = refl;
-    met_is = same_is (climb H (got Z m) (H d) c u) (countedHash N s (got Z m) u (above u c)) i ∙ counted-hash H Z N r s c d m u (above u c);
+    met_is = same_is (climb H (got Z m) (H d) c u) (counted_hash N s (got Z m) u (above u c)) i ∙ counted-hash H Z N r s c d m u (above u c);
   }
 
   pub verdict-means : (v : Verdict) → verdict H Z N r s c d m ≡ v → Means v
@@ -97,15 +97,15 @@ module _ (H : List ℕ → List ℕ) (Z : List ℕ) (N : ℕ) (r : List ℕ) (s 
 
 -- the node reached is the first above the chunk that counts as trusted
 pub reached_least : (N : ℕ) (s : State) (c : ℕ) → c < N → Least (λ h. counts N s h (above h c)) 0 (peak_height N c) (reached N s c)
-unfolding reached peaksTrusted
+unfolding reached peaks_trusted
 reached_least N s c l =
     let k = peak_of N c l in
     let p = peak_height N c in
     let w : above p c + 2 ^ p ≤ N = k.whole in
-    least_finds (λ h. counts N s h (above h c)) p (peak-counts (peaksTrusted N s) refl) (suc (levels N)) 0
+    least_finds (λ h. counts N s h (above h c)) p (peak-counts (peaks_trusted N s) refl) (suc (levels N)) 0
     (omega arith) (omega (arith, high_bound N p (omega arith)))
   where
-    peak-counts : (b : Bool) → peaksTrusted N s ≡ b
+    peak-counts : (b : Bool) → peaks_trusted N s ≡ b
         → pick b (s.trust (peak_height N c) (above (peak_height N c) c))
         (pick (is_peak N (peak_height N c) (above (peak_height N c) c)) true (s.trust (peak_height N c) (above (peak_height N c) c))) ≡ true
     peak-counts true e =
@@ -122,7 +122,7 @@ reached_inside N s c l =
 pub reached_counted : (H : List ℕ → List ℕ) (Z : List ℕ) (N : ℕ) (r : List ℕ) (s : State) (c : ℕ) (d : List ℕ) (m : Came)
     → reached N s c ≡ least_from (λ h. (counted H Z N r s c d m).trust h (above h c)) (suc (levels N)) 0
 unfolding reached counted
-reached_counted H Z N r s c d m = go (peaksTrusted N s)
+reached_counted H Z N r s c d m = go (peaks_trusted N s)
   where
     go : (b : Bool)
         → least_from (λ h. pick b (s.trust h (above h c)) (pick (is_peak N h (above h c)) true (s.trust h (above h c)))) (suc (levels N)) 0
@@ -133,7 +133,7 @@ reached_counted H Z N r s c d m = go (peaksTrusted N s)
 module _ (H : List ℕ → List ℕ) (Z : List ℕ) (N : ℕ) (r : List ℕ) (s : State) (S : Sound H Z N r s) (c : ℕ) (l : c < N) (d : List ℕ) (m : Came) where
   counted-ok : rooted H Z N r s c d m ≡ true
       → Sound H Z N r (counted H Z N r s c d m) × AllPeaks N (counted H Z N r s c d m)
-  unfolding counted peaksTrusted rooted
+  unfolding counted peaks_trusted rooted
   counted-ok e = go (every (λ n. s.trust n.high n.from) (peaks N)) refl e
     where
       go : (b : Bool) → every (λ n. s.trust n.high n.from) (peaks N) ≡ b → pick b true (same (combined H Z N (got Z m)) r) ≡ true
@@ -161,7 +161,7 @@ module _ (H : List ℕ → List ℕ) (Z : List ℕ) (N : ℕ) (r : List ℕ) (s 
       held-or-not true t e = S
       held-or-not false t e = fits-hung t e
 
-      go : (v : Verdict) → verdict H Z N r s c d m ≡ v → Sound H Z N r (afterBy H Z N r s c d m v)
+      go : (v : Verdict) → verdict H Z N r s c d m ≡ v → Sound H Z N r (after_by H Z N r s c d m v)
       go (Fits t) e = held-or-not (s.in_map c) t e
       go (Missing b) e = S
       go (WrongPeaks b) e = S

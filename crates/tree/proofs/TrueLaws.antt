@@ -11,7 +11,7 @@ use Rattle.tree.specs.Peaks.{peaks, peak_height, siblings, sent}
 use Rattle.tree.specs.Tree.{tree, root, combined, joined, climb}
 use Rattle.tree.specs.State.{State, is_peak}
 use Rattle.tree.proofs.Sound.{on_path, adopted, hung, counted}
-use Rattle.tree.specs.Verdicts.{Came, is_there, got, every, Each, peaksTrusted, reached, needed, first_missing, rooted, met, verdict}
+use Rattle.tree.specs.Verdicts.{Came, is_there, got, every, Each, peaks_trusted, reached, needed, first_missing, rooted, met, verdict}
 use Rattle.tree.specs.Steps.{sibling_at}
 use Rattle.tree.specs.declared.verdict.Verdict.TheVariants.{Fits}
 use Rattle.tree.proofs.NodeLaws.{above-left, above-right, beside-left, beside-right, whole_below, above_aligned, child_cases}
@@ -77,7 +77,7 @@ module _ (H : List ℕ → List ℕ) (Z : List ℕ) (N : ℕ) (chunk : ℕ → L
 
     roots : rooted H Z N r s c d m ≡ true
     unfolding rooted
-    roots = go (peaksTrusted N s)
+    roots = go (peaks_trusted N s)
       where
         gives : combined H Z N (got Z m) ≡ r
         gives = combined-peaks H Z N (got Z m) (tree H Z N chunk) peak-true ∙ combined-root H Z N chunk
@@ -89,7 +89,7 @@ module _ (H : List ℕ → List ℕ) (Z : List ℕ) (N : ℕ) (chunk : ℕ → L
     -- with the peaks that came, every trusted node still holds its true hash, and the chunk's peak is trusted
     counted-true : HoldsTrue (counted H Z N r s c d m)
     unfolding counted
-    counted-true = go (peaksTrusted N s)
+    counted-true = go (peaks_trusted N s)
       where
         adopted-true : HoldsTrue (adopted N (got Z m) s)
         adopted-true h a e i f = at (is_peak N h a) refl f
@@ -103,7 +103,7 @@ module _ (H : List ℕ → List ℕ) (Z : List ℕ) (N : ℕ) (chunk : ℕ → L
         go false = adopted-true
 
     peak-trusted : (counted H Z N r s c d m).trust (peak_height N c) (above (peak_height N c) c) ≡ true
-    unfolding counted peaksTrusted
+    unfolding counted peaks_trusted
     peak-trusted = go (every (λ n. s.trust n.high n.from) (peaks N)) refl
       where
         go : (b : Bool) → every (λ n. s.trust n.high n.from) (peaks N) ≡ b
@@ -122,7 +122,7 @@ module _ (H : List ℕ → List ℕ) (Z : List ℕ) (N : ℕ) (chunk : ℕ → L
     unfolding needed
     completes =
         all-came N s c m
-        (each_append There (pick (peaksTrusted N s) [] (peaks N)) (siblings c (reached N s c)) (go (peaksTrusted N s))
+        (each_append There (pick (peaks_trusted N s) [] (peaks N)) (siblings c (reached N s c)) (go (peaks_trusted N s))
         (siblings-each There c (reached N s c) (λ h u. ap is_there (sibling-true h (omega (arith, reach.within))))))
       where
         There : Node → Type 0

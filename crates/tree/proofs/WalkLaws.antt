@@ -8,7 +8,7 @@ use Rattle.tree.specs.Node.{Node, node, above}
 use Rattle.tree.specs.Pack.{levels}
 use Rattle.tree.specs.Tree.{given, combined}
 use Rattle.tree.specs.State.{State}
-use Rattle.tree.specs.Walk.{Hangs, string, walkFrom, walk, here, there, Collision, Lowest}
+use Rattle.tree.specs.Walk.{Hangs, string, walk_from, walk, here, there, Collision, Lowest}
 use Rattle.tree.proofs.NodeLaws.{split, above_in, above-left, above-right, above-top, above_zero}
 use Rattle.tree.proofs.PackLaws.{levels-holds}
 use Rattle.tree.proofs.TreeLaws.{given-empty, given-whole, given-mixed}
@@ -67,18 +67,18 @@ module _ (H : List ℕ → List ℕ) (Z : List ℕ) (N : ℕ) (r : List ℕ) whe
 -- ---- the walk goes on where the strings are the same, and stops where they differ
 
 module _ (H : List ℕ → List ℕ) (Z : List ℕ) (N : ℕ) (s t : State) (c : ℕ) where
-  walk-leaf : walkFrom H Z N s t c zero ≡ node zero (above zero c)
-  unfolding walkFrom
+  walk-leaf : walk_from H Z N s t c zero ≡ node zero (above zero c)
+  unfolding walk_from
   walk-leaf = refl
 
   walk-on : (h : ℕ) → same (string H Z N s (suc h) (above (suc h) c)) (string H Z N t (suc h) (above (suc h) c)) ≡ true
-      → walkFrom H Z N s t c (suc h) ≡ walkFrom H Z N s t c h
-  unfolding walkFrom
+      → walk_from H Z N s t c (suc h) ≡ walk_from H Z N s t c h
+  unfolding walk_from
   walk-on h e = rw e
 
   walk-stops : (h : ℕ) → same (string H Z N s (suc h) (above (suc h) c)) (string H Z N t (suc h) (above (suc h) c)) ≡ false
-      → walkFrom H Z N s t c (suc h) ≡ node (suc h) (above (suc h) c)
-  unfolding walkFrom
+      → walk_from H Z N s t c (suc h) ≡ node (suc h) (above (suc h) c)
+  unfolding walk_from
   walk-stops h e = rw e
 
 -- the strings differ at a node above c, and are hashed there to one value
@@ -117,7 +117,7 @@ module _ (H : List ℕ → List ℕ) (Z : List ℕ) (N W : ℕ) (zlen : length Z
   leaf-string u = ap u.chunk (above_zero c)
 
   meets-from : (h : ℕ) → h ≤ levels N → given H Z N s.hash h (above h c) ≡ given H Z N t.hash h (above h c)
-      → Meets H Z N s t c (walkFrom H Z N s t c h)
+      → Meets H Z N s t c (walk_from H Z N s t c h)
   meets-from zero w e =
       rw (walk-leaf H Z N s t c)
       (record {
@@ -137,8 +137,8 @@ module _ (H : List ℕ → List ℕ) (Z : List ℕ) (N W : ℕ) (zlen : length Z
       T = string H Z N t (suc h) (above (suc h) c)
 
       go : (b : Bool) → same S T ≡ b
-          → (given H Z N s.hash h (above h c) ≡ given H Z N t.hash h (above h c) → Meets H Z N s t c (walkFrom H Z N s t c h))
-          → Meets H Z N s t c (walkFrom H Z N s t c (suc h))
+          → (given H Z N s.hash h (above h c) ≡ given H Z N t.hash h (above h c) → Meets H Z N s t c (walk_from H Z N s t c h))
+          → Meets H Z N s t c (walk_from H Z N s t c (suc h))
       go true f ih =
           rw (walk-on H Z N s t c h f)
           (ih (at_above h (parts h (above (suc h) c) (same_is S T f))))
@@ -162,7 +162,7 @@ module _ (H : List ℕ → List ℕ) (Z : List ℕ) (N W : ℕ) (zlen : length Z
 
 -- it is the first such node: at each node above it on the way the strings are the same
 module _ (H : List ℕ → List ℕ) (Z : List ℕ) (N : ℕ) (s t : State) (c : ℕ) where
-  first-from : (h : ℕ) (k : ℕ) → (walkFrom H Z N s t c h).high < k → k ≤ h → string H Z N s k (above k c) ≡ string H Z N t k (above k c)
+  first-from : (h : ℕ) (k : ℕ) → (walk_from H Z N s t c h).high < k → k ≤ h → string H Z N s k (above k c) ≡ string H Z N t k (above k c)
   first-from zero k l u = absurd (omega (arith, ap (λ (n : Node). n.high) (walk-leaf H Z N s t c)))
   first-from (suc h) k l u = go (same S T) refl (first-from h k)
     where
@@ -173,7 +173,7 @@ module _ (H : List ℕ → List ℕ) (Z : List ℕ) (N : ℕ) (s t : State) (c :
       T = string H Z N t (suc h) (above (suc h) c)
 
       go : (b : Bool) → same S T ≡ b
-          → ((walkFrom H Z N s t c h).high < k → k ≤ h → string H Z N s k (above k c) ≡ string H Z N t k (above k c))
+          → ((walk_from H Z N s t c h).high < k → k ≤ h → string H Z N s k (above k c) ≡ string H Z N t k (above k c))
           → string H Z N s k (above k c) ≡ string H Z N t k (above k c)
       go false f ih = absurd (omega (arith, ap (λ (n : Node). n.high) (walk-stops H Z N s t c h f)))
       go true f ih = at (split k h)

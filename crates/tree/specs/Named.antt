@@ -4,7 +4,7 @@ use Rattle.std.proofs.Math.Option.{none}
 use Rattle.tree.specs.Node.{Node, above}
 use Rattle.tree.specs.Tree.{combined, climb}
 use Rattle.tree.specs.State.{State}
-use Rattle.tree.specs.Verdicts.{Came, is_there, got, peaksTrusted, counts, countedHash, needed}
+use Rattle.tree.specs.Verdicts.{Came, is_there, got, peaks_trusted, counts, counted_hash, needed}
 
 -- n is one of the nodes.
 abbrev pub In : Node → List Node → Type 0
@@ -23,15 +23,15 @@ pub record FirstMissing (N : ℕ) (s : State) (c : ℕ) (m : Came) (n : Node) : 
 
 -- 10 with the root: the peaks are not trusted yet, and those that came combine to another hash.
 pub record MissesRoot (H : List ℕ → List ℕ) (Z : List ℕ) (N : ℕ) (r : List ℕ) (s : State) (m : Came) : Type 0 where
-  pub untrusted : peaksTrusted N s ≡ false
+  pub untrusted : peaks_trusted N s ≡ false
   pub differs : combined H Z N (got Z m) ≢ r
 
 -- 10 with the first node n at or above the leaf of chunk c that counts as trusted: the peaks are trusted or give the
 -- root, and the climb gives another hash there. Where N is a power of two it may be the root.
 pub record MissesNode (H : List ℕ → List ℕ) (Z : List ℕ) (N : ℕ) (r : List ℕ) (s : State) (c : ℕ) (d : List ℕ)
     (m : Came) (n : Node) : Type 0 where
-  pub peaks-right : (peaksTrusted N s ≡ true) ⊎ (combined H Z N (got Z m) ≡ r)
+  pub peaks-right : (peaks_trusted N s ≡ true) ⊎ (combined H Z N (got Z m) ≡ r)
   pub is-above : n.from ≡ above n.high c
   pub trusted : counts N s n.high n.from ≡ true
   pub first : (h : ℕ) → h < n.high → counts N s h (above h c) ≡ false
-  pub differs : climb H (got Z m) (H d) c n.high ≢ countedHash N s (got Z m) n.high n.from
+  pub differs : climb H (got Z m) (H d) c n.high ≢ counted_hash N s (got Z m) n.high n.from

@@ -44,16 +44,16 @@ first_of f (n ∷ ns) = pick (f n) (some n) (first_of f ns)
 
 module _ (N : ℕ) (s : State) where
   -- The peaks are trusted already.
-  unfoldable pub peaksTrusted : Bool
-  peaksTrusted = every (λ n. s.trust n.high n.from) (peaks N)
+  unfoldable pub peaks_trusted : Bool
+  peaks_trusted = every (λ n. s.trust n.high n.from) (peaks N)
 
   -- For the climb a trusted node counts as trusted, and so does each peak where they aren't trusted yet.
   abbrev pub counts : ℕ → ℕ → Bool
-  counts h a = pick peaksTrusted (s.trust h a) (pick (is_peak N h a) true (s.trust h a))
+  counts h a = pick peaks_trusted (s.trust h a) (pick (is_peak N h a) true (s.trust h a))
 
   -- The hash that then counts: of such a peak the one that came.
-  abbrev pub countedHash : (ℕ → ℕ → List ℕ) → ℕ → ℕ → List ℕ
-  countedHash came h a = pick peaksTrusted (s.hash h a) (pick (is_peak N h a) (came h a) (s.hash h a))
+  abbrev pub counted_hash : (ℕ → ℕ → List ℕ) → ℕ → ℕ → List ℕ
+  counted_hash came h a = pick peaks_trusted (s.hash h a) (pick (is_peak N h a) (came h a) (s.hash h a))
 
   module _ (c : ℕ) where
     -- The height of the first such node at or above the leaf of chunk c.
@@ -63,7 +63,7 @@ module _ (N : ℕ) (s : State) where
     -- The nodes whose hashes are needed: the peaks if they aren't trusted yet, and the sibling at each step below that
     -- node.
     unfoldable pub needed : List Node
-    needed = pick peaksTrusted [] (peaks N) ++ siblings c reached
+    needed = pick peaks_trusted [] (peaks N) ++ siblings c reached
 
 -- No hash came for a node.
 abbrev pub is_missing : Came → Node → Bool
@@ -81,11 +81,11 @@ unless_missing (some n) v = Missing (num n)
 module _ (H : List ℕ → List ℕ) (Z : List ℕ) (N : ℕ) (r : List ℕ) (s : State) (c : ℕ) (d : List ℕ) (m : Came) where
   -- The peaks combine, with fillers, to the root.
   unfoldable pub rooted : Bool
-  rooted = pick (peaksTrusted N s) true (same (combined H Z N (got Z m)) r)
+  rooted = pick (peaks_trusted N s) true (same (combined H Z N (got Z m)) r)
 
   -- The climb gives the hash of the node reached.
   unfoldable pub met : Bool
-  met = let t = reached N s c in same (climb H (got Z m) (H d) c t) (countedHash N s (got Z m) t (above t c))
+  met = let t = reached N s c in same (climb H (got Z m) (H d) c t) (counted_hash N s (got Z m) t (above t c))
 
   -- "the trusted node missed, the root if the peaks fail" (02, No. 3).
   unfoldable pub verdict : Verdict

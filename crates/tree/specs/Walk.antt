@@ -35,15 +35,15 @@ module _ (H : List ℕ → List ℕ) (Z : List ℕ) (N : ℕ) where
   module _ (s t : State) (c : ℕ) where
     -- From the node of height h above chunk c down to its leaf, the first where the strings differ; the leaf if none
     -- does.
-    unfoldable pub walkFrom : ℕ → Node
-    walkFrom zero = node zero (above zero c)
-    walkFrom (suc h) =
-        let a = above (suc h) c in pick (same (string s (suc h) a) (string t (suc h) a)) (walkFrom h) (node (suc h) a)
+    unfoldable pub walk_from : ℕ → Node
+    walk_from zero = node zero (above zero c)
+    walk_from (suc h) =
+        let a = above (suc h) c in pick (same (string s (suc h) a) (string t (suc h) a)) (walk_from h) (node (suc h) a)
 
     -- The walk to a chunk runs from the root to its leaf: of the tree's height, the node above a chunk of the pack is the
     -- root.
     unfoldable pub walk : Node
-    walk = walkFrom (levels N)
+    walk = walk_from (levels N)
 
     -- What the walk names: both stores' strings at its node.
     unfoldable pub here : List ℕ

@@ -14,7 +14,7 @@ use Rattle.tree.specs.Node.{Node, num, above}
 use Rattle.tree.specs.Pack.{levels, least_from, root_node}
 use Rattle.tree.specs.Peaks.{peaks, peak_height, siblings, sort}
 use Rattle.tree.specs.Tree.{given, combined, climb}
-use Rattle.tree.specs.Verdicts.{every, is_missing, first_of, peaksTrusted, reached, needed, first_missing, unless_missing, rooted, met, verdict}
+use Rattle.tree.specs.Verdicts.{every, is_missing, first_of, peaks_trusted, reached, needed, first_missing, unless_missing, rooted, met, verdict}
 use Rattle.tree.specs.declared.verdict.Verdict.{Verdict}
 use Rattle.tree.specs.declared.verdict.Verdict.TheVariants.{Fits, Missing, WrongPeaks, WrongClimb}
 use Rattle.verdict.specs.Room.{filler}
@@ -47,19 +47,19 @@ module _ (N : ℕ) (trusted : List ℕ) (c : ℕ) (l : c < N) where
 
 module _ (L : ℕ) (bytes map : List ℕ) (N : ℕ) (r hashes trusted : List ℕ) (c : ℕ) (d : List ℕ) (o : Integrity) (b : Bool) (t : ℕ)
     (bo : b ≡ every (trusted_in trusted) (peaks N)) (tr : t ≡ least_from (λ h. room_counts b N trusted h (above h c)) (suc (levels N)) 0) where
-  is-peaksTrusted : b ≡ peaksTrusted N (state_of L (rooms_of bytes map hashes trusted))
-  unfolding peaksTrusted
-  is-peaksTrusted = bo
+  is-peaks_trusted : b ≡ peaks_trusted N (state_of L (rooms_of bytes map hashes trusted))
+  unfolding peaks_trusted
+  is-peaks_trusted = bo
 
   is-reached : t ≡ reached N (state_of L (rooms_of bytes map hashes trusted)) c
   unfolding reached
-  is-reached = tr ∙ ap (λ (x : Bool). least_from (λ h. room_counts x N trusted h (above h c)) (suc (levels N)) 0) is-peaksTrusted
+  is-reached = tr ∙ ap (λ (x : Bool). least_from (λ h. room_counts x N trusted h (above h c)) (suc (levels N)) 0) is-peaks_trusted
 
   -- the verdict, once it is known whether the peaks are trusted, and which node is reached
   is-verdict : unless_missing (first_of (is_missing (came_from o)) (sort (pick b [] (peaks N) ++ siblings c t))) (weighing N r hashes b c t d o)
       ≡ verdict sha256 filler N r (state_of L (rooms_of bytes map hashes trusted)) c d (came_from o)
   unfolding verdict first_missing needed rooted met combined
-  is-verdict = rw (is-peaksTrusted, is-reached)
+  is-verdict = rw (is-peaks_trusted, is-reached)
 
 -- the verdict looks at the hashes and the trusted bits alone
 pub verdict_sees : (N : ℕ) (r hashes trusted : List ℕ) (c : ℕ) (d : List ℕ) (o : Integrity) (L : ℕ) (bytes map : List ℕ)
@@ -72,12 +72,12 @@ verdict_sees N r hashes trusted c d o L bytes map =
 
 -- a chunk that fits hangs below the node reached, a node of the tree
 pub fits_reached : (N : ℕ) (r hashes trusted : List ℕ) (c : ℕ) (d : List ℕ) (o : Integrity) (t : ℕ) → room_verdict N r hashes trusted c d o ≡ Fits t → t ≡ room_reached N trusted c
-unfolding room_reached reached peaksTrusted
+unfolding room_reached reached peaks_trusted
 fits_reached N r hashes trusted c d o t e =
     (fits-means sha256 filler N r (state_of 0 (rooms_of [] [] hashes trusted)) c d (came_from o) t (sym (verdict_sees N r hashes trusted c d o 0 [] []) ∙ e)).reached_is
 
 pub fits-within : (N : ℕ) (r hashes trusted : List ℕ) (c : ℕ) (d : List ℕ) (o : Integrity) (t : ℕ) → c < N → room_verdict N r hashes trusted c d o ≡ Fits t → t ≤ levels N
-unfolding room_reached reached peaksTrusted
+unfolding room_reached reached peaks_trusted
 fits-within N r hashes trusted c d o t l e =
     (reach-in N trusted c l (every (trusted_in trusted) (peaks N)) refl t (fits_reached N r hashes trusted c d o t e)).0
 

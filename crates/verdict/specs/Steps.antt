@@ -43,12 +43,12 @@ source_by t hashes o h a = source t hashes o (bin h a)
 
 -- Whether a node counts as trusted, and the hash that then counts, once it is known whether the peaks are trusted.
 abbrev pub room_counts : Bool → ℕ → List ℕ → ℕ → ℕ → Bool
-room_counts peaksTrusted N trusted h a =
-    pick peaksTrusted (bit_at trusted (bin h a)) (pick (is_peak N h a) true (bit_at trusted (bin h a)))
+room_counts peaks_trusted N trusted h a =
+    pick peaks_trusted (bit_at trusted (bin h a)) (pick (is_peak N h a) true (bit_at trusted (bin h a)))
 
 abbrev pub room_counted : Bool → ℕ → List ℕ → Integrity → ℕ → ℕ → List ℕ
-room_counted peaksTrusted N hashes o h a =
-    pick peaksTrusted (hash_in hashes (bin h a)) (pick (is_peak N h a) (got_by o h a) (hash_in hashes (bin h a)))
+room_counted peaks_trusted N hashes o h a =
+    pick peaks_trusted (hash_in hashes (bin h a)) (pick (is_peak N h a) (got_by o h a) (hash_in hashes (bin h a)))
 
 -- A node of a list, if there is one, as it is named.
 abbrev pub named_node : Option Node → Named
@@ -89,17 +89,17 @@ scratch_by (WrongClimb b) old new = new
 
 -- Once no hash is missing: by what is known of the peaks, and by the height of the node reached.
 abbrev pub weighing : ℕ → List ℕ → List ℕ → Bool → ℕ → ℕ → List ℕ → Integrity → Verdict
-weighing N r hashes peaksTrusted c t d o =
-    pick (pick peaksTrusted true (same (given sha256 filler N (got_by o) (levels N) 0) r))
-    (pick (same (climb sha256 (got_by o) (sha256 d) c t) (room_counted peaksTrusted N hashes o t (above t c)))
+weighing N r hashes peaks_trusted c t d o =
+    pick (pick peaks_trusted true (same (given sha256 filler N (got_by o) (levels N) 0) r))
+    (pick (same (climb sha256 (got_by o) (sha256 d) c t) (room_counted peaks_trusted N hashes o t (above t c)))
     (Fits t)
     (WrongClimb (bin t (above t c))))
     (WrongPeaks (root_node N))
 
 unfoldable pub weighed : List ℕ → ℕ → List ℕ → List ℕ → Bool → ℕ → ℕ → List ℕ → Integrity → Judged
-weighed scratch N r hashes peaksTrusted c t d o =
-    judged_of (weighing N r hashes peaksTrusted c t d o)
-    (scratch_by (weighing N r hashes peaksTrusted c t d o) scratch (kept scratch (got_by o) (sha256 d) c t))
+weighed scratch N r hashes peaks_trusted c t d o =
+    judged_of (weighing N r hashes peaks_trusted c t d o)
+    (scratch_by (weighing N r hashes peaks_trusted c t d o) scratch (kept scratch (got_by o) (sha256 d) c t))
 
 unfoldable pub judge_spec : List ℕ → ℕ → List ℕ → List ℕ → List ℕ → ℕ → List ℕ → Integrity → Judged
 judge_spec scratch N r hashes trusted c d o =
