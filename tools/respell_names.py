@@ -1,7 +1,7 @@
 #!/usr/bin/env python3
 """Respells this repository's own definitions and lemmas as today's library spells its own: words in snake case.
 
-usage: python3 tools/respell_names.py [--list]      once, at the top, after /opt/rattle/port/port.py
+usage: python3 tools/respell_names.py [--list]      once, at the top, after the port.py of the kit
        --list: prints the table OLD NEW, and writes nothing
 
 A definition in camel case (chunkSize) becomes snake case (chunk_size). In a lemma a dash stays where it joins two
