@@ -1,19 +1,25 @@
 -- A call that is refused, and one that is not. Assumes nothing.
 use Prim.Native.Nat.{ℕ, zero, suc, ◌<◌}
 use native.Mathlib.Omega.{arith}
-use mathlib.Core.Path.{◌≡◌, refl}
+use mathlib.Core.Path.{◌≡◌, refl, sym, ap, ◌∙◌}
 use mathlib.Core.Logic.{◌≢◌}
 use mathlib.Core.List.{List}
 use borrow.Author.Tests.{ne_eqb}
 use Rattle.base.specs.Among.{OneOf}
-use Rattle.base.specs.Out.{Out, out_at, out_of, no_node, node_number, named_by, unless_at, unless, Unaltered}
-use Rattle.base.specs.declared.Named.{Named}
-use Rattle.base.specs.declared.Named.TheVariants.{Node, NoNode}
+use Rattle.base.specs.Pick.{earlier}
+use Rattle.base.specs.Out.{Named, Out, out_at, out_of, no_node, node_number, named_by, unless_at, unless, Unaltered}
+use Rattle.base.specs.Out.{answer_of, node_of, out_by, Answers}
+use Rattle.base.specs.Refusal.{number, node}
+use Rattle.base.specs.declared.Refusal.{Refusal}
+use Rattle.base.specs.declared.Refusal.TheVariants.{DatagramSize, Layout, Handshake, Options, NoChannel, TableFull}
+use Rattle.base.specs.declared.Refusal.TheVariants.{PastPack, ChunkSize, HashMissing, HashWrong, RoomTooSmall, Order}
+use Rattle.base.specs.declared.Refusal.TheVariants.{NotHeld, ChannelId}
+use Rattle.std.specs.Prelude.{Some, None, Result, Ok, Err}
 
 -- A node's number names it, if it is not the one that stands for none.
-pub named_back : (x : Named) → ((b : ℕ) → x ≡ Node b → b < no_node) → {n : ℕ} → n ≡ node_number x → named_by n ≡ x
-named_back (Node b) small e = rw (e, ne_eqb b no_node (λ z. omega (arith, small b refl)))
-named_back NoNode small e = rw e
+pub named_back : (x : Named) → ((b : ℕ) → x ≡ Some b → b < no_node) → {n : ℕ} → n ≡ node_number x → named_by n ≡ x
+named_back (Some b) small e = rw (e, ne_eqb b no_node (λ z. omega (arith, small b refl)))
+named_back None small e = rw e
 
 module _ {W : Type 0} (b : Named) where
   -- A refused call gives its number and its node, and leaves all as it was.
@@ -50,25 +56,76 @@ module _ {W : Type 0} (b : Named) where
 -- The same where no node is named.
 module _ {W : Type 0} where
   pub unless_not : (n : ℕ) (old : W) (out : Out W) → n ≢ 0 → out_of n 0 old ≡ unless n old out
-  unless_not = at-not NoNode
+  unless_not = at-not None
 
   pub unless-done : (n : ℕ) (old : W) (out : Out W) → n ≡ 0 → out ≡ unless n old out
-  unless-done = at_done NoNode
+  unless-done = at_done None
 
   pub unless-zero : (n : ℕ) (old : W) (out : Out W) → (unless n old out).answer ≡ 0 → (n ≡ 0) × (out.answer ≡ 0)
-  unless-zero = at_zero NoNode
+  unless-zero = at_zero None
 
   pub unless-keeps : {A : Type 0} (f : W → A) (n : ℕ) (old : W) (out : Out W) → f out.after ≡ f old
       → f (unless n old out).after ≡ f old
-  unless-keeps = at-keeps NoNode
+  unless-keeps = at-keeps None
 
   pub unless-unaltered : (n : ℕ) (old : W) (out : Out W) → Unaltered old out → Unaltered old (unless n old out)
-  unless-unaltered = at-unaltered NoNode
+  unless-unaltered = at-unaltered None
 
   pub unless-one : (ms : List ℕ) (n : ℕ) (old : W) (out : Out W) → OneOf ms n → OneOf ms out.answer
       → OneOf ms (unless n old out).answer
-  unless-one = at_one NoNode
+  unless-one = at_one None
 
   -- A call that answers 0 is not refused.
   pub done-unaltered : (old new : W) (len : ℕ) → Unaltered old (out_of 0 len new)
   done-unaltered old new len d = absurd (d refl)
+
+-- A refusal has another number than 0.
+pub refusal_number : (e : Refusal) → number e ≢ 0
+refusal_number DatagramSize = λ q. omega arith
+refusal_number Layout = λ q. omega arith
+refusal_number Handshake = λ q. omega arith
+refusal_number Options = λ q. omega arith
+refusal_number NoChannel = λ q. omega arith
+refusal_number TableFull = λ q. omega arith
+refusal_number PastPack = λ q. omega arith
+refusal_number ChunkSize = λ q. omega arith
+refusal_number (HashMissing b) = λ q. omega arith
+refusal_number (HashWrong b) = λ q. omega arith
+refusal_number RoomTooSmall = λ q. omega arith
+refusal_number Order = λ q. omega arith
+refusal_number NotHeld = λ q. omega arith
+refusal_number ChannelId = λ q. omega arith
+
+-- What a test gives, read off its result r: n is its number.
+module _ {A : Type 0} {r : Result A Refusal} {n : ℕ} (a : Answers r n) where
+  pub passed : {x : A} → r ≡ Ok x → n ≡ 0
+  passed p = sym a.0 ∙ ap answer_of p
+
+  pub refused_by : {e : Refusal} → r ≡ Err e → n ≡ number e
+  refused_by p = sym a.0 ∙ ap answer_of p
+
+  pub refused-nameless : {e : Refusal} → r ≡ Err e → node e ≡ None
+  refused-nameless p = sym (ap node_of p) ∙ a.1
+
+  pub refused_not : {e : Refusal} → r ≡ Err e → n ≢ 0
+  refused_not {e} p q = refusal_number e (sym (refused_by p) ∙ q)
+
+  -- It goes on with this refusal, whatever would come later.
+  pub earlier-refused : {e : Refusal} → r ≡ Err e → (m : ℕ) → (number e ≡ earlier n m) × (node e ≡ None)
+  earlier-refused {e} p m = (go n (refused_by p), refused-nameless p)
+    where
+      go : (k : ℕ) → k ≡ number e → number e ≡ earlier k m
+      go zero q = absurd (refusal_number e (sym q))
+      go (suc k) q = sym q
+
+  -- A call that is refused so leaves all as it was.
+  pub unless-refused : {W : Type 0} {e : Refusal} → r ≡ Err e → (old : W) (out : Out W) → out_at (number e) 0 (node e) old ≡ unless n old out
+  unless-refused {e = e} p old out =
+      rw (refused-nameless p, ← refused_by p) (unless_not n old out (refused_not p))
+
+  -- What comes later decides where it is passed.
+  pub earlier-passed : {x : A} → r ≡ Ok x → (m : ℕ) → earlier n m ≡ m
+  earlier-passed p m = rw (passed p)
+
+  pub unless-passed : {x : A} {W : Type 0} → r ≡ Ok x → (old : W) (out : Out W) → unless n old out ≡ out
+  unless-passed p old out = rw (passed p)

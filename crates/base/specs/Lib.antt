@@ -2,4 +2,5 @@
 pub mod Pick
 pub mod Same
 pub mod Among
+pub mod Refusal
 pub mod Out

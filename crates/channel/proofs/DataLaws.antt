@@ -17,7 +17,7 @@ use Rattle.channel.specs.World.{table_rows, order_format}
 use Rattle.channel.specs.Take.{row_for, messages_number, affected, delay, acknowledged, acknowledgement, replied}
 use Rattle.channel.specs.Take.{data_by, store_out, data_taken}
 use Rattle.base.proofs.OutLaws.{at-not, at_done, unless_not, unless-done}
-use Rattle.base.specs.declared.Named.{Named}
+use Rattle.base.specs.Out.{Named}
 use Rattle.format.specs.declared.Format.{Format}
 
 -- ---- the ACK

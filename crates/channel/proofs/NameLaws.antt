@@ -3,8 +3,8 @@
 use Rattle.std.proofs.Common.{◌≡◌, ℕ, zero, suc, ◌<◌, false, ◌≢◌, List, [], ◌∷◌, sym, refl, ◌∙◌, arith, ne_eqb}
 use Rattle.base.specs.Among.{among, OneOf}
 use Rattle.base.specs.Out.{no_node}
-use Rattle.base.specs.declared.Named.{Named}
-use Rattle.base.specs.declared.Named.TheVariants.{Node, NoNode}
+use Rattle.base.specs.Out.{Named}
+use Rattle.std.specs.Prelude.{Some, None}
 use Rattle.base.proofs.AmongLaws.{all_among, one_of_more, not_one}
 use Rattle.wire.proofs.Promise.{number_of, layout-one}
 use Rattle.wire.specs.declared.layout.Layout.{Layout}
@@ -23,23 +23,23 @@ use Rattle.channel.proofs.NumberLaws.{own_one, handshake-one, messages-number-on
 
 -- ---- other calls
 
-unless-none : {W : Type 0} (n : ℕ) (old : W) (out : Out W) → out.node ≡ NoNode → (unless n old out).node ≡ NoNode
+unless-none : {W : Type 0} (n : ℕ) (old : W) (out : Out W) → out.node ≡ None → (unless n old out).node ≡ None
 unless-none zero old out e = e
 unless-none (suc n) old out e = refl
 
-pub start_nameless : (w : World) (o : Order) → (start_spec w o).node ≡ NoNode
+pub start_nameless : (w : World) (o : Order) → (start_spec w o).node ≡ None
 unfolding start_spec
 start_nameless w o = unless-none (start_number w o) w _ refl
 
-pub build_nameless : (w : World) (o : Order) (s : List ℕ) → (build_spec w o s).node ≡ NoNode
+pub build_nameless : (w : World) (o : Order) (s : List ℕ) → (build_spec w o s).node ≡ None
 unfolding build_spec
 build_nameless w o s = unless-none (build_number w o s) w _ refl
 
-pub open_nameless : (w : World) (id : ℕ) → (open_spec w id).node ≡ NoNode
+pub open_nameless : (w : World) (id : ℕ) → (open_spec w id).node ≡ None
 unfolding open_spec
 open_nameless w id = unless-none (open_number w id) w _ refl
 
-pub write_nameless : (w : World) (id c clock : ℕ) → (write_spec w id c clock).node ≡ NoNode
+pub write_nameless : (w : World) (id c clock : ℕ) → (write_spec w id c clock).node ≡ None
 unfolding write_spec
 write_nameless w id c clock = unless-none (write_number w id c) w _ refl
 
@@ -70,7 +70,7 @@ module _ (w : World) (clock id : ℕ) (s : List ℕ) where
   abbrev by-data : (c x b n : ℕ) → Out World
   by-data c x b n = data_by w clock s c x (store_out w s (layout_in st s).entries c b n)
 
-  module _ (P : Out World → Type 0) (other : (out : Out World) → OneOf others out.answer → out.node ≡ NoNode → P out)
+  module _ (P : Out World → Type 0) (other : (out : Out World) → OneOf others out.answer → out.node ≡ None → P out)
       (stored : (c x b n k : ℕ) → (layout_in st s).layout ≡ MessagesAndData c x b n k → P (by-data c x b n)) where
     unless-by : (n : ℕ) → OneOf others n → (out : Out World) → P out → P (unless n w out)
     unless-by zero h out p = p
@@ -112,19 +112,19 @@ module _ (w : World) (clock id : ℕ) (s : List ℕ) where
 
   -- ---- its number is not the one that stands for none
 
-  node_of : {W : Type 0} (n : ℕ) (x : Named) (len : ℕ) (old new : W) {b : ℕ} → (unless_at n x old (out_of 0 len new)).node ≡ Node b → x ≡ Node b
+  node_of : {W : Type 0} (n : ℕ) (x : Named) (len : ℕ) (old new : W) {b : ℕ} → (unless_at n x old (out_of 0 len new)).node ≡ Some b → x ≡ Some b
   node_of zero x len old new e = absurd (let z : ◌≡◌ {A = ℕ} 0 1 = cc in omega arith)
   node_of (suc n) x len old new e = e
 
-  pub take-small : (b : ℕ) → (take_spec w clock id s).node ≡ Node b → b < no_node
+  pub take-small : (b : ℕ) → (take_spec w clock id s).node ≡ Some b → b < no_node
   unfolding data_by
   take-small =
-      take_by (λ out. (b : ℕ) → out.node ≡ Node b → b < no_node)
+      take_by (λ out. (b : ℕ) → out.node ≡ Some b → b < no_node)
       (λ out h e b q. absurd (none b (sym e ∙ q)))
       (λ c x b n k e a q. named_small w.rooms _ _ c _ _ a
       (node_of (store_out w s (layout_in st s).entries c b n).answer (store_out w s (layout_in st s).entries c b n).node _ w _ q))
     where
-      none : (b : ℕ) → NoNode ≡ Node b → ⊥
+      none : (b : ℕ) → None ≡ Some b → ⊥
       none b q = let z : ◌≡◌ {A = ℕ} 0 1 = cc in omega arith
 
   -- ---- what a number says that no other part gives
@@ -136,7 +136,7 @@ module _ (w : World) (clock id : ℕ) (s : List ℕ) where
 
   pub take-names : (k : ℕ) → among others k ≡ false → (P : (c : ℕ) (d : List ℕ) (o : Integrity) (b : ℕ) → Type 0)
       → ((c : ℕ) (d : List ℕ) (o : Integrity) → (store_take w.rooms (order_root st) (order_length st) c d o).answer ≡ k
-      → (b : ℕ) × ((store_take w.rooms (order_root st) (order_length st) c d o).node ≡ Node b) × P c d o b)
+      → (b : ℕ) × ((store_take w.rooms (order_root st) (order_length st) c d o).node ≡ Some b) × P c d o b)
       → (take_spec w clock id s).answer ≡ k → Names st s (take_spec w clock id s).node P
   unfolding data_by among
   take-names k other P stored =

@@ -5,7 +5,7 @@ use Rattle.std.proofs.Common.{◌≡◌, ℕ, ◌^◌, ◌<◌, ◌≤◌, true,
 use mathlib.Core.Option.{some}
 use Rattle.base.specs.Among.{among, OneOf}
 use Rattle.base.proofs.OutLaws.{named_back}
-use Rattle.base.specs.declared.Named.TheVariants.{NoNode}
+use Rattle.std.specs.Prelude.{None}
 use Rattle.hash.proofs.Promise.{Words}
 use Rattle.wire.proofs.Promise.{be32, placed, max_size, layout_of}
 use Rattle.writer.proofs.Promise.{AreBytes, read_all, write_all, datagram_of}
@@ -147,16 +147,16 @@ take_acknowledges = acknowledging.take_acknowledges
 
 -- ---- 02, No. 3: "Refusals 9 and 10 must tell the service desk the node .. Other numbers carry no node"
 
-pub start_nameless : (w : World) (o : Order) → (start_spec w o).node ≡ NoNode
+pub start_nameless : (w : World) (o : Order) → (start_spec w o).node ≡ None
 start_nameless = naming.start_nameless
 
-pub build_nameless : (w : World) (o : Order) (s : List ℕ) → (build_spec w o s).node ≡ NoNode
+pub build_nameless : (w : World) (o : Order) (s : List ℕ) → (build_spec w o s).node ≡ None
 build_nameless = naming.build_nameless
 
-pub open_nameless : (w : World) (id : ℕ) → (open_spec w id).node ≡ NoNode
+pub open_nameless : (w : World) (id : ℕ) → (open_spec w id).node ≡ None
 open_nameless = naming.open_nameless
 
-pub write_nameless : (w : World) (id c clock : ℕ) → (write_spec w id c clock).node ≡ NoNode
+pub write_nameless : (w : World) (id c clock : ℕ) → (write_spec w id c clock).node ≡ None
 write_nameless = naming.write_nameless
 
 module _ (w : World) (clock id : ℕ) (s : List ℕ) where

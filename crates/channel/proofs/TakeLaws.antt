@@ -19,8 +19,8 @@ use Rattle.channel.specs.Take.{row_for, handshake_taken, messages_number, with_m
 use Rattle.channel.specs.Steps.{Ruled, ruled_of, ruled_by}
 use Rattle.channel.specs.declared.outcome.Outcome.{Outcome}
 use Rattle.channel.specs.declared.outcome.Taken.{Taken}
-use Rattle.base.specs.declared.Named.{Named}
-use Rattle.base.specs.declared.Named.TheVariants.{NoNode}
+use Rattle.base.specs.Out.{Named}
+use Rattle.std.specs.Prelude.{None}
 use Rattle.base.proofs.OutLaws.{unless_not, unless-done}
 use Rattle.format.specs.declared.Format.{Format}
 
@@ -193,12 +193,12 @@ module _ (w : World) (clock id : ℕ) (s : List ℕ) where
         → ruled_of (out_at answer len node after) alone v.highest v.effective ≡ record { out = out; alone = false; survey = no_survey }
     settled-by e = rw (p.0, p.1, p.2, p.3, p.4) (ap (λ (x : Out World). record { out = x; alone = false; survey = no_survey }) e)
 
-    pub laid-fault : (n : ℕ) → o.answer ≡ n → o.len ≡ 0 → o.node ≡ NoNode
+    pub laid-fault : (n : ℕ) → o.answer ≡ n → o.len ≡ 0 → o.node ≡ None
         → ruled_of (out_at answer len node w) alone v.highest v.effective ≡ ruled_by w clock id s (Fault n)
     unfolding by_layout
     laid-fault n e f g = settled-by (rw (e, f, g))
 
-    pub laid-handshake : (a : ℕ) (h : Options) {u : Outcome} → (o.answer ≡ u.answer) × (o.len ≡ u.len) × (o.node ≡ NoNode)
+    pub laid-handshake : (a : ℕ) (h : Options) {u : Outcome} → (o.answer ≡ u.answer) × (o.len ≡ u.len) × (o.node ≡ None)
         → {after : Channels} → out_of u.answer u.len after ≡ handshake_taken w.channels id s a h
         → ruled_of (out_at answer len node (record { rooms = w.rooms; channels = after })) alone v.highest v.effective
         ≡ ruled_by w clock id s (HandshakeAlone a h)
@@ -213,14 +213,14 @@ module _ (w : World) (clock id : ℕ) (s : List ℕ) where
 
   -- Messages are left.
   pub laid-left : {answer len : ℕ} {node : Named} {alone : Bool} {v u : Survey}
-      → (answer ≡ 0) × (len ≡ 0) × (node ≡ NoNode) × (alone ≡ true) × (v ≡ u) → u ≡ survey_all (order_format w.channels.state) s
+      → (answer ≡ 0) × (len ≡ 0) × (node ≡ None) × (alone ≡ true) × (v ≡ u) → u ≡ survey_all (order_format w.channels.state) s
       → (k : ℕ) → ruled_of (out_at answer len node w) alone v.highest v.effective ≡ ruled_by w clock id s (Messages k)
   laid-left p e k = rw (p.0, p.1, p.2, p.3, p.4, e)
 
   -- Plain messages alone.
   pub laid-plain : {F : Format} → F ≡ order_format w.channels.state → (f : Front) → Fronted F s f → f.at ≡ length s
       → {answer len : ℕ} {node : Named} {alone : Bool} {v : Survey}
-      → (answer ≡ 0) × (len ≡ 0) × (node ≡ NoNode) × (alone ≡ true) × (v ≡ f.survey)
+      → (answer ≡ 0) × (len ≡ 0) × (node ≡ None) × (alone ≡ true) × (v ≡ f.survey)
       → ruled_of (out_at answer len node w) alone v.highest v.effective ≡ ruled_by w clock id s (layout_in w.channels.state s).layout
   laid-plain {F} fe f q h p =
       laid-left p (sym (front-survey F s f q h) ∙ ap (λ (G : Format). survey_all G s) fe) 0
@@ -248,7 +248,7 @@ module _ (w : World) (clock id : ℕ) (s : List ℕ) where
   -- The messages that were left, taken.
   pub left-taken : {after : World} → after ≡ w → by_layout w clock id s (layout_in w.channels.state s).layout ≡ beside w.rooms (messages_taken w.channels s)
       → {u : Outcome} {ch : Channels} → out_of u.answer u.len ch ≡ messages_taken after.channels s
-      → {t : Taken} → (t.answer ≡ u.answer) × (t.len ≡ u.len) × (t.node ≡ NoNode)
+      → {t : Taken} → (t.answer ≡ u.answer) × (t.len ≡ u.len) × (t.node ≡ None)
       → out_at t.answer t.len t.node (record { rooms = after.rooms; channels = ch }) ≡ by_layout w clock id s (layout_in w.channels.state s).layout
   left-taken {after} e f g q =
       rw (q.0, q.1, q.2)

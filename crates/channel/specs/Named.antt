@@ -1,7 +1,6 @@
 -- The node that taking in a datagram names (02, No. 3): what it says of the datagram and of the store. Assumes nothing.
-use Rattle.std.specs.Prelude.{◌≡◌, ℕ, List}
-use Rattle.base.specs.declared.Named.{Named}
-use Rattle.base.specs.declared.Named.TheVariants.{Node}
+use Rattle.std.specs.Prelude.{◌≡◌, ℕ, List, Some}
+use Rattle.base.specs.Out.{Named}
 use Rattle.wire.specs.declared.layout.Layout.TheVariants.{MessagesAndData}
 use Rattle.writer.proofs.Promise.{within}
 use Rattle.store.proofs.Promise.{Integrity, integrity_of}
@@ -16,5 +15,5 @@ pub record Names (st s : List ℕ) (x : Named) (P : (c : ℕ) (d : List ℕ) (o 
   pub count : ℕ
   pub brings : (layout_in st s).layout ≡ MessagesAndData chunk timestamp start size count
   pub node : ℕ
-  pub node_named : x ≡ Node node
+  pub node_named : x ≡ Some node
   pub holds : P chunk (within s start size) (integrity_of (layout_in st s).entries s) node

@@ -9,7 +9,6 @@ ghost use Rattle.channel.specs.Take.{row_for, messages_number, affected, message
 ghost use Rattle.channel.specs.Take.{acknowledgement, data_taken};
 
 use crate::outcome::{Outcome, Taken};
-use base::Named;
 use format::Format;
 use held::interval;
 use store::calls;
@@ -184,7 +183,7 @@ pub(crate) fn take_chunk(
         return Taken {
             answer: refused,
             len: 0,
-            node: Named::NoNode,
+            node: None,
         };
     }
     let order = words::order_in(state);
@@ -213,13 +212,13 @@ pub(crate) fn take_chunk(
         return Taken {
             answer: 0,
             len: sent,
-            node: Named::NoNode,
+            node: None,
         };
     }
     apply_messages(state, format, i, has, wants, datagram);
     Taken {
         answer: 0,
         len: sent,
-        node: Named::NoNode,
+        node: None,
     }
 }

@@ -1,15 +1,13 @@
 // Taking in a datagram: its checks in 01's order, then its effects and its reply.
-ghost use Rattle.std.specs.Prelude.{◌≡◌, ◌≤◌, true, false, length};
+ghost use Rattle.std.specs.Prelude.{◌≡◌, ◌≤◌, true, false, length, None};
 ghost use Rattle.wire.proofs.Promise.{max_size, no_survey, Fronted};
 ghost use Rattle.store.proofs.Promise.{length_answer};
-ghost use Rattle.base.specs.declared.Named.TheVariants.{NoNode};
 ghost use Rattle.channel.specs.World.{world_of, out_at, order_length, order_format};
 ghost use Rattle.channel.specs.Take.{layout_in, take_spec};
 ghost use Rattle.channel.specs.Steps.{ruled_of, ruled_by};
 
 use crate::outcome::Taken;
 use crate::{handshakes, messages, outcome, rooms};
-use base::Named;
 use format::Format;
 use table::words;
 use wire::layout::Layout;
@@ -23,7 +21,7 @@ use wire::survey::Survey;
 struct Ruling {
     answer: u32,
     len: usize,
-    node: Named,
+    node: Option<u64>,
     alone: bool,
     survey: Survey,
 }
@@ -48,13 +46,13 @@ fn ruled(taken: Taken) -> Ruling
 
 // Messages are left.
 fn messages_left(survey: Survey) -> Ruling
-    ensures { (result.answer ≡ 0) × (result.len ≡ 0) × (result.node ≡ NoNode)
+    ensures { (result.answer ≡ 0) × (result.len ≡ 0) × (result.node ≡ None)
         × (result.alone ≡ true) × (result.survey ≡ survey) }
 {
     Ruling {
         answer: 0,
         len: 0,
-        node: Named::NoNode,
+        node: None,
         alone: true,
         survey,
     }
@@ -97,7 +95,7 @@ fn rule_behind(
         Layout::Fault { number } => ruled(Taken {
             answer: number,
             len: 0,
-            node: Named::NoNode,
+            node: None,
         }),
         Layout::HandshakeAlone { source, options } => ruled(outcome::unnamed(handshakes::handshake(
             state, has, wants, reply, id, source, options, datagram,
@@ -206,14 +204,14 @@ pub fn take(
         return Taken {
             answer: refused,
             len: 0,
-            node: Named::NoNode,
+            node: None,
         };
     }
     if !pass::has_size(datagram) {
         return Taken {
             answer: 1,
             len: 0,
-            node: Named::NoNode,
+            node: None,
         };
     }
     let format = words::format_in(state);

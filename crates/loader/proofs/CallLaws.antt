@@ -6,7 +6,7 @@ use mathlib.Core.List.{List}
 use Rattle.hash.proofs.Promise.{words}
 use Rattle.hash.specs.declared.value.HashValue.{HashValue}
 use Rattle.table.proofs.Promise.{flag}
-use Rattle.base.specs.declared.Named.{Named}
+use Rattle.base.specs.Out.{Named}
 use Rattle.channel.proofs.Promise.{World, Out, out_at, node_number, named_by, start_spec, build_spec, take_spec, take-node, Asked, asked_of}
 use Rattle.order.specs.declared.Order.{Order}
 use lib.ListN.{drop}

@@ -27,7 +27,7 @@ use Rattle.store.specs.Calls.{rooms_answer, start_spec, build_answer, build_spec
 use Rattle.store.specs.Steps.{found_root, store_if_fits}
 use Rattle.base.proofs.OutLaws.{at-not, at_done, at_zero, at-unaltered, unless_not, unless-done, unless-zero, done-unaltered, unless-unaltered}
 use Rattle.base.specs.Out.{Out, out_at, out_of, unless_at, unless}
-use Rattle.base.specs.declared.Named.{Named}
+use Rattle.base.specs.Out.{Named}
 use Rattle.store.proofs.AnswerLaws.{both_zero, length_facts, room_facts, chunk_facts}
 use Rattle.tree.proofs.ChunkLaws.{chunk_inside}
 use Rattle.verdict.proofs.VerdictLaws.{fits_reached, verdict_sees}

@@ -12,8 +12,8 @@ use Rattle.hash.proofs.Promise.{sha256}
 use Rattle.base.specs.Among.{among, OneOf}
 use Rattle.base.specs.Out.{Out, out_of, is_named, no_node, unless_at, unless}
 use Rattle.base.proofs.AmongLaws.{all_among, earlier-one, one_of_more, not_one}
-use Rattle.base.specs.declared.Named.{Named}
-use Rattle.base.specs.declared.Named.TheVariants.{Node as NodeNamed}
+use Rattle.base.specs.Out.{Named}
+use Rattle.std.specs.Prelude.{Some}
 use Rattle.tree.specs.Node.{Node, num}
 use Rattle.tree.specs.Pack.{max_length, leaf_places}
 use Rattle.tree.specs.Verdicts.{is_there, needed, first_missing, number, named, verdict}
@@ -37,10 +37,10 @@ module _ {W : Type 0} (m n : ℕ) (x : Named) (w v : W) where
   abbrev out : Out W
   out = unless m w (unless_at n x w (out_of 0 0 v))
 
-  node-second : {b : ℕ} → out.node ≡ NodeNamed b → (m ≡ 0) × (x ≡ NodeNamed b)
+  node-second : {b : ℕ} → out.node ≡ Some b → (m ≡ 0) × (x ≡ Some b)
   node-second = go m n
     where
-      go : (m n : ℕ) {b : ℕ} → (unless m w (unless_at n x w (out_of 0 0 v))).node ≡ NodeNamed b → (m ≡ 0) × (x ≡ NodeNamed b)
+      go : (m n : ℕ) {b : ℕ} → (unless m w (unless_at n x w (out_of 0 0 v))).node ≡ Some b → (m ≡ 0) × (x ≡ Some b)
       go zero zero e = absurd (let z : ◌≡◌ {A = ℕ} 0 1 = cc in omega arith)
       go zero (suc n) e = (refl, e)
       go (suc m) n e = absurd (let z : ◌≡◌ {A = ℕ} 0 1 = cc in omega arith)
@@ -112,13 +112,13 @@ module _ (w : Rooms) (r : List ℕ) (L c : ℕ) (d : List ℕ) (o : Integrity) w
       (rw (ne_eqb answer-before 9 (before-not 9 refl), ne_eqb answer-before 10 (before-not 10 refl)))
 
   -- It is one of the tree, and has a number below that which stands for none.
-  pub take-inside : (b : ℕ) → (take_spec w r L c d o).node ≡ NodeNamed b → suc b < 2 * leaf_places N
+  pub take-inside : (b : ℕ) → (take_spec w r L c d o).node ≡ Some b → suc b < 2 * leaf_places N
   unfolding take_spec
   take-inside b e =
       let p = node-second answer-before (number told) (named told) w _ e in
       named-inside sha256 filler N r (state_of L w) c (before-zero p.0).1 d (came_from o) b p.1
 
-  pub take-small : (b : ℕ) → (take_spec w r L c d o).node ≡ NodeNamed b → b < no_node
+  pub take-small : (b : ℕ) → (take_spec w r L c d o).node ≡ Some b → b < no_node
   unfolding take_spec
   take-small b e =
       let p = node-second answer-before (number told) (named told) w _ e in
@@ -127,7 +127,7 @@ module _ (w : Rooms) (r : List ℕ) (L c : ℕ) (d : List ℕ) (o : Integrity) w
       omega (arith, take-inside b e, few)
 
   -- 9
-  nine-told : (v : Verdict) → told ≡ v → number v ≡ 9 → (b : ℕ) × (named v ≡ NodeNamed b) × NamesMissing L w c o b
+  nine-told : (v : Verdict) → told ≡ v → number v ≡ 9 → (b : ℕ) × (named v ≡ Some b) × NamesMissing L w c o b
   unfolding NamesMissing
   nine-told (Fits t) e z = absurd (omega arith)
   nine-told (Missing b) e z = (b, refl, missing-named sha256 filler N r (state_of L w) c d (came_from o) b e)
@@ -135,7 +135,7 @@ module _ (w : Rooms) (r : List ℕ) (L c : ℕ) (d : List ℕ) (o : Integrity) w
   nine-told (WrongClimb b) e z = absurd (omega arith)
 
   pub take-missing : (take_spec w r L c d o).answer ≡ 9
-      → (b : ℕ) × ((take_spec w r L c d o).node ≡ NodeNamed b) × NamesMissing L w c o b
+      → (b : ℕ) × ((take_spec w r L c d o).node ≡ Some b) × NamesMissing L w c o b
   unfolding take_spec among
   take-missing e =
       let p = answer-second answer-before (number told) (named told) w _ 9 (before-not 9 refl) (λ z. omega arith) e in
@@ -143,7 +143,7 @@ module _ (w : Rooms) (r : List ℕ) (L c : ℕ) (d : List ℕ) (o : Integrity) w
       (q.0, p.2 ∙ q.1, q.2)
 
   -- 10
-  ten-told : c < N → (v : Verdict) → told ≡ v → number v ≡ 10 → (b : ℕ) × (named v ≡ NodeNamed b) × NamesMissed L r w c d o b
+  ten-told : c < N → (v : Verdict) → told ≡ v → number v ≡ 10 → (b : ℕ) × (named v ≡ Some b) × NamesMissed L r w c d o b
   unfolding NamesMissed AllCame
   ten-told l (Fits t) e z = absurd (omega arith)
   ten-told l (Missing b) e z = absurd (omega arith)
@@ -155,7 +155,7 @@ module _ (w : Rooms) (r : List ℕ) (L c : ℕ) (d : List ℕ) (o : Integrity) w
       (b, refl, (k.2, inr (k.0, k.1, k.3)))
 
   pub take-missed : (take_spec w r L c d o).answer ≡ 10
-      → (b : ℕ) × ((take_spec w r L c d o).node ≡ NodeNamed b) × NamesMissed L r w c d o b
+      → (b : ℕ) × ((take_spec w r L c d o).node ≡ Some b) × NamesMissed L r w c d o b
   unfolding take_spec among
   take-missed e =
       let p = answer-second answer-before (number told) (named told) w _ 10 (before-not 10 refl) (λ z. omega arith) e in

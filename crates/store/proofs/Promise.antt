@@ -12,7 +12,7 @@ use Rattle.bits.proofs.Promise.{bit_at, row_words}
 use Rattle.base.specs.Pick.{pick}
 use Rattle.base.specs.Among.{among, OneOf}
 use Rattle.base.specs.Out.{is_named, no_node}
-use Rattle.base.specs.declared.Named.TheVariants.{Node}
+use Rattle.std.specs.Prelude.{Some}
 use Rattle.tree.specs.Pack.{chunk_size, max_length, size, leaf_places, root_node}
 use Rattle.verdict.proofs.RoomLaws.{digest_words}
 use Rattle.store.proofs.BegunLaws.{enough-order, start-running, start-not-same, start-same-sizes, start-empty, build-running, build-not-same, build-same-sizes, build-bytes, build-whole}
@@ -202,12 +202,12 @@ module _ (w : Rooms) (r : List ℕ) (L c : ℕ) (d : List ℕ) (o : Integrity) w
 
   -- With 9 it is the first needed and missing one in the sending order,
   pub named-missing : (take_spec w r L c d o).answer ≡ 9
-      → (b : ℕ) × ((take_spec w r L c d o).node ≡ Node b) × NamesMissing L w c o b
+      → (b : ℕ) × ((take_spec w r L c d o).node ≡ Some b) × NamesMissing L w c o b
   named-missing = names.take-missing w r L c d o
 
   -- with 10 the trusted node missed, or the root.
   pub named-missed : (take_spec w r L c d o).answer ≡ 10
-      → (b : ℕ) × ((take_spec w r L c d o).node ≡ Node b) × NamesMissed L r w c d o b
+      → (b : ℕ) × ((take_spec w r L c d o).node ≡ Some b) × NamesMissed L r w c d o b
   named-missed = names.take-missed w r L c d o
 
   -- 9 is given exactly where a needed hash did not come, once 12, 11, 7 and 8 are ruled out.
@@ -219,10 +219,10 @@ module _ (w : Rooms) (r : List ℕ) (L c : ℕ) (d : List ℕ) (o : Integrity) w
   came-not-nine = names.came-not-nine w r L c d o
 
   -- It is a node of the tree, so its number is below that which stands for none.
-  pub named-inside : (b : ℕ) → (take_spec w r L c d o).node ≡ Node b → suc b < 2 * leaf_places (count_of L)
+  pub named-inside : (b : ℕ) → (take_spec w r L c d o).node ≡ Some b → suc b < 2 * leaf_places (count_of L)
   named-inside = names.take-inside w r L c d o
 
-  pub named_small : (b : ℕ) → (take_spec w r L c d o).node ≡ Node b → b < no_node
+  pub named_small : (b : ℕ) → (take_spec w r L c d o).node ≡ Some b → b < no_node
   named_small = names.take-small w r L c d o
 
 -- Two sets of hashes that agree on those that are needed give the same answer, node and rooms: hashes not needed aren't

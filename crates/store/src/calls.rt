@@ -11,7 +11,6 @@ ghost use Rattle.store.specs.Steps.{found_root, store_if_fits};
 ghost use Rattle.base.specs.Out.{out_at, out_of};
 
 use crate::{answers, building, storing};
-use base::Named;
 use hash::value;
 use hash::value::HashValue;
 use order::Order;
@@ -95,7 +94,7 @@ pub fn build(
 #[derive(Clone, Copy)]
 pub struct Taken {
     pub answer: u32,
-    pub node: Named,
+    pub node: Option<u64>,
 }
 
 // The verdict's number and node, and the chunk stored where it fits.
@@ -179,7 +178,7 @@ pub fn take(
     if refused != 0 {
         return Taken {
             answer: refused,
-            node: Named::NoNode,
+            node: None,
         };
     }
     let n = tree::pack::chunk_count(length);

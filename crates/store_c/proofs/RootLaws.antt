@@ -7,7 +7,7 @@ use native.Mathlib.Omega.{arith}
 use borrow.Author.Tests.{eq-eqb, ne_eqb}
 use lib.ListN.{length}
 use Rattle.base.specs.Out.{Out, out_at, out_of, node_number, named_by}
-use Rattle.base.specs.declared.Named.{Named}
+use Rattle.base.specs.Out.{Named}
 use Rattle.base.proofs.OutLaws.{named_back}
 use Rattle.verdict.specs.Room.{put_hash}
 use Rattle.store.proofs.Promise.{Rooms, Integrity, hash_in, found_root, take_spec, named_small}

@@ -6,7 +6,7 @@ use borrow.Author.Tests.{not-false}
 use Rattle.base.specs.Same.{same}
 use Rattle.base.proofs.SameLaws.{same_is, same_refl}
 use Rattle.base.specs.Pick.{pick}
-use Rattle.base.specs.declared.Named.TheVariants.{Node as NodeNamed}
+use Rattle.std.specs.Prelude.{Some}
 use Rattle.tree.specs.Node.{Node, node, num, above}
 use Rattle.tree.specs.Pack.{levels, leaf_places, root_node}
 use Rattle.tree.specs.Peaks.{peaks, siblings, sort}
@@ -135,13 +135,13 @@ inner_number N n i = omega (arith, levels-holds N, pow_pos n.high)
 
 module _ (H : List ℕ → List ℕ) (Z : List ℕ) (N : ℕ) (r : List ℕ) (s : State) (c : ℕ) (l : c < N) (d : List ℕ) (m : Came) where
   -- A node that is named is one of the tree over N chunks.
-  pub named-inside : (b : ℕ) → named (verdict H Z N r s c d m) ≡ NodeNamed b → suc b < 2 * leaf_places N
+  pub named-inside : (b : ℕ) → named (verdict H Z N r s c d m) ≡ Some b → suc b < 2 * leaf_places N
   named-inside b e = go (verdict H Z N r s c d m) refl e
     where
-      says : (x : ℕ) → NodeNamed x ≡ NodeNamed b → suc x < 2 * leaf_places N → suc b < 2 * leaf_places N
+      says : (x : ℕ) → Some x ≡ Some b → suc x < 2 * leaf_places N → suc b < 2 * leaf_places N
       says x e u = let z : x ≡ b = cc in rw (← z) u
 
-      go : (v : Verdict) → verdict H Z N r s c d m ≡ v → named v ≡ NodeNamed b → suc b < 2 * leaf_places N
+      go : (v : Verdict) → verdict H Z N r s c d m ≡ v → named v ≡ Some b → suc b < 2 * leaf_places N
       go (Fits t) p e = absurd (let w : ◌≡◌ {A = ℕ} 0 1 = cc in omega arith)
       go (Missing x) p e =
           let k = missing-named H Z N r s c d m x p in

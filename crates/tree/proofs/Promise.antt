@@ -1,7 +1,7 @@
 -- What the crates above the tree part know of this one: of its definitions the names passed on here, and these laws. Assumes
 -- nothing.
 use Rattle.std.proofs.Common.{◌≡◌, ℕ, suc, ◌+◌, ◌*◌, ◌^◌, ◌<◌, ◌≤◌, true, leb, map, length, get_or, refl}
-use Rattle.tree.specs.declared.bin.RangeNode.TheVariants.{Node as NodeOf}
+use Rattle.std.specs.Prelude.{Some}
 use Rattle.tree.proofs.BinLaws as nodes
 use Rattle.tree.proofs.NodeLaws as places
 use Rattle.tree.proofs.KinLaws as kin
@@ -45,7 +45,7 @@ pub above_nested : (h k c : ℕ) → h ≤ k → (above k c ≤ above h c) × (a
 above_nested = places.above_nested
 
 -- The node of the chunks that a node covers is that node.
-pub node-range : (b : ℕ) → node_of_range (first b) (last b) ≡ NodeOf b
+pub node-range : (b : ℕ) → node_of_range (first b) (last b) ≡ Some b
 node-range b = range_is (first b) (last b) b refl refl
 
 -- ---- packs and chunks

@@ -3,18 +3,18 @@ use Rattle.std.proofs.Common.{◌≡◌, ℕ, ◌+◌, ◌*◌, ◌^◌, Bool, t
 use borrow.Author.Tests.{eqb-false}
 use Rattle.tree.specs.Bin.{height, first, last}
 use Rattle.tree.specs.Range.{node_of_range}
-use Rattle.tree.specs.declared.bin.RangeNode.TheVariants.{Node, NoNode}
+use Rattle.std.specs.Prelude.{Some, None}
 use Rattle.tree.proofs.BinLaws.{first_plus_last, bin_of}
 
 -- ---- the first chunk of f + l settles it
 
-node_if : (f l : ℕ) → first (f + l) ≡ f → node_of_range f l ≡ Node (f + l)
+node_if : (f l : ℕ) → first (f + l) ≡ f → node_of_range f l ≡ Some (f + l)
 unfolding node_of_range
 node_if f l e =
     let g : last (f + l) ≡ l = omega (arith, first_plus_last (f + l)) in
     rw (eq-eqb (first (f + l)) f e, eq-eqb (last (f + l)) l g)
 
-none_if : (f l : ℕ) → (first (f + l) ≡ f → ⊥) → node_of_range f l ≡ NoNode
+none_if : (f l : ℕ) → (first (f + l) ≡ f → ⊥) → node_of_range f l ≡ None
 unfolding node_of_range
 none_if f l n = rw (ne_eqb (first (f + l)) f n)
 
@@ -32,20 +32,20 @@ module _ (f l h w : ℕ) (e : h ≡ height (f + l)) (g : w ≡ 2 ^ h) where
   width : w ≡ 2 ^ height (f + l)
   width = g ∙ ap (λ (x : ℕ). 2 ^ x) e
 
-  pub range-some : 2 * f + w ≡ f + l + 1 → node_of_range f l ≡ Node (f + l)
+  pub range-some : 2 * f + w ≡ f + l + 1 → node_of_range f l ≡ Some (f + l)
   range-some t = node_if f l (sum_first (f + l) f (omega (arith, width)))
 
-  pub range_none : (2 * f + w ≡ f + l + 1 → ⊥) → node_of_range f l ≡ NoNode
+  pub range_none : (2 * f + w ≡ f + l + 1 → ⊥) → node_of_range f l ≡ None
   range_none t = none_if f l (λ q. t (omega (arith, width, first-sum (f + l) f q)))
 
--- ---- node_of_range f l is Node b exactly where node b covers f..l
+-- ---- node_of_range f l is Some b exactly where node b covers f..l
 
-pub range_is : (f l b : ℕ) → first b ≡ f → last b ≡ l → node_of_range f l ≡ Node b
+pub range_is : (f l b : ℕ) → first b ≡ f → last b ≡ l → node_of_range f l ≡ Some b
 range_is f l b e g =
     let s : f + l ≡ b = omega (arith, first_plus_last b) in
-    node_if f l (ap first s ∙ e) ∙ ap Node s
+    node_if f l (ap first s ∙ e) ∙ ap Some s
 
-pub range_means : (f l b : ℕ) → node_of_range f l ≡ Node b → (first b ≡ f) × (last b ≡ l)
+pub range_means : (f l b : ℕ) → node_of_range f l ≡ Some b → (first b ≡ f) × (last b ≡ l)
 range_means f l b e = go (eqb (first (f + l)) f) refl
   where
     go : (t : Bool) → eqb (first (f + l)) f ≡ t → (first b ≡ f) × (last b ≡ l)
@@ -60,5 +60,5 @@ range_means f l b e = go (eqb (first (f + l)) f) refl
         let z : ◌≡◌ {A = ℕ} 0 1 = cc in
         absurd (omega arith)
 
-pub range-node : (f l b : ℕ) → (first b ≡ f → last b ≡ l → node_of_range f l ≡ Node b) × (node_of_range f l ≡ Node b → (first b ≡ f) × (last b ≡ l))
+pub range-node : (f l b : ℕ) → (first b ≡ f → last b ≡ l → node_of_range f l ≡ Some b) × (node_of_range f l ≡ Some b → (first b ≡ f) × (last b ≡ l))
 range-node f l b = (range_is f l b, range_means f l b)

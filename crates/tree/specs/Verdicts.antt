@@ -1,11 +1,10 @@
 -- Taking a chunk: what is asked of the hashes that came with it, and the verdict (01, "Taking a chunk", and the
 -- numbers 9 and 10; 02, No. 3). Assumes nothing.
-use Rattle.std.specs.Prelude.{ℕ, suc, Bool, true, false, not, List, [], ◌∷◌, ◌++◌}
+use Rattle.std.specs.Prelude.{ℕ, suc, Bool, true, false, not, List, [], ◌∷◌, ◌++◌, Some, None}
 use Rattle.std.proofs.Math.Option.{Option, none, some, get_or}
 use Rattle.base.specs.Same.{same}
 use Rattle.base.specs.Pick.{pick}
-use Rattle.base.specs.declared.Named.{Named}
-use Rattle.base.specs.declared.Named.TheVariants.{Node as NodeNamed, NoNode}
+use Rattle.base.specs.Out.{Named}
 use Rattle.tree.specs.Bin.{bin}
 use Rattle.tree.specs.Node.{Node, num, above}
 use Rattle.tree.specs.Pack.{least_from, levels, root_node}
@@ -103,7 +102,7 @@ number (WrongPeaks b) = 10
 number (WrongClimb b) = 10
 
 abbrev pub named : Verdict → Named
-named (Fits t) = NoNode
-named (Missing b) = NodeNamed b
-named (WrongPeaks b) = NodeNamed b
-named (WrongClimb b) = NodeNamed b
+named (Fits t) = None
+named (Missing b) = Some b
+named (WrongPeaks b) = Some b
+named (WrongClimb b) = Some b

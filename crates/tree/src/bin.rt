@@ -4,13 +4,6 @@ ghost use Rattle.tree.specs.Bin.{height, first, last};
 ghost use Rattle.tree.specs.Steps.{parent, sibling};
 ghost use Rattle.tree.specs.Range.{node_of_range};
 
-// The node of a range of chunks, if it is one's.
-#[derive(Clone, Copy)]
-pub enum RangeNode {
-    Node(u64),
-    NoNode,
-}
-
 // 2 to the h.
 pub fn pow2(h: u32) -> u64
     requires { h < 64 }
@@ -63,14 +56,15 @@ pub fn sibling(b: u32) -> u64
     }
 }
 
-// The node that covers exactly the chunks from start to end, for any two numbers.
-pub fn node_of_range(start: u32, end: u32) -> RangeNode
+// The node that covers exactly the chunks from start to end, if there is one, for any two numbers.
+pub fn node_of_range(start: u32, end: u32) -> Option<u64>
     ensures { result ≡ node_of_range start end }
 {
     let f = start as u64;
     let b = f + end as u64;
     if 2 * f + pow2(height(b)) == b + 1 {
-        return RangeNode::Node(b);
+        Some(b)
+    } else {
+        None
     }
-    RangeNode::NoNode
 }

@@ -2,8 +2,6 @@
 ghost use Rattle.std.specs.Prelude.{◌≡◌};
 ghost use Rattle.tree.specs.Verdicts.{number, named};
 
-use base::Named;
-
 #[derive(Clone, Copy)]
 pub enum Verdict {
     // It hangs from the trusted node of this height, which may be its own leaf.
@@ -29,13 +27,13 @@ pub fn number(v: Verdict) -> u32
 }
 
 // The node that it names.
-pub fn named(v: Verdict) -> Named
+pub fn named(v: Verdict) -> Option<u64>
     ensures { result ≡ named v }
 {
     match v {
-        Verdict::Fits(_) => Named::NoNode,
-        Verdict::Missing(b) => Named::Node(b),
-        Verdict::WrongPeaks(b) => Named::Node(b),
-        Verdict::WrongClimb(b) => Named::Node(b),
+        Verdict::Fits(_) => None,
+        Verdict::Missing(b) => Some(b),
+        Verdict::WrongPeaks(b) => Some(b),
+        Verdict::WrongClimb(b) => Some(b),
     }
 }

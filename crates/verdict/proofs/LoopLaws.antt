@@ -10,7 +10,7 @@ use native.Mathlib.Omega.{arith}
 use native.Mathlib.Decide.{le_ind}
 use lib.Dec.{ltb}
 use Rattle.base.specs.Pick.{pick}
-use Rattle.base.specs.declared.Named.TheVariants.{Node as NodeNamed, NoNode}
+use Rattle.std.specs.Prelude.{Some, None}
 use Rattle.tree.specs.Node.{Node, num, above}
 use Rattle.tree.specs.Pack.{levels, least_from}
 use Rattle.tree.specs.Peaks.{peaks, siblings, sort}
@@ -83,7 +83,7 @@ module _ (f : Node → Bool) (opened : Bool) (N c t : ℕ) where
       ap (first_of f) (needed_is opened N c t (inside-below N c t w) (omega (arith, high_bound N t (omega arith))))
       ∙ ap (λ (x : ℕ). first_of f (left x)) (sym (q ∙ ap (λ (x : ℕ). x + 1) e ∙ add-one (levels N)))
 
-  pub missing-end : (h : ℕ) → h ≤ 0 → NoNode ≡ named_node (first_of f (left h))
+  pub missing-end : (h : ℕ) → h ≤ 0 → None ≡ named_node (first_of f (left h))
   unfolding needed_below first_of
   missing-end zero l = refl
   missing-end (suc h) l = absurd (omega arith)
@@ -116,11 +116,11 @@ module _ (f : Node → Bool) (opened : Bool) (N c t : ℕ) where
     here = ap (λ (x : ℕ). first_of f (left x)) (let e : h ≡ suc (h - 1) = omega arith in e) ∙ turn (h - 1)
 
     pub missing-sibling : {x : Bool} → x ≡ sib (h - 1) → x ≡ true → {b : ℕ} → b ≡ num (sibling_at c (h - 1))
-        → NodeNamed b ≡ named_node (first_of f (left h))
+        → Some b ≡ named_node (first_of f (left h))
     missing-sibling e g q = rw (q, here, sym e ∙ g)
 
     module _ {x y : Bool} (xe : x ≡ sib (h - 1)) (xf : x ≡ false) (ye : y ≡ top-peak (h - 1)) where
-      pub missing-peak : y ≡ true → {b : ℕ} → b ≡ num (peak_at N (h - 1)) → NodeNamed b ≡ named_node (first_of f (left h))
+      pub missing-peak : y ≡ true → {b : ℕ} → b ≡ num (peak_at N (h - 1)) → Some b ≡ named_node (first_of f (left h))
       missing-peak g q = rw (q, here, sym xe ∙ xf, sym ye ∙ g)
 
       pub missing-none : y ≡ false → first_of f (left h) ≡ first_of f (left (h - 1))

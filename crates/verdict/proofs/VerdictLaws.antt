@@ -7,8 +7,8 @@ use Prim.Native.Nat.{ℕ, suc, ◌+◌, ◌^◌, ◌≤◌, ◌<◌}
 use native.Mathlib.Omega.{arith}
 use Rattle.hash.proofs.Promise.{same, sha256}
 use Rattle.base.specs.Pick.{pick}
-use Rattle.base.specs.declared.Named.{Named}
-use Rattle.base.specs.declared.Named.TheVariants.{Node as NodeNamed, NoNode}
+use Rattle.base.specs.Out.{Named}
+use Rattle.std.specs.Prelude.{Some, None}
 use Rattle.tree.specs.Bin.{bin}
 use Rattle.tree.specs.Node.{Node, num, above}
 use Rattle.tree.specs.Pack.{levels, least_from, root_node}
@@ -84,11 +84,11 @@ fits-within N r hashes trusted c d o t l e =
 -- ---- test by test, as the code has them
 
 -- a node is named, or none
-named_some : (f : Option Node) (v : Verdict) {b : ℕ} → NodeNamed b ≡ named_node f → Missing b ≡ unless_missing f v
+named_some : (f : Option Node) (v : Verdict) {b : ℕ} → Some b ≡ named_node f → Missing b ≡ unless_missing f v
 named_some none v e = absurd (let w : ◌≡◌ {A = ℕ} 0 1 = cc in omega arith)
 named_some (some n) v {b} e = let q : b ≡ num n = cc in ap Missing q
 
-named_none : (f : Option Node) (v : Verdict) → NoNode ≡ named_node f → v ≡ unless_missing f v
+named_none : (f : Option Node) (v : Verdict) → None ≡ named_node f → v ≡ unless_missing f v
 named_none none v e = refl
 named_none (some n) v e = absurd (let w : ◌≡◌ {A = ℕ} 0 1 = cc in omega arith)
 
@@ -121,11 +121,11 @@ module _ (s : List ℕ) (N : ℕ) (r hashes trusted : List ℕ) (c : ℕ) (d : L
     unfolding room_verdict
     by-verdict e = e ∙ is-verdict 0 [] [] N r hashes trusted c d o b t bo at-levels
 
-    pub judge-missing : {n : ℕ} → x ≡ NodeNamed n → judged_of (Missing n) s ≡ judge_spec s N r hashes trusted c d o
+    pub judge-missing : {n : ℕ} → x ≡ Some n → judged_of (Missing n) s ≡ judge_spec s N r hashes trusted c d o
     judge-missing {n} e =
         judge_by s N r hashes trusted c d o (Missing n) (by-verdict (named_some first (weighing N r hashes b c t d o) (sym e ∙ xe))) refl
 
-    pub judge-weighed : x ≡ NoNode → {v : Verdict} {s' : List ℕ} → judged_of v s' ≡ weighed s N r hashes b c t d o
+    pub judge-weighed : x ≡ None → {v : Verdict} {s' : List ℕ} → judged_of v s' ≡ weighed s N r hashes b c t d o
         → judged_of v s' ≡ judge_spec s N r hashes trusted c d o
     unfolding weighed
     judge-weighed e {v} q =

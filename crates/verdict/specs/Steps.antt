@@ -1,11 +1,10 @@
 -- What the code computes on its way to a verdict, in the rooms' words; no paper has these. Assumes nothing.
-use Rattle.std.specs.Prelude.{ℕ, zero, suc, List, [], Bool, true, false}
+use Rattle.std.specs.Prelude.{ℕ, zero, suc, List, [], Bool, true, false, Some, None}
 use Rattle.std.proofs.Math.Option.{Option, none, some, get_or}
 use Rattle.bits.proofs.Promise.{bit_at}
 use Rattle.hash.proofs.Promise.{sha256, same}
 use Rattle.base.specs.Pick.{pick}
-use Rattle.base.specs.declared.Named.{Named}
-use Rattle.base.specs.declared.Named.TheVariants.{Node as NodeNamed, NoNode}
+use Rattle.base.specs.Out.{Named}
 use Rattle.tree.specs.Bin.{bin}
 use Rattle.tree.specs.Node.{Node, num, above}
 use Rattle.tree.specs.Pack.{levels, root_node}
@@ -52,8 +51,8 @@ room_counted peaks_trusted N hashes o h a =
 
 -- A node of a list, if there is one, as it is named.
 abbrev pub named_node : Option Node → Named
-named_node none = NoNode
-named_node (some n) = NodeNamed (num n)
+named_node none = None
+named_node (some n) = Some (num n)
 
 -- The height of the first node at or above chunk c that counts as trusted.
 unfoldable pub room_reached : ℕ → List ℕ → ℕ → ℕ

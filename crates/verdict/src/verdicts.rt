@@ -14,7 +14,6 @@ ghost use Rattle.verdict.specs.Steps.{trusted_in, got_by, room_counts, room_coun
 ghost use Rattle.verdict.specs.Steps.{judged_of, weighed, judge_spec};
 
 use crate::{integrity, peaks, room};
-use base::Named;
 use hash::value::HashValue;
 use hash::{message, node, value};
 use tree::verdict::Verdict;
@@ -59,7 +58,7 @@ fn first_missing(
     c: u32,
     top: u32,
     t: u32,
-) -> Named
+) -> Option<u64>
     requires { (top ≡ levels n) × (top ≤ 32) × (above t c + 2 ^ t ≤ n) }
     ensures { result ≡ named_node (first_of
         (is_missing (came_from (integrity_of entries.now bytes.now)))
@@ -69,13 +68,13 @@ fn first_missing(
     while 0 < h {
         h = h - 1;
         if sibling_missing(entries, bytes, c, t, h) {
-            return Named::Node(tree::peaks::sibling(c, h));
+            return Some(tree::peaks::sibling(c, h));
         }
         if peak_missing(entries, bytes, opened, n, h) {
-            return Named::Node(tree::peaks::peak(n, h));
+            return Some(tree::peaks::peak(n, h));
         }
     }
-    Named::NoNode
+    None
 }
 
 // Whether the node of height h above chunk c counts as trusted.
@@ -277,8 +276,8 @@ pub fn judge(
     let t = reach(trusted, opened, n, c, top);
     let missing = first_missing(entries, bytes, opened, n, c, top, t);
     match missing {
-        Named::Node(b) => Verdict::Missing(b),
-        Named::NoNode => weigh(
+        Some(b) => Verdict::Missing(b),
+        None => weigh(
             scratch, hashes, opened, root, n, c, top, t, chunk, entries, bytes,
         ),
     }

@@ -7,8 +7,7 @@ use mathlib.Core.Bool.{Bool, true, false, not, true≢false}
 use borrow.Author.Tests.{eq-eqb, ne_eqb, eqb-true, le-ltb, le-leb, lt-leb, ltb-false, ltb-true}
 use Rattle.base.specs.Pick.{pick}
 use Rattle.tree.proofs.Promise.{covers, node_of_range, first, first_chunk, first_plus_last, first-to-last, last}
-use Rattle.tree.specs.declared.bin.RangeNode.{RangeNode}
-use Rattle.tree.specs.declared.bin.RangeNode.TheVariants.{Node, NoNode}
+use Rattle.std.specs.Prelude.{is_some, Some, None}
 use Rattle.wire.specs.Bytes.{be32}
 use Rattle.wire.specs.Place.{first_of, last_of, empty_bin, everything_bin, is_empty, is_special, place_by, place_size, reach, reach_by, first_by, last_by, empty_by, special_by}
 use Rattle.wire.specs.Read.{names_node}
@@ -167,29 +166,11 @@ first_is F t e = ap (λ (x : Range). x.first) e
 pub last_is : (F : Format) (t : List ℕ) {r : Range} → r ≡ range_of F t → r.last ≡ last_of F t
 last_is F t e = ap (λ (x : Range). x.last) e
 
--- whether a range is a node's, from the node found
-module _ (f l : ℕ) where
-  pub node-covers : {n : RangeNode} {x : ℕ} → n ≡ node_of_range f l → n ≡ Node x → covers (f + l) f l ≡ true
-  unfolding node_of_range
-  node-covers {n} {x} e g = by (covers (f + l) f l) (sym e ∙ g)
-    where
-      by : (b : Bool) → pick b (Node (f + l)) NoNode ≡ Node x → b ≡ true
-      by true h = refl
-      by false h = cc
-
-  -- the node found is the range's sum
-  pub node-sum : {n : RangeNode} {x : ℕ} → n ≡ node_of_range f l → n ≡ Node x → x ≡ f + l
-  unfolding node_of_range
-  node-sum {n} {x} e g = by (covers (f + l) f l) (sym e ∙ g)
-    where
-      by : (b : Bool) → pick b (Node (f + l)) NoNode ≡ Node x → x ≡ f + l
-      by true h = cc
-      by false h = cc
-
-  pub no-node-covers : {n : RangeNode} → n ≡ node_of_range f l → n ≡ NoNode → covers (f + l) f l ≡ false
-  unfolding node_of_range
-  no-node-covers {n} e g = by (covers (f + l) f l) (sym e ∙ g)
-    where
-      by : (b : Bool) → pick b (Node (f + l)) NoNode ≡ NoNode → b ≡ false
-      by true h = cc
-      by false h = refl
+-- a range has a node where it covers just that
+pub node-found : (f l : ℕ) → is_some (node_of_range f l) ≡ covers (f + l) f l
+unfolding node_of_range
+node-found f l = by (covers (f + l) f l)
+  where
+    by : (b : Bool) → is_some (pick b (Some (f + l)) None) ≡ b
+    by true = refl
+    by false = refl

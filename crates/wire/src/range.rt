@@ -8,7 +8,6 @@ ghost use Rattle.wire.specs.Steps.{range_of};
 use crate::bytes;
 use format::{Addressing, Format};
 use tree::bin;
-use tree::bin::RangeNode;
 
 #[derive(Clone, Copy)]
 pub struct Range {
@@ -94,10 +93,7 @@ pub(crate) fn is_special(format: Format, rest: &[u8]) -> bool
 pub fn is_node(first: u32, last: u32) -> bool
     ensures { result ≡ covers (first + last) first last }
 {
-    match bin::node_of_range(first, last) {
-        RangeNode::Node(_) => true,
-        RangeNode::NoNode => false,
-    }
+    bin::node_of_range(first, last).is_some()
 }
 
 // Whether they are those of a node. A bin is one, unless it is special.

@@ -10,8 +10,7 @@ use lib.Seq.{length-take-le}
 use borrow.Author.Tests.{lt-ltb, le-ltb, eq-eqb, ne_eqb, not-true, not-false}
 use Rattle.base.specs.Pick.{pick, earlier}
 use Rattle.base.specs.Out.{out_of, unless}
-use Rattle.tree.specs.declared.bin.RangeNode.{RangeNode}
-use Rattle.tree.specs.declared.bin.RangeNode.TheVariants.{Node, NoNode}
+use Rattle.std.specs.Prelude.{Option, Some, None}
 use Rattle.wire.specs.Bytes.{be32, placed}
 use Rattle.wire.specs.Limits.{min_size, max_size}
 use Rattle.wire.specs.Layout.{Checked, checked_of, number_of, seen, handshake_fault, layout_of}
@@ -64,20 +63,20 @@ module _ (F : Format) (p source : List ℕ) (m : Message) (can : writable F (len
 -- ---- what the datagram so far says
 
 -- it has another size
-pub before_unsized : (F : Format) (s : List ℕ) (r : RangeNode) {b : Bool} → b ≡ has_size (length s) → not b ≡ true → before_numbers 1 0 ≡ before_of (layout_of F s) r
+pub before_unsized : (F : Format) (s : List ℕ) (r : Option ℕ) {b : Bool} → b ≡ has_size (length s) → not b ≡ true → before_numbers 1 0 ≡ before_of (layout_of F s) r
 before_unsized F s r {b} e h = rw (layout_unsized F s (sym e ∙ not-true b h))
 
 -- none but plain messages
-pub before-plain : (F : Format) (s : List ℕ) (r : RangeNode) (f : Front) → Fronted F s f → f.at ≡ length s → before_numbers 0 0 ≡ before_of (layout_of F s) r
+pub before-plain : (F : Format) (s : List ℕ) (r : Option ℕ) (f : Front) → Fronted F s f → f.at ≡ length s → before_numbers 0 0 ≡ before_of (layout_of F s) r
 unfolding seen
 before-plain F s r f p e = rw (front-layout F s f p e) (none r)
   where
-    none : (r : RangeNode) → before_numbers 0 0 ≡ before_of (checked_of (Messages 0) []) r
-    none (Node b) = refl
-    none NoNode = refl
+    none : (r : Option ℕ) → before_numbers 0 0 ≡ before_of (checked_of (Messages 0) []) r
+    none (Some b) = refl
+    none None = refl
 
 -- by its layout, as a pass told it
-module _ (F : Format) (old s : List ℕ) (r : RangeNode) {l : Layout} {es : List ℕ} (e : checked_of l es ≡ check_spec F old s) where
+module _ (F : Format) (old s : List ℕ) (r : Option ℕ) {l : Layout} {es : List ℕ} (e : checked_of l es ≡ check_spec F old s) where
   told : {m : Layout} → l ≡ m → m ≡ (layout_of F s).layout
   told q = sym q ∙ layout-told F old s e
 
@@ -237,11 +236,11 @@ module _ (F : Format) (to len a : ℕ) (o : Options) where
   handshake-first h e = e ∙ rw (eq-eqb len min_size h)
 
 -- whether a node came before
-pub seen-node : (es : List ℕ) {r : RangeNode} {b : ℕ} → r ≡ Node b → {t : Bool} → t ≡ seen b es → {x : Bool} → t ≡ x → pick {A = ℕ} x 2 0 ≡ seen_fault es r
+pub seen-node : (es : List ℕ) {r : Option ℕ} {b : ℕ} → r ≡ Some b → {t : Bool} → t ≡ seen b es → {x : Bool} → t ≡ x → pick {A = ℕ} x 2 0 ≡ seen_fault es r
 seen-node es e p q = rw (e, ← p, q)
 
 -- the node of any other message than INTEGRITY
-pub no_node_of : (m : Message) → ((f l d : ℕ) → m ≡ Integrity f l d → ⊥) → NoNode ≡ node_of m
+pub no_node_of : (m : Message) → ((f l d : ℕ) → m ≡ Integrity f l d → ⊥) → None ≡ node_of m
 no_node_of (Handshake a o) h = refl
 no_node_of (Data f l x b n) h = refl
 no_node_of (Ack f l d) h = refl
@@ -254,7 +253,7 @@ no_node_of Unchoke h = refl
 no_node_of (Empty k) h = refl
 
 -- what the datagram so far says to the message
-pub told_of : (F : Format) (s : List ℕ) (m : Message) {x : Before} {r : RangeNode} → x ≡ before_of (layout_of F s) r → r ≡ node_of m → x ≡ before_of (layout_of F s) (node_of m)
+pub told_of : (F : Format) (s : List ℕ) (m : Message) {x : Before} {r : Option ℕ} → x ≡ before_of (layout_of F s) r → r ≡ node_of m → x ≡ before_of (layout_of F s) (node_of m)
 told_of F s m e p = e ∙ ap (before_of (layout_of F s)) p
 
 -- ---- whether the table allows chunks, as the code tests it

@@ -1,9 +1,7 @@
 -- Nothing of the papers: a message's size, and what adding computes on its way. Assumes nothing.
-use Rattle.std.specs.Prelude.{ℕ, ◌+◌, ◌≤◌, ◌≡◌, List, Bool, true, false, not, ltb, eqb}
+use Rattle.std.specs.Prelude.{ℕ, ◌+◌, ◌≤◌, ◌≡◌, List, Bool, true, false, not, ltb, eqb, Option, Some, None}
 use Rattle.base.specs.Pick.{pick, earlier}
 use Rattle.tree.proofs.Promise.{covers}
-use Rattle.tree.specs.declared.bin.RangeNode.{RangeNode}
-use Rattle.tree.specs.declared.bin.RangeNode.TheVariants.{Node, NoNode}
 use Rattle.wire.specs.Limits.{min_size, max_size}
 use Rattle.format.specs.declared.Format.{Format}
 use Rattle.wire.specs.Place.{named_size, timed_size, integrity_size}
@@ -62,22 +60,22 @@ allowed F Unchoke = true
 allowed F (Empty k) = true
 
 -- The number that the node of an INTEGRITY has, if its chunks are one's; no other message has one.
-abbrev pub node_of : Message → RangeNode
-node_of (Handshake a o) = NoNode
-node_of (Data f l x b n) = NoNode
-node_of (Ack f l d) = NoNode
-node_of (Have f l) = NoNode
-node_of (Integrity f l h) = Node (f + l)
-node_of (Request f l) = NoNode
-node_of (Cancel f l) = NoNode
-node_of Choke = NoNode
-node_of Unchoke = NoNode
-node_of (Empty k) = NoNode
+abbrev pub node_of : Message → Option ℕ
+node_of (Handshake a o) = None
+node_of (Data f l x b n) = None
+node_of (Ack f l d) = None
+node_of (Have f l) = None
+node_of (Integrity f l h) = Some (f + l)
+node_of (Request f l) = None
+node_of (Cancel f l) = None
+node_of Choke = None
+node_of Unchoke = None
+node_of (Empty k) = None
 
 -- 2 for a node that is among the entries.
-abbrev pub seen_fault : List ℕ → RangeNode → ℕ
-seen_fault es (Node b) = pick (seen b es) 2 0
-seen_fault es NoNode = 0
+abbrev pub seen_fault : List ℕ → Option ℕ → ℕ
+seen_fault es (Some b) = pick (seen b es) 2 0
+seen_fault es None = 0
 
 -- The number for a message by itself, behind len bytes of a datagram without HANDSHAKE or DATA, with its destination: 2 where
 -- the table does not allow it.
@@ -98,7 +96,7 @@ abbrev pub fault_behind : Format → List ℕ → (to len : ℕ) → Message →
 fault_behind F es to len m = earlier (seen_fault es (node_of m)) (own_fault F to len m)
 
 -- The number for a message behind a datagram of this layout and these entries, by what stands before it.
-abbrev pub behind_of : Layout → List ℕ → RangeNode → ℕ
+abbrev pub behind_of : Layout → List ℕ → Option ℕ → ℕ
 behind_of (Fault n) es r = 0
 behind_of (HandshakeAlone a o) es r = 3
 behind_of (Messages k) es r = seen_fault es r
@@ -108,7 +106,7 @@ behind_of (MessagesAndData c x b n k) es r = 2
 abbrev pub before_numbers : (fault behind : ℕ) → Before
 before_numbers fault behind = record { fault = fault; behind = behind }
 
-abbrev pub before_of : Checked → RangeNode → Before
+abbrev pub before_of : Checked → Option ℕ → Before
 before_of c r = before_numbers (number_of c.layout) (behind_of c.layout c.entries r)
 
 -- What an accepted message has: it fits the room, its bytes lie in the source, and the table allows it.

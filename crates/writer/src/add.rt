@@ -13,7 +13,6 @@ ghost use Rattle.writer.specs.Steps.{seen_fault, before_of, Addable};
 
 use crate::{place, put, size};
 use format::Format;
-use tree::bin::RangeNode;
 use wire::layout::Layout;
 use wire::limits::{ENTRIES, MAX_SIZE, MIN_SIZE};
 use wire::message::Message;
@@ -21,7 +20,7 @@ use wire::pass::Front;
 use wire::{bytes, layout, pass, range};
 
 // The number that the node of an INTEGRITY has, if its range is one's.
-fn node_of(message: Message) -> RangeNode
+fn node_of(message: Message) -> Option<u64>
     ensures { result ≡ node_of message }
 {
     match message {
@@ -29,8 +28,8 @@ fn node_of(message: Message) -> RangeNode
             first,
             last,
             hash: _,
-        } => RangeNode::Node(first as u64 + last as u64),
-        _ => RangeNode::NoNode,
+        } => Some(first as u64 + last as u64),
+        _ => None,
     }
 }
 
@@ -135,17 +134,17 @@ struct Before {
 }
 
 // 2 for a node that is among the entries.
-fn seen_fault(entries: &[u64], node: RangeNode) -> u32
+fn seen_fault(entries: &[u64], node: Option<u64>) -> u32
     ensures { result ≡ seen_fault entries.now node }
 {
     match node {
-        RangeNode::Node(b) => { if layout::seen(entries, b) { 2 } else { 0 } }
-        RangeNode::NoNode => 0,
+        Some(b) => { if layout::seen(entries, b) { 2 } else { 0 } }
+        None => 0,
     }
 }
 
 // The same of a datagram that has others than plain messages: its scratch is made here alone.
-fn before_others(format: Format, prefix: &[u8], front: Front, node: RangeNode) -> Before
+fn before_others(format: Format, prefix: &[u8], front: Front, node: Option<u64>) -> Before
     requires { Fronted format prefix.now front }
     ensures { result ≡ before_of (layout_of format prefix.now) node }
 {
@@ -181,7 +180,7 @@ fn before_others(format: Format, prefix: &[u8], front: Front, node: RangeNode) -
     }
 }
 
-fn before_message(format: Format, prefix: &[u8], node: RangeNode) -> Before
+fn before_message(format: Format, prefix: &[u8], node: Option<u64>) -> Before
     ensures { result ≡ before_of (layout_of format prefix.now) node }
 {
     if !pass::has_size(prefix) {

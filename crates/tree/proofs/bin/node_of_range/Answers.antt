@@ -9,5 +9,5 @@ pow2-requires c = exponent_lt c.height.result 64 (omega arith)
 pub returns-then-f-pow2 : goal.returns-then-f-pow2
 returns-then-f-pow2 c = sym (range-some _ _ _ _ c.height.ensures.0 c.pow2.ensures.0 (omega arith))
 
-pub returns : goal.returns
-returns c = sym (range_none _ _ _ _ c.height.ensures.0 c.pow2.ensures.0 (λ e. omega arith))
+pub returns-else-f-pow2 : goal.returns-else-f-pow2
+returns-else-f-pow2 c = sym (range_none _ _ _ _ c.height.ensures.0 c.pow2.ensures.0 (λ e. omega arith))

@@ -1,9 +1,8 @@
-use mathlib.Core.Path.{sym}
-use Rattle.wire.proofs.PlaceLaws.{node-covers, no-node-covers}
+use Rattle.std.proofs.Common.{◌≡◌}
+use mathlib.Core.Path.{◌∙◌, ap}
+use Rattle.std.specs.Prelude.{is_some}
+use Rattle.wire.proofs.PlaceLaws.{node-found}
 use Rattle.wire.proofs.range.is_node.Goals as goal
 
-pub returns-in-Node : goal.returns-in-Node
-returns-in-Node c = sym (node-covers _ _ c.node_of_range.ensures c.in-Node.is)
-
-pub returns-in-NoNode : goal.returns-in-NoNode
-returns-in-NoNode c = sym (no-node-covers _ _ c.node_of_range.ensures c.in-NoNode.is)
+pub returns : goal.returns
+returns c = c.is_some.ensures ∙ ap is_some c.node_of_range.ensures ∙ node-found c.args.first c.args.last
