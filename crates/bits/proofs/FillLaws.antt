@@ -1,15 +1,22 @@
 -- A run of words filled with one value; filled with 0 they are clear. Assumes nothing.
 use Prim.Native.Nat.{ℕ, zero, suc, ◌+◌, ◌-◌, ◌*◌, ◌/◌, ◌≤◌, ◌<◌, min}
 use native.Mathlib.Omega.{arith}
+use native.Mathlib.Numerals.{add-one}
 use native.Mathlib.Decide.{dec_lt, ℕ_discrete}
 use mathlib.Core.Path.{◌≡◌, refl, sym, ap, ◌∙◌}
 use mathlib.Core.Bool.{false}
-use mathlib.Core.List.{List}
-use lib.ListN.{length, get_or, set, length-set, get_or-eq_default}
+use mathlib.Core.List.{List, []}
+use lib.ListN.{length, get_or, set, length-set, get_or-eq_default, replicate, take, drop}
 use lib.Seq.{get_or-set_same, get_or-set_other, set_out}
 use Rattle.bits.specs.Bits.{bit_at, run}
 use Rattle.bits.proofs.WordLaws.{bit_of_zero}
-use Rattle.bits.proofs.RunLaws.{run_join}
+use Rattle.bits.proofs.RunLaws.{run_join, run_none}
+use Rattle.std.proofs.lemmas.Slice.{put_mid-paste}
+use Rattle.std.proofs.lemmas.List.Edits.{fill_from_more, paste_none}
+use Rattle.std.proofs.Common.{length-take-le, length-drop}
+use Rattle.std.proofs.lemmas.List.{length-replicate}
+use borrow.Rule.Slice.PartMut.{put_mid}
+use lib.Seq.{paste}
 
 -- The change of one word to v.
 abbrev pub fill_at : ℕ → List ℕ → ℕ → List ℕ
@@ -35,13 +42,30 @@ module _ (v : ℕ) where
   fill-past zero a ws h = refl
   fill-past (suc n) a ws h = rw (← fill-past n a ws h) (sym (set_out ws (a + n) v (omega arith)))
 
-  -- The loop that fills from a up to b ended there or at the end of the row, or had no turn.
-  pub fill_end : (a b w : ℕ) (ws : List ℕ) {us : List ℕ} → a ≤ w → w - a ≤ b - a → min b (length us) ≤ w
-      → us ≡ run (fill_at v) (w - a) a ws → us ≡ run (fill_at v) (b - a) a ws
-  fill_end a b w ws {us} h l m e = elim (dec_lt w b) [
-    | yes k ↦ run_join (fill_at v) a w ws b h (omega arith) e (fill-past (b - w) w us (omega arith))
-    | no k ↦ let z : b - a ≡ w - a = omega arith in rw z e
+  -- The fill from a up to b, as far as the row goes.
+  pub filled : (n a : ℕ) (ws : List ℕ) → a + n ≤ length ws → paste ws a (replicate n v) n ≡ run (fill_at v) n a ws
+  unfolding run
+  filled zero a ws h = sym (paste_none ws a [])
+  filled (suc n) a ws h =
+      rw (← filled n a ws (omega arith)) (ap (λ (k : ℕ). paste ws a (replicate k v) k) (sym (add-one n)) ∙ sym (fill_from_more ws a n v (omega arith)))
+
+  pub filled_none : (a b : ℕ) (ws : List ℕ) → min b (length ws) ≤ a → ws ≡ run (fill_at v) (b - a) a ws
+  filled_none a b ws h = elim (dec_lt a b) [
+    | yes l ↦ fill-past (b - a) a ws (omega arith)
+    | no l ↦ run_none (fill_at v) a b ws (omega arith)
   ]
+
+  -- What a fill of the slice from a to `end` leaves.
+  pub filled_mid : (a b : ℕ) (ws : List ℕ) {end x : ℕ} {ys : List ℕ} → end ≡ min b (length ws) → a < end → x ≡ v
+      → ys ≡ replicate (length (take (end - a) (drop a ws))) x → put_mid a (end - a) ws ys ≡ run (fill_at v) (b - a) a ws
+  filled_mid a b ws {end} {x} {ys} e l f k =
+      let m : length (take (end - a) (drop a ws)) ≡ end - a = length-take-le _ _ (omega (arith, length-drop a ws)) in
+      put_mid-paste a (end - a) ws ys (replicate (end - a) v) (end - a) (rw (f, m) at k) refl (sym (length-replicate (end - a) v))
+      ∙ filled (end - a) a ws (omega arith)
+      ∙ elim (dec_lt end b) [
+        | yes n ↦ run_join (fill_at v) a end ws b (omega arith) (omega arith) refl (fill-past (b - end) end _ (omega (arith, length-fill (end - a) a ws)))
+        | no n ↦ let z : b - a ≡ end - a = omega arith in rw z
+      ]
 
 -- ---- cleared
 

@@ -6,12 +6,13 @@ use native.Mathlib.Omega.{arith}
 use native.Mathlib.Decide.{dec_lt}
 use mathlib.Core.Path.{◌≡◌, refl, sym, ap, ◌∙◌}
 use mathlib.Core.Logic.{◌≢◌}
+use mathlib.Core.Bool.{Bool, true, false}
 use mathlib.Core.List.{List}
 use lib.ListN.{length, get_or, set}
 use lib.Seq.{get_or-set_same, set_out, set-set}
-use lib.Bits.{bit_and, bit_or, and_zero_r, or_add_and, and_mask}
-use Rattle.bits.specs.Bits.{set_bit, clear_bit, run, set_range, clear_range, clear_words}
-use Rattle.bits.specs.Steps.{mask, with_bits, without_bits}
+use lib.Bits.{and_zero_r, or_add_and, and_mask}
+use Rattle.bits.specs.Bits.{set_bit, clear_bit, run, clear_words}
+use Rattle.bits.specs.Steps.{mask, with_bits, without_bits, change_word, change_bit, change_range}
 use Rattle.bits.proofs.RunLaws.{run-append, run_join}
 use Rattle.bits.proofs.FillLaws.{fill_at, fill-out}
 use Rattle.bits.proofs.MaskLaws.{with_bits-one, with_bits-more, without_bits-one, without_bits-more}
@@ -22,19 +23,28 @@ pub record Masked (f : List ℕ → ℕ → List ℕ) (g : ℕ → ℕ → ℕ �
   pub one : (ws : List ℕ) (i : ℕ) → f ws i ≡ set ws (i / 32) (g (get_or ws (i / 32) 0) (i % 32) (suc (i % 32)))
   pub more : (x a b : ℕ) → a ≤ b → b < 32 → g (g x a b) b (suc b) ≡ g x a (suc b)
 
-pub setting_bits : Masked set_bit with_bits
+setting_bits : Masked set_bit with_bits
 unfolding set_bit
 setting_bits = record {
   one = λ ws i. rw with_bits-one;
   more = λ x a b h l. with_bits-one _ b ∙ with_bits-more x a b h;
 }
 
-pub clearing_bits : Masked clear_bit without_bits
+clearing_bits : Masked clear_bit without_bits
 unfolding clear_bit
 clearing_bits = record {
   one = λ ws i. rw without_bits-one;
   more = λ x a b h l. without_bits-one _ b ∙ without_bits-more x a b h l;
 }
+
+-- The bits from bit a up to b of a word changed at once.
+abbrev change_bits : Bool → ℕ → ℕ → ℕ → ℕ
+change_bits v x a b = change_word v x (mask a b)
+
+changing : (v : Bool) → Masked (change_bit v) (change_bits v)
+unfolding with_bits without_bits
+changing true = setting_bits
+changing false = clearing_bits
 
 module _ (f : List ℕ → ℕ → List ℕ) (g : ℕ → ℕ → ℕ → ℕ) (c : Masked f g) where
   -- Bit a of word w.
@@ -102,33 +112,39 @@ range_is f a b ws h d e g k =
     (run_join f a (32 * (a / 32 + 1)) ws (32 * ((b - 1) / 32)) (omega arith) (omega arith) e g)
     k
 
-module _ (ws : List ℕ) (a b : ℕ) {m : ℕ} (h : a < b) (l : b ≤ 32 * (a / 32 + 1))
-    (e : m ≡ mask (a % 32) (b - 32 * (a / 32))) where
-  pub set-part-is : set ws (a / 32) (bit_or (get_or ws (a / 32) 0) m) ≡ set_range ws a b
-  unfolding with_bits set_range
-  set-part-is = rw e (part_is _ _ setting_bits ws a b h l)
+module _ (v : Bool) (ws : List ℕ) (a b : ℕ) (h : a < b) (l : b ≤ 32 * (a / 32 + 1)) where
+  pub change-part-is : {m x : ℕ} → m ≡ mask (a % 32) (b - 32 * (a / 32)) → x ≡ change_word v (get_or ws (a / 32) 0) m
+      → set ws (a / 32) x ≡ change_range v ws a b
+  unfolding change_range
+  change-part-is e k = rw (k, e) (part_is _ _ (changing v) ws a b h l)
 
-  pub clear-part-is : set ws (a / 32) (bit_and (get_or ws (a / 32) 0) (2 ^ 32 - 1 - m)) ≡ clear_range ws a b
-  unfolding without_bits clear_range
-  clear-part-is = rw e (part_is _ _ clearing_bits ws a b h l)
+  pub change-part-past : length ws ≤ a / 32 → ws ≡ change_range v ws a b
+  unfolding change_range
+  change-part-past = part-past _ _ (changing v) ws a b h l
 
-full_set : (x : ℕ) → x < 2 ^ 32 → with_bits x 0 32 ≡ 2 ^ 32 - 1
-unfolding with_bits mask
-full_set x h = omega (arith, or_add_and x (2 ^ 32 - 1), and_mask x 32)
+-- A word all of whose bits are changed.
+abbrev pub whole : Bool → ℕ
+whole v = change_word v 0 (2 ^ 32 - 1)
+
+changed_whole : (v : Bool) (x : ℕ) → x < 2 ^ 32 → change_bits v x 0 32 ≡ whole v
+unfolding mask
+changed_whole true x h = omega (arith, or_add_and x (2 ^ 32 - 1), and_mask x 32, or_add_and 0 (2 ^ 32 - 1), and_mask 0 32)
+changed_whole false x h = and_zero_r x ∙ sym (and_zero_r 0)
 
 full_clear : (x : ℕ) → without_bits x 0 32 ≡ 0
 unfolding without_bits mask
 full_clear = and_zero_r
 
 module _ (ws : List ℕ) (a b : ℕ) where
-  pub set-words-are : ((i : ℕ) → get_or ws i 0 < 2 ^ 32)
-      → run (fill_at (2 ^ 32 - 1)) (b - a) a ws ≡ set_range ws (32 * a) (32 * b)
-  unfolding set_range
-  set-words-are h =
-      words_are _ _ setting_bits (2 ^ 32 - 1) a ws
-      (λ n. full_set _ (rw (fill-out _ n a ws (a + n) (λ p q. omega arith)) (h (a + n))))
+  -- Words filled with `whole` are changed bit by bit.
+  pub change-words-are : (v : Bool) → ((i : ℕ) → get_or ws i 0 < 2 ^ 32)
+      → run (fill_at (whole v)) (b - a) a ws ≡ change_range v ws (32 * a) (32 * b)
+  unfolding change_range
+  change-words-are v h =
+      words_are _ _ (changing v) (whole v) a ws
+      (λ n. changed_whole v _ (rw (fill-out _ n a ws (a + n) (λ p q. omega arith)) (h (a + n))))
       b
 
-  pub clear-words-are : clear_words ws a b ≡ clear_range ws (32 * a) (32 * b)
-  unfolding clear_words clear_range
-  clear-words-are = words_are _ _ clearing_bits 0 a ws (λ n. full_clear _) b
+  pub clear-words-are : change_range false ws (32 * a) (32 * b) ≡ clear_words ws a b
+  unfolding change_range clear_words
+  clear-words-are = sym (words_are _ _ clearing_bits 0 a ws (λ n. full_clear _) b)

@@ -2,15 +2,16 @@
 use Prim.Native.Nat.{ℕ, ◌-◌, ◌*◌, ◌/◌, ◌%◌, ◌^◌, ◌≤◌, ◌<◌}
 use native.Mathlib.Omega.{arith}
 use native.Mathlib.Decide.{dec_lt, ℕ_discrete}
-use mathlib.Core.Path.{◌≡◌, refl, ap}
+use mathlib.Core.Path.{◌≡◌, refl, sym, ap}
 use mathlib.Core.Logic.{◌≢◌}
 use mathlib.Core.List.{List}
-use mathlib.Core.Bool.{true, false}
+use mathlib.Core.Bool.{Bool, true, false}
 use lib.ListN.{length, get_or, set, length-set, get_or-eq_default}
 use lib.Seq.{get_or-set_same, get_or-set_other, set_out}
 use lib.Dec.{eqb}
 use lib.Bits.{bit_and, bit_or, and_mask}
 use Rattle.bits.specs.Bits.{bit, bit_at, with_bit, without_bit, set_bit, clear_bit}
+use Rattle.bits.specs.Steps.{change_word, change_bit}
 use Rattle.bits.proofs.WordLaws.{shl_one, bit_of_zero, with_bit-same, with_bit-other, without_bit-same, without_bit-other}
 
 -- ---- what the code computes where the row has the word
@@ -19,13 +20,18 @@ pub test_is : (ws : List ℕ) (i : ℕ) → eqb (bit_and (get_or ws (i / 32) 0 /
 unfolding bit_at bit
 test_is ws i = rw (and_mask (get_or ws (i / 32) 0 / 2 ^ (i % 32)) 1)
 
-pub set_is : (ws : List ℕ) (i : ℕ) → set ws (i / 32) (bit_or (get_or ws (i / 32) 0) (1 * 2 ^ (i % 32) % 2 ^ 32)) ≡ set_bit ws i
+set_is : (ws : List ℕ) (i : ℕ) → set ws (i / 32) (bit_or (get_or ws (i / 32) 0) (1 * 2 ^ (i % 32) % 2 ^ 32)) ≡ set_bit ws i
 unfolding set_bit with_bit
 set_is ws i = rw (shl_one 32 (i % 32) (omega arith))
 
-pub clear_is : (ws : List ℕ) (i : ℕ) → set ws (i / 32) (bit_and (get_or ws (i / 32) 0) (2 ^ 32 - 1 - 1 * 2 ^ (i % 32) % 2 ^ 32)) ≡ clear_bit ws i
+clear_is : (ws : List ℕ) (i : ℕ) → set ws (i / 32) (bit_and (get_or ws (i / 32) 0) (2 ^ 32 - 1 - 1 * 2 ^ (i % 32) % 2 ^ 32)) ≡ clear_bit ws i
 unfolding clear_bit without_bit
 clear_is ws i = rw (shl_one 32 (i % 32) (omega arith))
+
+pub change_is : (v : Bool) (ws : List ℕ) (i : ℕ) {x : ℕ} → x ≡ change_word v (get_or ws (i / 32) 0) (1 * 2 ^ (i % 32) % 2 ^ 32)
+    → set ws (i / 32) x ≡ change_bit v ws i
+change_is true ws i e = rw e (set_is ws i)
+change_is false ws i e = rw e (clear_is ws i)
 
 -- ---- past the row
 
@@ -42,6 +48,10 @@ set_bit-past ws i h = set_out ws (i / 32) _ (omega arith)
 pub clear_bit-past : (ws : List ℕ) (i : ℕ) → length ws * 32 ≤ i → clear_bit ws i ≡ ws
 unfolding clear_bit
 clear_bit-past ws i h = set_out ws (i / 32) _ (omega arith)
+
+pub change-past : (v : Bool) (ws : List ℕ) (i : ℕ) → length ws * 32 ≤ i → ws ≡ change_bit v ws i
+change-past true ws i h = sym (set_bit-past ws i h)
+change-past false ws i h = sym (clear_bit-past ws i h)
 
 -- ---- a bit that is changed, and the others
 

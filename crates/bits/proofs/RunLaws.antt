@@ -65,11 +65,3 @@ module _ (f : List ℕ → ℕ → List ℕ) (a b : ℕ) (ws : List ℕ) where
       let more : c - a ≡ b - a + (c - b) = omega arith in
       let at : a + (b - a) ≡ b = omega arith in
       rw (more, ← run-append f (b - a) (c - b) a ws, at, ← e) g
-
-  -- From a up to b, then at b: a turn of a loop.
-  pub run-turn : {us : List ℕ} → a ≤ b → us ≡ run f (b - a) a ws → f us b ≡ run f (b + 1 - a) a ws
-  unfolding run
-  run-turn h e =
-      let more : b + 1 - a ≡ suc (b - a) = omega arith in
-      let at : a + (b - a) ≡ b = omega arith in
-      rw (more, at, ← e)

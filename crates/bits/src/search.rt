@@ -3,8 +3,6 @@ ghost use Rattle.std.specs.Prelude.{◌≡◌, ◌+◌, ◌-◌, ◌%◌, ◌^�
 ghost use Rattle.bits.specs.Bits.{held_from, held_below};
 ghost use Rattle.bits.specs.Steps.{in_all};
 
-use super::least;
-
 // The place behind the set bits from place i on, one after another, below place `upto` and in the word of place i.
 fn stop_in_word(ws: &[u32], i: usize, upto: usize) -> usize
     ensures { result ≡ i + min (held_from ws.now (upto - i) i) (32 - i % 32) }
@@ -13,7 +11,8 @@ fn stop_in_word(ws: &[u32], i: usize, upto: usize) -> usize
     if upto <= i || ws.len() <= w {
         return i;
     }
-    i + least(u32::trailing_zeros(!(ws[w] >> (i % 32))) as usize, upto - i)
+    let ones = (!(ws[w] >> (i % 32))).trailing_zeros() as usize;
+    i + ones.min(upto - i)
 }
 
 // Whether the eight words from word w on are all ones.
@@ -21,13 +20,11 @@ fn block_full(ws: &[u32], w: usize) -> bool
     requires { w + 8 ≤ length ws.now }
     ensures { result ≡ eqb (in_all ws.now w 8) (2 ^ 32 - 1) }
 {
-    let mut all: u32 = 0xffff_ffff;
-    let mut j: usize = 0;
-    while j < 8 {
-        all = all & ws[w + j];
-        j += 1;
+    let mut all = u32::MAX;
+    for j in 0..8 {
+        all &= ws[w + j];
     }
-    all == 0xffff_ffff
+    all == u32::MAX
 }
 
 // How many bits from place x on are set, one after another, below place `upto`.
@@ -38,12 +35,12 @@ pub fn run_from(ws: &[u32], x: usize, upto: usize) -> usize
     if stop % 32 != 0 {
         return stop - x;
     }
-    let end = least(upto / 32, ws.len());
+    let end = ws.len().min(upto / 32);
     let mut w = stop / 32;
     while w + 8 <= end && block_full(ws, w) {
         w += 8;
     }
-    while w < end && u32::trailing_zeros(!ws[w]) == 32 {
+    while w < end && (!ws[w]).trailing_zeros() == 32 {
         w += 1;
     }
     stop_in_word(ws, 32 * w, upto) - x
@@ -61,7 +58,7 @@ pub fn run_below(ws: &[u32], c: usize) -> usize
     if ws.len() <= w {
         return 0;
     }
-    let head = u32::leading_zeros(!(ws[w] << (31 - top % 32))) as usize;
+    let head = (!(ws[w] << (31 - top % 32))).leading_zeros() as usize;
     if head <= top % 32 {
         return head;
     }
@@ -69,7 +66,7 @@ pub fn run_below(ws: &[u32], c: usize) -> usize
         w -= 8;
     }
     while 0 < w {
-        let ones = u32::leading_zeros(!ws[w - 1]);
+        let ones = (!ws[w - 1]).leading_zeros();
         if ones != 32 {
             return c - 32 * w + ones as usize;
         }

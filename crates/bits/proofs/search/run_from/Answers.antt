@@ -39,6 +39,6 @@ overflow_mul-w c = omega (arith, held-from_le c.args.ws.now (c.args.upto - c.arg
 pub returns : goal.returns
 returns c = word-last c.args.ws.now c.args.x c.loop-w-2.w c.args.upto c.loop-w-2.invariant.0 c.loop-w-2.invariant.1 c.stop_in_word.ensures
     (elim c.loop-w-2-test.branch [
-      | then-loop-w-2-test+else-ws-w-eq32 w ↦ short-at-gap c.args.ws.now c.loop-w-2.w c.args.upto c.least-end.ensures (c.type_inv.ws c.loop-w-2.w).fits w.loop-w-2-test.true (ne_eqb _ _ w.if-ws-w-eq32.false)
-      | else-loop-w-2-test w ↦ short-at-end c.args.ws.now c.loop-w-2.w c.args.upto c.least-end.ensures w.loop-w-2-test.false
+      | then-loop-w-2-test+else-ws-w-eq32 w ↦ short-at-gap c.args.ws.now c.loop-w-2.w c.args.upto (omega arith) (c.type_inv.ws c.loop-w-2.w).fits w.loop-w-2-test.true (ne_eqb _ _ w.if-ws-w-eq32.false)
+      | else-loop-w-2-test w ↦ short-at-end c.args.ws.now c.loop-w-2.w c.args.upto (omega arith) w.loop-w-2-test.false
     ])

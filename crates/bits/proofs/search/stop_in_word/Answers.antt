@@ -20,8 +20,8 @@ offset_bounds-ws-w c = omega (arith, leb-false)
 pub bounds-ws-w : goal.bounds-ws-w
 bounds-ws-w c = omega (arith, leb-false)
 
-pub overflow_cast-ws : goal.overflow_cast-ws
-overflow_cast-ws c = record { fits = lt_of_le_of_lt (trailing_le 32 _) (omega arith) }
+pub overflow_cast-ones-2 : goal.overflow_cast-ones-2
+overflow_cast-ones-2 c = record { fits = lt_of_le_of_lt (trailing_le 32 _) (omega arith) }
 
 pub returns : goal.returns
 returns c = let known = (c.type_inv.ws (c.args.i / 32)).fits in
