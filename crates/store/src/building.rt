@@ -154,11 +154,11 @@ pub fn build(
 {
     let top = tree::pack::levels(n);
     let w = tree::bin::pow2(top);
-    let none = [0u64; 1];
     storing::copy_in(chunks, 0, content);
     mark_all(map, trusted, n, w);
     put_levels(hashes, trusted, content, n, top);
-    let root = peaks::root_of_peaks(false, hashes, &none, b"", n, top);
+    let held: &[u32] = hashes;
+    let root = peaks::root_of_peaks(&held, n, top);
     storing::trust(hashes, trusted, w - 1, root);
     root
 }

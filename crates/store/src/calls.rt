@@ -15,6 +15,7 @@ use hash::value;
 use hash::value::HashValue;
 use order::Order;
 use tree::verdict::Verdict;
+use verdict::integrity::Integrity;
 use verdict::{peaks, verdicts};
 
 // What building gives back: its answer and the root found; the filler where it was refused.
@@ -130,8 +131,7 @@ fn store_if_fits(
         top,
         c,
         chunk,
-        entries,
-        bytes,
+        Integrity { entries, bytes },
     );
     let answer = tree::verdict::number(v);
     let node = tree::verdict::named(v);

@@ -18,8 +18,9 @@ ghost use Rattle.store.specs.Storing.{mark, copied, stored, store_spec};
 
 use hash::value::HashValue;
 use tree::pack::CHUNK_SIZE;
+use verdict::integrity::Integrity;
+use verdict::room;
 use verdict::verdicts::SCRATCH;
-use verdict::{integrity, room};
 
 // The bytes of src into dst from a place on.
 pub fn copy_in(dst: &mut [u8], at: usize, src: &[u8])
@@ -54,7 +55,7 @@ fn put_peak(hashes: &mut [u32], trusted: &mut [u32], entries: &[u64], bytes: &[u
 {
     if tree::peaks::side(n, h) == 1 {
         let b = tree::peaks::peak(n, h);
-        let v = integrity::get(entries, bytes, b);
+        let v = Integrity { entries, bytes }.get(b);
         trust(hashes, trusted, b, v);
     }
 }
@@ -129,7 +130,7 @@ fn put_pair(
     let b = tree::peaks::node(c, h);
     trust(hashes, trusted, b, own);
     let s = tree::peaks::sibling(c, h);
-    let v = integrity::get(entries, bytes, s);
+    let v = Integrity { entries, bytes }.get(s);
     trust(hashes, trusted, s, v);
 }
 

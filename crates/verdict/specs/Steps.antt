@@ -1,5 +1,5 @@
 -- What the code computes on its way to a verdict, in the rooms' words; no paper has these. Assumes nothing.
-use Rattle.std.specs.Prelude.{ℕ, zero, suc, List, [], Bool, true, false, Some, None}
+use Rattle.std.specs.Prelude.{ℕ, zero, suc, List, [], Bool, true, Some, None}
 use Rattle.std.proofs.Math.Option.{Option, none, some, get_or}
 use Rattle.bits.proofs.Promise.{bit_at}
 use Rattle.hash.proofs.Promise.{sha256, same}
@@ -32,13 +32,9 @@ got_by o = got filler (came_from o)
 abbrev pub trusted_in : List ℕ → Node → Bool
 trusted_in trusted n = bit_at trusted (num n)
 
--- Node b's hash: of those that came, or of the room.
-abbrev pub source : Bool → List ℕ → Integrity → ℕ → List ℕ
-source true hashes o b = got_at o b
-source false hashes o b = hash_in hashes b
-
-abbrev pub source_by : Bool → List ℕ → Integrity → ℕ → ℕ → List ℕ
-source_by t hashes o h a = source t hashes o (bin h a)
+-- Hashes by a node's number, by height and first chunk.
+abbrev pub by_node : (ℕ → List ℕ) → ℕ → ℕ → List ℕ
+by_node held h a = held (bin h a)
 
 -- Whether a node counts as trusted, and the hash that then counts, once it is known whether the peaks are trusted.
 abbrev pub room_counts : Bool → ℕ → List ℕ → ℕ → ℕ → Bool

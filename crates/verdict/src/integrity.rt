@@ -1,53 +1,54 @@
 // The hashes that came with a chunk: pairs of a node's number and the place of its hash in a slice of bytes.
-ghost use Rattle.std.proofs.Math.Option.{get_or};
-ghost use Rattle.std.specs.Prelude.{◌≡◌, ◌+◌, leb};
-ghost use Rattle.hash.proofs.Promise.{bytes_of};
-ghost use Rattle.verdict.specs.Integrity.{integrity_of, find};
+ghost use Rattle.std.specs.Prelude.{◌≡◌, ◌+◌, ◌≤◌, length, drop, MatchOption};
+ghost use Rattle.std.proofs.Math.Option.{none, some};
+ghost use Rattle.hash.proofs.Promise.{bytes_of, words};
+ghost use Rattle.verdict.specs.Integrity.{integrity_in, find, hash_for};
 ghost use Rattle.verdict.specs.Steps.{came, got_at};
 
 use hash::value;
 use hash::value::HashValue;
 
-// The place of the first entry for node b, or the given number if there is none.
-fn place(entries: &[u64], b: u64, otherwise: u64) -> u64
-    ensures { result ≡ get_or (find entries.now b) otherwise }
+// A node's number and a place in turn, and the bytes.
+#[derive(Clone, Copy)]
+pub struct Integrity<'a> {
+    pub entries: &'a [u64],
+    pub bytes: &'a [u8],
+}
+
+// The place that the first entry for node b names.
+fn find(entries: &[u64], b: u64) -> Option<u64>
+    ensures { result ≡ find entries.now b }
 {
-    let mut rest = entries;
-    while 2 <= rest.len() {
-        if rest[0] == b {
-            return rest[1];
+    let (pairs, _) = entries.as_chunks::<2>();
+    pairs.iter().find(|pair| pair[0] == b).map(|pair| pair[1])
+}
+
+impl Integrity<'_> {
+    // The place of node b's hash, if it came.
+    fn place(self, b: u64) -> Option<usize>
+        ensures { MatchOption result (hash_for (integrity_in self.entry) b ≡ none)
+            (λ at. (at + 32 ≤ length self.entry.bytes.now)
+            × (hash_for (integrity_in self.entry) b ≡ some (bytes_of (words 8 (drop at self.entry.bytes.now))))) }
+    {
+        let last = self.bytes.len().checked_sub(32)?;
+        let at = find(self.entries, b)? as usize;
+        if at <= last { Some(at) } else { None }
+    }
+
+    // Whether node b's hash came.
+    pub(crate) fn has(self, b: u64) -> bool
+        ensures { result ≡ came (integrity_in self.entry) b }
+    {
+        self.place(b).is_some()
+    }
+
+    // Node b's hash, or the filler if it didn't come.
+    pub fn get(self, b: u64) -> HashValue
+        ensures { bytes_of result.words ≡ got_at (integrity_in self.entry) b }
+    {
+        match self.place(b) {
+            Some(at) => value::load(self.bytes, at),
+            None => value::zero(),
         }
-        rest = &rest[2..];
     }
-    otherwise
-}
-
-// Whether 32 bytes stand at a place of n.
-fn fits(at: u64, n: usize) -> bool
-    ensures { result ≡ leb (at + 32) n }
-{
-    if n < 32 {
-        return false;
-    }
-    at <= (n - 32) as u64
-}
-
-// Whether node b's hash came.
-pub(crate) fn has(entries: &[u64], bytes: &[u8], b: u64) -> bool
-    ensures { result ≡ came (integrity_of entries.now bytes.now) b }
-{
-    let n = bytes.len();
-    fits(place(entries, b, n as u64), n)
-}
-
-// Node b's hash, or the filler if it didn't come.
-pub fn get(entries: &[u64], bytes: &[u8], b: u64) -> HashValue
-    ensures { bytes_of result.words ≡ got_at (integrity_of entries.now bytes.now) b }
-{
-    let n = bytes.len();
-    let at = place(entries, b, n as u64);
-    if fits(at, n) {
-        return value::load(bytes, at as usize);
-    }
-    value::zero()
 }

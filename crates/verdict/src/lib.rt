@@ -4,4 +4,5 @@
 pub mod integrity;
 pub mod peaks;
 pub mod room;
+pub mod source;
 pub mod verdicts;

@@ -8,10 +8,9 @@ ghost use Rattle.tree.specs.Steps.{peak_bit, peak_at, folded};
 ghost use Rattle.tree.specs.Tree.{given};
 ghost use Rattle.tree.specs.Verdicts.{every};
 ghost use Rattle.verdict.specs.Room.{filler};
-ghost use Rattle.verdict.specs.Integrity.{integrity_of};
-ghost use Rattle.verdict.specs.Steps.{trusted_in, source, source_by};
+ghost use Rattle.verdict.specs.Steps.{trusted_in, by_node};
 
-use crate::{integrity, room};
+use crate::source::Source;
 use hash::value::HashValue;
 use hash::{node, value};
 
@@ -42,78 +41,42 @@ pub fn all_trusted(trusted: &[u32], n: u32, top: u32) -> bool
     true
 }
 
-// Node b's hash: of those that came, or of the room.
-fn hash_from(came: bool, hashes: &[u32], entries: &[u64], bytes: &[u8], b: u64) -> HashValue
-    ensures { bytes_of result.words
-        ≡ source came hashes.now (integrity_of entries.now bytes.now) b }
-{
-    if came {
-        return integrity::get(entries, bytes, b);
-    }
-    room::read(hashes, b)
-}
-
 // One step of combining the peaks of n, from height h to the next: fillers go by place.
-fn fold(
-    came: bool,
-    hashes: &[u32],
-    entries: &[u64],
-    bytes: &[u8],
-    n: u32,
-    h: u32,
-    acc: HashValue,
-) -> HashValue
+fn fold<S: Source>(source: &S, n: u32, h: u32, acc: HashValue) -> HashValue
     requires { h < 59 }
     ensures { bytes_of result.words
-        ≡ folded sha256 filler n
-        (source_by came hashes.now (integrity_of entries.now bytes.now)) h
-        (bytes_of acc.words) }
+        ≡ folded sha256 filler n (by_node (S.hash_at source.now)) h (bytes_of acc.words) }
 {
     if tree::peaks::side(n, h) == 1 {
-        let b = tree::peaks::peak(n, h);
-        let p = hash_from(came, hashes, entries, bytes, b);
+        let p = source.hash(tree::peaks::peak(n, h));
         return node::parent(p, acc);
     }
     if tree::peaks::above(n, h) == n as u64 {
         return acc;
     }
-    let z = value::zero();
-    node::parent(acc, z)
+    node::parent(acc, value::zero())
 }
 
 // The peaks of n combined with fillers, where n is no power of two.
-fn combine(came: bool, hashes: &[u32], entries: &[u64], bytes: &[u8], n: u32, top: u32) -> HashValue
+fn combine<S: Source>(source: &S, n: u32, top: u32) -> HashValue
     requires { (top ≤ 32) × (n < 2 ^ top) }
-    ensures { bytes_of result.words
-        ≡ given sha256 filler n
-        (source_by came hashes.now (integrity_of entries.now bytes.now)) top 0 }
+    ensures { bytes_of result.words ≡ given sha256 filler n (by_node (S.hash_at source.now)) top 0 }
 {
     let mut acc = value::zero();
-    let mut h = 0u32;
-    while h < top {
-        acc = fold(came, hashes, entries, bytes, n, h, acc);
-        h = h + 1;
+    for h in 0..top {
+        acc = fold(source, n, h, acc);
     }
     acc
 }
 
-// The root that the peaks of n give, those that came or those in the room; of a power of two it is the one peak.
-pub fn root_of_peaks(
-    came: bool,
-    hashes: &[u32],
-    entries: &[u64],
-    bytes: &[u8],
-    n: u32,
-    top: u32,
-) -> HashValue
+// The root that the peaks of n give; of a power of two it is the one peak.
+pub fn root_of_peaks<S: Source>(source: &S, n: u32, top: u32) -> HashValue
     requires { (top ≤ 32) × (n ≤ 2 ^ top) }
-    ensures { bytes_of result.words
-        ≡ given sha256 filler n
-        (source_by came hashes.now (integrity_of entries.now bytes.now)) top 0 }
+    ensures { bytes_of result.words ≡ given sha256 filler n (by_node (S.hash_at source.now)) top 0 }
 {
     let w = tree::bin::pow2(top);
     if n as u64 == w {
-        return hash_from(came, hashes, entries, bytes, w - 1);
+        return source.hash(w - 1);
     }
-    combine(came, hashes, entries, bytes, n, top)
+    combine(source, n, top)
 }

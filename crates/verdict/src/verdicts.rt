@@ -9,11 +9,12 @@ ghost use Rattle.tree.specs.Steps.{peak_bit, peak_at, sibling_at};
 ghost use Rattle.tree.specs.Tree.{given, joined, climb};
 ghost use Rattle.tree.specs.Verdicts.{every, is_missing, first_of};
 ghost use Rattle.verdict.specs.Room.{filler};
-ghost use Rattle.verdict.specs.Integrity.{integrity_of, came_from};
+ghost use Rattle.verdict.specs.Integrity.{integrity_in, came_from};
 ghost use Rattle.verdict.specs.Steps.{trusted_in, got_by, room_counts, room_counted, named_node, kept};
 ghost use Rattle.verdict.specs.Steps.{judged_of, weighed, judge_spec};
 
-use crate::{integrity, peaks, room};
+use crate::integrity::Integrity;
+use crate::{peaks, room};
 use hash::value::HashValue;
 use hash::{message, node, value};
 use tree::verdict::Verdict;
@@ -23,22 +24,22 @@ use tree::verdict::Verdict;
 pub const SCRATCH: usize = 72;
 
 // Whether the sibling of the node of height h above chunk c is needed, h being below t, and did not come.
-fn sibling_missing(entries: &[u64], bytes: &[u8], c: u32, t: u32, h: u32) -> bool
+fn sibling_missing(integrity: Integrity, c: u32, t: u32, h: u32) -> bool
     requires { h < 59 }
     ensures { result ≡ pick (ltb h t)
-        (is_missing (came_from (integrity_of entries.now bytes.now)) (sibling_at c h)) false }
+        (is_missing (came_from (integrity_in integrity.entry)) (sibling_at c h)) false }
 {
     if h < t {
-        return !integrity::has(entries, bytes, tree::peaks::sibling(c, h));
+        return !integrity.has(tree::peaks::sibling(c, h));
     }
     false
 }
 
 // Whether n has a peak of height h that is needed, the peaks not being trusted, and did not come.
-fn peak_missing(entries: &[u64], bytes: &[u8], opened: bool, n: u32, h: u32) -> bool
+fn peak_missing(integrity: Integrity, opened: bool, n: u32, h: u32) -> bool
     requires { h < 59 }
     ensures { result ≡ pick opened false (pick (peak_bit n h)
-        (is_missing (came_from (integrity_of entries.now bytes.now)) (peak_at n h)) false) }
+        (is_missing (came_from (integrity_in integrity.entry)) (peak_at n h)) false) }
 {
     if opened {
         return false;
@@ -46,31 +47,23 @@ fn peak_missing(entries: &[u64], bytes: &[u8], opened: bool, n: u32, h: u32) -> 
     if tree::peaks::side(n, h) != 1 {
         return false;
     }
-    !integrity::has(entries, bytes, tree::peaks::peak(n, h))
+    !integrity.has(tree::peaks::peak(n, h))
 }
 
 // The first node in the sending order that chunk c of n needs and that did not come.
-fn first_missing(
-    entries: &[u64],
-    bytes: &[u8],
-    opened: bool,
-    n: u32,
-    c: u32,
-    top: u32,
-    t: u32,
-) -> Option<u64>
+fn first_missing(integrity: Integrity, opened: bool, n: u32, c: u32, top: u32, t: u32) -> Option<u64>
     requires { (top ≡ levels n) × (top ≤ 32) × (above t c + 2 ^ t ≤ n) }
     ensures { result ≡ named_node (first_of
-        (is_missing (came_from (integrity_of entries.now bytes.now)))
+        (is_missing (came_from (integrity_in integrity.entry)))
         (sort (pick opened [] (peaks n) ++ siblings c t))) }
 {
     let mut h = top + 1;
     while 0 < h {
         h = h - 1;
-        if sibling_missing(entries, bytes, c, t, h) {
+        if sibling_missing(integrity, c, t, h) {
             return Some(tree::peaks::sibling(c, h));
         }
-        if peak_missing(entries, bytes, opened, n, h) {
+        if peak_missing(integrity, opened, n, h) {
             return Some(tree::peaks::peak(n, h));
         }
     }
@@ -111,14 +104,14 @@ fn reach(trusted: &[u32], opened: bool, n: u32, c: u32, top: u32) -> u32
 }
 
 // One step of the climb from chunk c, from height h to the next: left then right.
-fn step(entries: &[u64], bytes: &[u8], c: u32, h: u32, acc: HashValue) -> HashValue
+fn step(integrity: Integrity, c: u32, h: u32, acc: HashValue) -> HashValue
     requires { h < 59 }
     ensures { bytes_of result.words
         ≡ joined sha256 c h (bytes_of acc.words)
-        (got_by (integrity_of entries.now bytes.now) h (sibling_from h c)) }
+        (got_by (integrity_in integrity.entry) h (sibling_from h c)) }
 {
     let b = tree::peaks::sibling(c, h);
-    let s = integrity::get(entries, bytes, b);
+    let s = integrity.get(b);
     if tree::peaks::side(c, h) == 0 {
         return node::parent(acc, s);
     }
@@ -128,42 +121,33 @@ fn step(entries: &[u64], bytes: &[u8], c: u32, h: u32, acc: HashValue) -> HashVa
 // The climb from chunk c, whose leaf has the hash v, to the node of height t above; the scratch keeps those below.
 fn climb(
     scratch: &mut [u32; SCRATCH],
-    entries: &[u64],
-    bytes: &[u8],
+    integrity: Integrity,
     c: u32,
     v: HashValue,
     t: u32,
 ) -> HashValue
     requires { t ≤ 33 }
     ensures { (bytes_of result.words
-        ≡ climb sha256 (got_by (integrity_of entries.now bytes.now)) (bytes_of v.words) c t)
+        ≡ climb sha256 (got_by (integrity_in integrity.entry)) (bytes_of v.words) c t)
         × (scratch.new
-        ≡ kept scratch.old (got_by (integrity_of entries.now bytes.now))
+        ≡ kept scratch.old (got_by (integrity_in integrity.entry))
         (bytes_of v.words) c t) }
 {
     let mut acc = v;
     let mut h = 0u32;
     while h < t {
         room::write(scratch, h as u64, acc);
-        acc = step(entries, bytes, c, h, acc);
+        acc = step(integrity, c, h, acc);
         h = h + 1;
     }
     acc
 }
 
 // The hash that counts for the node of height t above chunk c: a peak's came where the peaks aren't trusted yet.
-fn target(
-    hashes: &[u32],
-    entries: &[u64],
-    bytes: &[u8],
-    opened: bool,
-    n: u32,
-    c: u32,
-    t: u32,
-) -> HashValue
+fn target(hashes: &[u32], integrity: Integrity, opened: bool, n: u32, c: u32, t: u32) -> HashValue
     requires { t ≤ 33 }
     ensures { bytes_of result.words
-        ≡ room_counted opened n hashes.now (integrity_of entries.now bytes.now) t
+        ≡ room_counted opened n hashes.now (integrity_in integrity.entry) t
         (above t c) }
 {
     let b = tree::peaks::node(c, t);
@@ -171,30 +155,22 @@ fn target(
         return room::read(hashes, b);
     }
     if tree::peaks::is_peak(n, c, t) {
-        return integrity::get(entries, bytes, b);
+        return integrity.get(b);
     }
     room::read(hashes, b)
 }
 
 // Whether the peaks are trusted, or give the root.
-fn rooted(
-    entries: &[u64],
-    bytes: &[u8],
-    hashes: &[u32],
-    opened: bool,
-    root: HashValue,
-    n: u32,
-    top: u32,
-) -> bool
+fn rooted(integrity: Integrity, opened: bool, root: HashValue, n: u32, top: u32) -> bool
     requires { (top ≤ 32) × (n ≤ 2 ^ top) }
     ensures { result ≡ pick opened true
-        (same (given sha256 filler n (got_by (integrity_of entries.now bytes.now)) top 0)
+        (same (given sha256 filler n (got_by (integrity_in integrity.entry)) top 0)
         (bytes_of root.words)) }
 {
     if opened {
         return true;
     }
-    let p = peaks::root_of_peaks(true, hashes, entries, bytes, n, top);
+    let p = peaks::root_of_peaks(&integrity, n, top);
     value::same(p, root)
 }
 
@@ -202,8 +178,7 @@ fn rooted(
 fn met(
     scratch: &mut [u32; SCRATCH],
     hashes: &[u32],
-    entries: &[u64],
-    bytes: &[u8],
+    integrity: Integrity,
     opened: bool,
     n: u32,
     c: u32,
@@ -212,15 +187,15 @@ fn met(
 ) -> bool
     requires { t ≤ 33 }
     ensures { (result ≡ same
-        (climb sha256 (got_by (integrity_of entries.now bytes.now)) (bytes_of leaf.words) c t)
-        (room_counted opened n hashes.now (integrity_of entries.now bytes.now) t
+        (climb sha256 (got_by (integrity_in integrity.entry)) (bytes_of leaf.words) c t)
+        (room_counted opened n hashes.now (integrity_in integrity.entry) t
         (above t c)))
         × (scratch.new
-        ≡ kept scratch.old (got_by (integrity_of entries.now bytes.now))
+        ≡ kept scratch.old (got_by (integrity_in integrity.entry))
         (bytes_of leaf.words) c t) }
 {
-    let x = climb(scratch, entries, bytes, c, leaf, t);
-    let y = target(hashes, entries, bytes, opened, n, c, t);
+    let x = climb(scratch, integrity, c, leaf, t);
+    let y = target(hashes, integrity, opened, n, c, t);
     value::same(x, y)
 }
 
@@ -236,19 +211,18 @@ fn weigh(
     top: u32,
     t: u32,
     chunk: &[u8],
-    entries: &[u64],
-    bytes: &[u8],
+    integrity: Integrity,
 ) -> Verdict
     requires { (top ≡ levels n) × (top ≤ 32) × (t ≤ 33) }
     ensures { judged_of result scratch.new
         ≡ weighed scratch.old n (bytes_of root.words) hashes.now opened c t
-        chunk.now (integrity_of entries.now bytes.now) }
+        chunk.now (integrity_in integrity.entry) }
 {
-    if !rooted(entries, bytes, hashes, opened, root, n, top) {
+    if !rooted(integrity, opened, root, n, top) {
         return Verdict::WrongPeaks(tree::pack::root_node(n));
     }
     let leaf = message::sha256(chunk);
-    if !met(scratch, hashes, entries, bytes, opened, n, c, t, leaf) {
+    if !met(scratch, hashes, integrity, opened, n, c, t, leaf) {
         return Verdict::WrongClimb(tree::peaks::node(c, t));
     }
     Verdict::Fits(t)
@@ -265,20 +239,19 @@ pub fn judge(
     top: u32,
     c: u32,
     chunk: &[u8],
-    entries: &[u64],
-    bytes: &[u8],
+    integrity: Integrity,
 ) -> Verdict
     requires { (c < n) × (top ≡ levels n) × (top ≤ 32) × (opened ≡ every (trusted_in trusted.now) (peaks n)) }
     ensures { judged_of result scratch.new
         ≡ judge_spec scratch.old n (bytes_of root.words) hashes.now trusted.now c
-        chunk.now (integrity_of entries.now bytes.now) }
+        chunk.now (integrity_in integrity.entry) }
 {
     let t = reach(trusted, opened, n, c, top);
-    let missing = first_missing(entries, bytes, opened, n, c, top, t);
+    let missing = first_missing(integrity, opened, n, c, top, t);
     match missing {
         Some(b) => Verdict::Missing(b),
         None => weigh(
-            scratch, hashes, opened, root, n, c, top, t, chunk, entries, bytes,
+            scratch, hashes, opened, root, n, c, top, t, chunk, integrity,
         ),
     }
 }

@@ -6,7 +6,7 @@ use native.Mathlib.Omega.{arith}
 use Rattle.hash.proofs.Promise.{sha256, bytes_of}
 use Rattle.tree.specs.Node.{sibling_from}
 use Rattle.tree.specs.Tree.{joined, climb}
-use Rattle.verdict.specs.Integrity.{integrity_of}
+use Rattle.verdict.specs.Integrity.{integrity_in}
 use Rattle.verdict.specs.Steps.{got_by}
 use Rattle.verdict.proofs.ClimbLaws.{kept-none, kept_more}
 use Rattle.tree.proofs.TreeLaws.{climb-suc}
@@ -20,7 +20,7 @@ pub overflow_add-h : goal.overflow_add-h
 overflow_add-h c = record { fits = omega arith }
 
 pub loop-h-preserved : goal.loop-h-preserved
-loop-h-preserved c = let o = integrity_of c.args.entries.now c.args.bytes.now in
+loop-h-preserved c = let o = integrity_in c.args.integrity in
     rw (add-one c.loop-h.h) (
       omega arith,
       c.step-acc.ensures
