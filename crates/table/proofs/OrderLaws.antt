@@ -3,13 +3,21 @@ use Prim.Native.Nat.{ℕ, zero, suc, ◌+◌, ◌*◌, ◌<◌, ◌≤◌}
 use native.Mathlib.Nat.{zero-add}
 use native.Mathlib.Omega.{arith}
 use mathlib.Core.Path.{◌≡◌, refl, sym, ap, subst, ◌∙◌}
-use mathlib.Core.Logic.{◌≢◌}
 use mathlib.Core.Bool.{Bool, true, false, true≢false, ◌&&◌}
-use mathlib.Core.List.{List, [], ◌∷◌, ◌++◌}
+use mathlib.Core.List.{List, [], ◌∷◌, ◌++◌, map}
+use native.Mathlib.Decide.{ℕ_discrete}
+use denote.Param.Members.{Mut}
+use borrow.Rule.Slice.PartMut.{put_mid}
+use Rattle.std.specs.Fn.{Called}
+use Rattle.std.specs.List.{range_with_len}
+use Rattle.std.specs.Array.{IsFromFnResult, IsFromFnResultFrom}
+use Rattle.std.proofs.Common.{add-zero}
+use Rattle.std.proofs.lemmas.List.{append_assoc, drop-drop}
+use Rattle.std.proofs.lemmas.List.Edits.{sets-eq}
+use Rattle.std.proofs.lemmas.List.FromFn.{fill_by_all}
 use lib.Dec.{eqb}
-use lib.ListN.{length, get_or, set, length-append, replicate}
+use lib.ListN.{length, get_or, set, length-set, length-append, replicate}
 use lib.Seq.{sets, length-sets}
-use borrow.Author.Tests.{eq-eqb, ne_eqb}
 use Rattle.base.specs.Pick.{pick}
 use Rattle.bits.proofs.Promise.{clear_words, length-clear_words, clear_words_in, clear_words-before}
 use Rattle.format.specs.Format.{is_method}
@@ -19,16 +27,22 @@ use Rattle.table.specs.Rows.{row_count, free_row}
 use Rattle.table.specs.Words.{layout_version, state_words, method_place, rows_place, row_size, phase_of, row_in, rows_from, rows_in, no_order, has_order, order_in, order_words, fresh_words}
 use Rattle.table.proofs.CellLaws.{cell_of}
 
+-- What the calls of a closure gave, one at each number from i on, where it computes h.
+module _ {F : Type 0} (g : Mut F (ℕ × Unit {0}) ℕ) (h : ℕ → ℕ) (f : F) (computes : (k b : ℕ) (q : F) → Called g f (k, tt) b q → (q ≡ f) × (b ≡ h k)) (ys : List ℕ) where
+  calls_give : (n i : ℕ) (p : F) → p ≡ f → IsFromFnResultFrom g p ys i n → (k : ℕ) → i ≤ k → k < i + n → get_or ys k 0 ≡ h k
+  calls_give zero i p e r k a b = absurd (omega arith)
+  calls_give (suc n) i p e (q, y, el, call, rest) k a b =
+      let t = computes i y q (subst (λ (x : F). Called g x (i, tt) y q) e call) in
+      let more = calls_give n (i + 1) q t.0 rest k in
+      elim (ℕ_discrete i k) [
+        | yes s ↦ rw (← s) (el.1 0 ∙ t.1)
+        | no s ↦ more (omega (arith, s)) (omega arith)
+      ]
+
+  pub array_computed : (n : ℕ) → IsFromFnResult g f ys n → ys ≡ map h (range_with_len 0 n)
+  array_computed n r = fill_by_all h ys n 0 r.long (λ k l. calls_give n 0 f refl r.each k (omega arith) (omega arith))
+
 module _ (w : List ℕ) where
-  -- Whether words that were read have an order.
-  pub has-read : {v m : ℕ} {b : Bool} → v ≡ get_or w 0 0 → m ≡ get_or w method_place 0 → v ≡ layout_version → b ≡ is_method m → b ≡ has_order w
-  unfolding has_order
-  has-read e f v b = rw (eq-eqb (get_or w 0 0) layout_version (sym e ∙ v), ← f) b
-
-  pub has-none : {v : ℕ} → v ≡ get_or w 0 0 → v ≢ layout_version → false ≡ has_order w
-  unfolding has_order
-  has-none e v = rw (ne_eqb (get_or w 0 0) layout_version (λ z. v (e ∙ z)))
-
   -- The order of words that were read.
   module _ {b : Bool} (he : b ≡ has_order w) (t : b ≡ true) where
     pub length-read : {n : ℕ} → n ≡ get_or w 9 0 → n ≡ (order_in w).length
@@ -39,11 +53,9 @@ module _ (w : List ℕ) where
     unfolding order_in
     method-read f = rw (sym he ∙ t) f
 
-    pub root-read : {a b c d e f g h : ℕ}
-        → a ≡ get_or w 1 0 → b ≡ get_or w 2 0 → c ≡ get_or w 3 0 → d ≡ get_or w 4 0 → e ≡ get_or w 5 0 → f ≡ get_or w 6 0 → g ≡ get_or w 7 0 → h ≡ get_or w 8 0
-        → ◌≡◌ {A = HashValue} (record { words = a ∷ b ∷ c ∷ d ∷ e ∷ f ∷ g ∷ h ∷ [] }) (order_in w).root
+    pub root-read : {ws : List ℕ} → ws ≡ map (λ k. get_or w (1 + k) 0) (range_with_len 0 8) → ◌≡◌ {A = HashValue} (record { words = ws }) (order_in w).root
     unfolding order_in
-    root-read p₁ p₂ p₃ p₄ p₅ p₆ p₇ p₈ = rw (sym he ∙ t, p₁, p₂, p₃, p₄, p₅, p₆, p₇, p₈)
+    root-read f = rw (sym he ∙ t, f)
 
   -- Words without an order.
   module _ {b : Bool} (he : b ≡ has_order w) (t : b ≡ false) where
@@ -59,11 +71,6 @@ module _ (w : List ℕ) where
 
     pub root_none : no_order.root ≡ (order_in w).root
     root_none = ap (λ (o : Order). o.root) none_read
-
-  -- The order by its three parts.
-  pub order-read : {root : HashValue} {n m : ℕ} → root ≡ (order_in w).root → n ≡ (order_in w).length → m ≡ (order_in w).method
-      → ◌≡◌ {A = Order} (record { root = root; length = n; method = m }) (order_in w)
-  order-read e f g = rw (e, f, g)
 
 -- ---- what holds of any words
 
@@ -106,24 +113,24 @@ rows_free (suc k) w at f =
     rw (t, f at (omega arith) (omega arith), f (at + 1) (omega arith) (omega arith), f (at + 2) (omega arith) (omega arith), f (at + 3) (omega arith) (omega arith))
 
 -- a list of eight, written out
-pub eight_cells : (w : List ℕ) → length w ≡ 8
-    → get_or w 0 0 ∷ get_or w 1 0 ∷ get_or w 2 0 ∷ get_or w 3 0 ∷ get_or w 4 0 ∷ get_or w 5 0 ∷ get_or w 6 0 ∷ get_or w 7 0 ∷ [] ≡ w
-eight_cells [] h = absurd (omega arith)
-eight_cells (a ∷ []) h = absurd (omega arith)
-eight_cells (a ∷ b ∷ []) h = absurd (omega arith)
-eight_cells (a ∷ b ∷ c ∷ []) h = absurd (omega arith)
-eight_cells (a ∷ b ∷ c ∷ d ∷ []) h = absurd (omega arith)
-eight_cells (a ∷ b ∷ c ∷ d ∷ e ∷ []) h = absurd (omega arith)
-eight_cells (a ∷ b ∷ c ∷ d ∷ e ∷ f ∷ []) h = absurd (omega arith)
-eight_cells (a ∷ b ∷ c ∷ d ∷ e ∷ f ∷ g ∷ []) h = absurd (omega arith)
-eight_cells (a ∷ b ∷ c ∷ d ∷ e ∷ f ∷ g ∷ i ∷ []) h = refl
-eight_cells (a ∷ b ∷ c ∷ d ∷ e ∷ f ∷ g ∷ i ∷ j ∷ w) h = absurd (omega arith)
+eight_cells : (w : List ℕ) → length w ≡ 8 → map (λ k. get_or w k 0) (range_with_len 0 8) ≡ w
+eight_cells w h = sym (fill_by_all (λ k. get_or w k 0) w 8 0 h (λ k l. refl))
 
--- eleven stores
-pub order-stored : (l w : List ℕ) (n m : ℕ) → length w ≡ 8
-    → set (set (set (set (set (set (set (set (set (set (set l 0 layout_version) 1 (get_or w 0 0)) 2 (get_or w 1 0)) 3 (get_or w 2 0)) 4 (get_or w 3 0)) 5 (get_or w 4 0)) 6 (get_or w 5 0)) 7 (get_or w 6 0)) 8 (get_or w 7 0)) 9 n) method_place m
-    ≡ sets l 0 (layout_version ∷ w ++ n ∷ m ∷ [])
-order-stored l w n m h = ap (λ (u : List ℕ). sets l 0 (layout_version ∷ u ++ n ∷ m ∷ [])) (eight_cells w h)
+-- a list written over a part of its length, and another behind it
+put_mid-sets : (a k : ℕ) (l w : List ℕ) → length w ≡ k → a + k ≤ length l → put_mid a k l w ≡ sets l a w
+put_mid-sets a k l w e h = rw (sets-eq w l a (omega (arith, e)), drop-drop, append_assoc, e)
+
+sets_twice : (v w l : List ℕ) (at : ℕ) → sets l at (v ++ w) ≡ sets (sets l at v) (at + length v) w
+sets_twice [] w l at = rw add-zero
+sets_twice (x ∷ v) w l at = let e : at + suc (length v) ≡ suc at + length v = omega arith in rw e (sets_twice v w (set l at x) (suc at))
+
+-- the stores of an order
+pub order-stored : (l w v : List ℕ) (n m : ℕ) → rows_place ≤ length l → length w ≡ 8 → v ≡ w
+    → set (set (put_mid 1 8 (set l 0 layout_version) v) 9 n) method_place m ≡ sets l 0 (layout_version ∷ w ++ n ∷ m ∷ [])
+order-stored l w v n m r h e =
+    let p = put_mid-sets 1 8 (set l 0 layout_version) w h (rw (length-set l 0 layout_version) (omega arith)) in
+    let q = sets_twice w (n ∷ m ∷ []) (set l 0 layout_version) 1 in
+    rw (e, p, q, h)
 
 -- the words of an order, behind the version
 order-back : (ws : List ℕ) (n m : ℕ) (w : List ℕ) → length ws ≡ 8 → is_method m ≡ true

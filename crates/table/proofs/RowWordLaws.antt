@@ -4,12 +4,14 @@ use native.Mathlib.Omega.{arith}
 use native.Mathlib.Decide.{dec_lt, ℕ_discrete}
 use mathlib.Core.Path.{◌≡◌, refl, sym, ap, ◌∙◌}
 use mathlib.Core.Logic.{◌≢◌}
-use mathlib.Core.Bool.{Bool, true, false, ◌&&◌}
+use mathlib.Core.Bool.{Bool, true, false, not, beq, ◌&&◌}
+use denote.Enum.Bare.{sameb}
+use Rattle.table.specs.contracts.rows.Phase.{the_type as Phase-is}
 use mathlib.Core.List.{List}
 use lib.Dec.{eqb}
 use lib.ListN.{length, get_or, set, length-set, get_or-eq_default}
 use lib.Seq.{sets, set-get_or, length-sets, set_out, get_or-set_same, get_or-set_other, ext_get_or}
-use borrow.Author.Tests.{le-leb, lt-leb, eq-eqb, ne_eqb}
+use borrow.Author.Tests.{not-false, not-true, le-leb, lt-leb}
 use Rattle.base.specs.Same.{same}
 use Rattle.base.proofs.SameLaws.{same_refl, same_is}
 use Rattle.table.specs.declared.rows.Phase.{Phase}
@@ -181,66 +183,27 @@ put_row_same w i = elim (dec_lt i row_count) [
 
 -- ---- as the code has them
 
-and_true : (b : Bool) → b ≡ (b && true)
-and_true true = refl
-and_true false = refl
+-- Two rows compared.
+phases_compared : (p q : Phase) → sameb Phase-is p q ≡ eqb (phase_word p) (phase_word q)
+phases_compared Free Free = refl
+phases_compared Free Calling = refl
+phases_compared Free Open = refl
+phases_compared Calling Free = refl
+phases_compared Calling Calling = refl
+phases_compared Calling Open = refl
+phases_compared Open Free = refl
+phases_compared Open Calling = refl
+phases_compared Open Open = refl
 
-module _ (x : ℕ) where
-  pub phase-calling : x ≡ 1 → Calling ≡ phase_of x
-  unfolding phase_of
-  phase-calling e = rw e
+marks_compared : (a b : Bool) → beq a b ≡ (eqb (flag a) (flag b) && true)
+marks_compared true true = refl
+marks_compared true false = refl
+marks_compared false true = refl
+marks_compared false false = refl
 
-  pub phase-open : x ≡ 2 → Open ≡ phase_of x
-  unfolding phase_of
-  phase-open e = rw e
-
-  pub phase-free : x ≢ 1 → x ≢ 2 → Free ≡ phase_of x
-  unfolding phase_of
-  phase-free a b = rw (ne_eqb x 1 a, ne_eqb x 2 b)
-
--- A row of four words that were read.
-pub row_read : (w : List ℕ) (at : ℕ) {p : Phase} {x i q c : ℕ} → p ≡ phase_of x → x ≡ get_or w at 0 → i ≡ get_or w (at + 1) 0 → q ≡ get_or w (at + 2) 0 → c ≡ get_or w (at + 3) 0
-    → ◌≡◌ {A = Row} (record { phase = p; id = i; peer = q; choked = eqb c 1 }) (row_in w at)
-unfolding row_in
-row_read w at pe xe ie qe ce = rw (pe, xe, ie, qe, ce)
-
--- Four stores.
-pub row_stored : (w : List ℕ) (i : ℕ) (r : Row) {p k : ℕ} {w₁ w₂ w₃ w₄ : List ℕ} → p ≡ phase_word r.phase → k ≡ flag r.choked
-    → w₁ ≡ set w (row_place i) p → w₂ ≡ set w₁ (row_place i + 1) r.id → w₃ ≡ set w₂ (row_place i + 2) r.peer → w₄ ≡ set w₃ (row_place i + 3) k
-    → w₄ ≡ sets w (row_place i) (row_cells r)
-row_stored w i r pe ke e₁ e₂ e₃ e₄ =
-    let at : ℕ = row_place i in
-    let f₁ : at + 1 ≡ suc at = omega arith in
-    let f₂ : at + 2 ≡ suc (suc at) = omega arith in
-    let f₃ : at + 3 ≡ suc (suc (suc at)) = omega arith in
-    rw (e₄, e₃, e₂, e₁, pe, ke, f₁, f₂, f₃)
-
--- Two rows compared word by word.
-module _ (r s : Row) {p q : ℕ} (pe : p ≡ phase_word r.phase) (qe : q ≡ phase_word s.phase) where
-  pub phases-differ : p ≢ q → false ≡ same (row_cells r) (row_cells s)
-  unfolding same
-  phases-differ d = rw (ne_eqb (phase_word r.phase) (phase_word s.phase) (λ e. d (pe ∙ e ∙ sym qe)))
-
-  module _ (e : p ≡ q) where
-    phases-same : eqb (phase_word r.phase) (phase_word s.phase) ≡ true
-    phases-same = eq-eqb _ _ (sym pe ∙ e ∙ qe)
-
-    pub ids-differ : r.id ≢ s.id → false ≡ same (row_cells r) (row_cells s)
-    unfolding same
-    ids-differ d = rw (phases-same, ne_eqb r.id s.id d)
-
-    pub peers-differ : r.id ≡ s.id → r.peer ≢ s.peer → false ≡ same (row_cells r) (row_cells s)
-    unfolding same
-    peers-differ i d = rw (phases-same, eq-eqb r.id s.id i, ne_eqb r.peer s.peer d)
-
-    pub marks-decide : r.id ≡ s.id → r.peer ≡ s.peer → {x y : ℕ} → x ≡ flag r.choked → y ≡ flag s.choked
-        → eqb x y ≡ same (row_cells r) (row_cells s)
-    unfolding same
-    marks-decide i j {x} {y} xe ye = rw (phases-same, eq-eqb r.id s.id i, eq-eqb r.peer s.peer j, ← xe, ← ye) (and_true (eqb x y))
-
--- The row that a loop has read, and what it found of it.
-pub row_found_in : (f : Row → Bool) (w : List ℕ) (i : ℕ) {r : Row} {b x : Bool} → i < row_count → r ≡ row_in w (row_place i) → b ≡ f r → b ≡ x → f (get_or (rows_in w) i free_row) ≡ x
-row_found_in f w i h e p q = rw (rows_at w i h, ← e, ← p) q
+rows_compared : (r s : Row) → (sameb Phase-is r.phase s.phase && (eqb r.id s.id && (eqb r.peer s.peer && beq r.choked s.choked))) ≡ same (row_cells r) (row_cells s)
+unfolding same
+rows_compared r s = rw (phases_compared r.phase s.phase, marks_compared r.choked s.choked)
 
 module _ (w : List ℕ) where
   pub row-at-in : (i : ℕ) {r : Row} → i < row_count → r ≡ row_in w (row_place i) → r ≡ row_at (rows_in w) i
@@ -261,12 +224,12 @@ peer-fits w f i = elim (dec_lt i row_count) [
 
 -- Putting a row, by the row that was read.
 module _ (w : List ℕ) (i : ℕ) (r : Row) {old : Row} {b : Bool} (h : i < row_count) (oe : old ≡ row_in w (row_place i))
-    (be : b ≡ same (row_cells r) (row_cells old)) where
-  compared : b ≡ same (row_cells r) (row_cells (row_at (rows_in w) i))
-  compared = be ∙ ap (λ (s : Row). same (row_cells r) (row_cells s)) (row-at-in w i h oe)
+    (be : b ≡ not (sameb Phase-is r.phase old.phase && (eqb r.id old.id && (eqb r.peer old.peer && beq r.choked old.choked)))) where
+  differs : b ≡ not (same (row_cells r) (row_cells (row_at (rows_in w) i)))
+  differs = be ∙ ap not (rows_compared r old ∙ ap (λ (s : Row). same (row_cells r) (row_cells s)) (row-at-in w i h oe))
 
-  pub put-kept : b ≡ true → w ≡ put_row w i r
-  put-kept e = sym (put-row-kept w i r h (sym compared ∙ e))
+  pub put-kept : b ≡ false → w ≡ put_row w i r
+  put-kept e = sym (put-row-kept w i r h (not-false _ (sym differs ∙ e)))
 
-  pub put-stored : b ≡ false → {v : List ℕ} → v ≡ sets w (row_place i) (row_cells r) → v ≡ put_row w i r
-  put-stored e p = p ∙ sym (put-row-in w i r h (sym compared ∙ e))
+  pub put-stored : b ≡ true → {v : List ℕ} → v ≡ sets w (row_place i) (row_cells r) → v ≡ put_row w i r
+  put-stored e p = p ∙ sym (put-row-in w i r h (not-true _ (sym differs ∙ e)))

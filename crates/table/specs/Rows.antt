@@ -1,12 +1,10 @@
 -- The channel table (01, "What a store works under": "There are 16 channels"; "Datagrams", the effects of a HANDSHAKE).
 -- Assumes nothing.
-use Rattle.std.specs.Prelude.{ℕ, suc, List, [], ◌∷◌, Bool, true, false, get_or, eqb}
+use Rattle.std.specs.Prelude.{ℕ, suc, List, [], ◌∷◌, Bool, true, false, Option, Some, None, get_or, eqb, ltb}
 use Rattle.base.specs.Pick.{pick}
 use Rattle.table.specs.declared.rows.Phase.{Phase}
 use Rattle.table.specs.declared.rows.Phase.TheVariants.{Free, Calling, Open}
 use Rattle.table.specs.declared.rows.Row.{Row}
-use Rattle.table.specs.declared.rows.Search.{Search}
-use Rattle.table.specs.declared.rows.Search.TheVariants.{InUse}
 
 -- How many channels there are.
 abbrev pub row_count : ℕ
@@ -32,21 +30,30 @@ unfoldable pub first_row : (Row → Bool) → List Row → ℕ
 first_row f [] = 0
 first_row f (r ∷ rs) = pick (f r) 0 (suc (first_row f rs))
 
--- What a row is looked for by: that it is free; that it is in use under an ID of ours; that it is open under one.
-abbrev pub passes : Search → Row → Bool
-passes Search.Free r = is_free r.phase
-passes (InUse id) r = pick (is_free r.phase) false (eqb r.id id)
-passes (Search.Open id) r = pick (is_open r.phase) (eqb r.id id) false
+-- A row is in use under an ID of ours, and open under one.
+abbrev pub used_under : ℕ → Row → Bool
+used_under id r = pick (is_free r.phase) false (eqb r.id id)
+
+abbrev pub open_under : ℕ → Row → Bool
+open_under id r = pick (is_open r.phase) (eqb r.id id) false
 
 -- The lowest free row, the lowest in use under an ID, and the lowest open under an ID.
 unfoldable pub lowest_free : List Row → ℕ
-lowest_free rs = first_row (passes Search.Free) rs
+lowest_free rs = first_row (λ r. is_free r.phase) rs
 
 unfoldable pub row_of : List Row → ℕ → ℕ
-row_of rs id = first_row (passes (InUse id)) rs
+row_of rs id = first_row (used_under id) rs
 
 unfoldable pub open_row_of : List Row → ℕ → ℕ
-open_row_of rs id = first_row (passes (Search.Open id)) rs
+open_row_of rs id = first_row (open_under id) rs
+
+-- The row that a HANDSHAKE to a channel is for: to 0, the one that it opens.
+unfoldable pub handshake_row : List Row → ℕ → ℕ
+handshake_row rs to = pick (eqb to 0) (lowest_free rs) (row_of rs to)
+
+-- Such a row's place as it is given back: where no row is found, that is none.
+abbrev pub in_table : ℕ → Option ℕ
+in_table i = pick (ltb i row_count) (Some i) None
 
 -- The row at a place; past the table a free one.
 unfoldable pub row_at : List Row → ℕ → Row

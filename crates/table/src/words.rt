@@ -2,14 +2,12 @@
 // each of the 16 rows. A word past the room is read as 0 and not written.
 ghost use Rattle.std.specs.Prelude.{◌≡◌, ◌<◌, ◌≤◌, get_or, set, length};
 ghost use Rattle.std.proofs.lemmas.List.Edits.{sets};
-ghost use Rattle.base.specs.Same.{same};
 ghost use Rattle.format.specs.Format.{format_of};
-ghost use Rattle.table.specs.Rows.{row_count, first_row, passes, lowest_free, row_of, open_row_of, row_at};
+ghost use Rattle.table.specs.Rows.{row_count, in_table, lowest_free, row_of, open_row_of, row_at};
 ghost use Rattle.table.specs.Words.{state_words, rows_place, row_place, phase_of, row_in, rows_in, has_order, order_in};
 ghost use Rattle.table.specs.Words.{phase_word, flag, row_cells, put_row, order_words, fresh_words};
 
-use crate::rows;
-use crate::rows::{Phase, ROWS, Row, Search};
+use crate::rows::{Phase, ROWS, Row};
 use format::Format;
 use hash::value::HashValue;
 use order::Order;
@@ -30,9 +28,10 @@ const ROW_WORDS: usize = 4;
 fn word(words: &[u32], at: usize) -> u32
     ensures { result ≡ get_or words.now at 0 }
 {
-    if at < words.len() { words[at] } else { 0 }
+    words.get(at).copied().unwrap_or(0)
 }
 
+// Not by `get_mut`: after it a proof knows the length of the slice and none of its elements.
 fn put_word(words: &mut [u32], at: usize, x: u32)
     ensures { words.new ≡ set words.old at x }
 {
@@ -47,11 +46,7 @@ fn put_word(words: &mut [u32], at: usize, x: u32)
 fn has_order(words: &[u32]) -> bool
     ensures { result ≡ has_order words.now }
 {
-    if word(words, 0) == LAYOUT_VERSION {
-        format::is_method(word(words, METHOD_PLACE))
-    } else {
-        false
-    }
+    word(words, 0) == LAYOUT_VERSION && format::is_method(word(words, METHOD_PLACE))
 }
 
 // The order's length; 0 in words without an order.
@@ -83,33 +78,20 @@ pub fn format_in(words: &[u32]) -> Format
 pub fn root_in(words: &[u32]) -> HashValue
     ensures { result ≡ (order_in words.now).root }
 {
-    if has_order(words) {
-        HashValue {
-            words: [
-                word(words, 1),
-                word(words, 2),
-                word(words, 3),
-                word(words, 4),
-                word(words, 5),
-                word(words, 6),
-                word(words, 7),
-                word(words, 8),
-            ],
-        }
+    let words = if has_order(words) {
+        std::array::from_fn(|k| word(words, 1 + k))
     } else {
-        HashValue {
-            words: [0, 0, 0, 0, 0, 0, 0, 0],
-        }
-    }
+        [0; 8]
+    };
+    HashValue { words }
 }
 
 // The order.
 pub fn order_in(words: &[u32]) -> Order
     ensures { result ≡ order_in words.now }
 {
-    let root = root_in(words);
     Order {
-        root,
+        root: root_in(words),
         length: length_in(words),
         method: method_in(words),
     }
@@ -117,13 +99,15 @@ pub fn order_in(words: &[u32]) -> Order
 
 // ---- rows are read
 
-fn phase_of(x: u32) -> Phase
-    ensures { result ≡ phase_of x }
-{
-    match x {
-        1 => Phase::Calling,
-        2 => Phase::Open,
-        _ => Phase::Free,
+impl From<u32> for Phase {
+    ghost from_gives = { λ x phase. phase ≡ phase_of x };
+
+    fn from(x: u32) -> Phase {
+        match x {
+            1 => Phase::Calling,
+            2 => Phase::Open,
+            _ => Phase::Free,
+        }
     }
 }
 
@@ -134,7 +118,7 @@ fn row_in(words: &[u32], i: usize) -> Row
 {
     let at = ROWS_PLACE + ROW_WORDS * i;
     Row {
-        phase: phase_of(word(words, at)),
+        phase: Phase::from(word(words, at)),
         id: word(words, at + 1),
         peer: word(words, at + 2),
         choked: word(words, at + 3) == 1,
@@ -148,80 +132,55 @@ pub fn row_at(words: &[u32], i: usize) -> Row
     if i < ROWS {
         row_in(words, i)
     } else {
-        rows::free_row()
+        Row::FREE
     }
 }
 
-// The lowest row that is what is looked for, or 16.
-fn first_row(words: &[u32], search: Search) -> usize
-    ensures { (result ≡ first_row (passes search) (rows_in words.now)) × (result ≤ row_count) }
+// The lowest row that is free.
+pub fn lowest_free(words: &[u32]) -> Option<usize>
+    ensures { result ≡ in_table (lowest_free (rows_in words.now)) }
 {
-    let mut i: usize = 0;
-    while i < ROWS {
-        let row = row_in(words, i);
-        if rows::passes(row, search) {
-            return i;
-        }
-        i += 1;
-    }
-    i
+    (0..ROWS).find(|&i| row_at(words, i).phase.is_free())
 }
 
-// The lowest row that is free, or 16.
-pub fn lowest_free(words: &[u32]) -> usize
-    ensures { (result ≡ lowest_free (rows_in words.now)) × (result ≤ row_count) }
+// The lowest row in use under an ID.
+pub fn row_of(words: &[u32], id: u32) -> Option<usize>
+    ensures { result ≡ in_table (row_of (rows_in words.now) id) }
 {
-    first_row(words, Search::Free)
+    (0..ROWS).find(|&i| {
+        let row = row_at(words, i);
+        !row.phase.is_free() && row.id == id
+    })
 }
 
-// The lowest row in use under an ID, or 16.
-pub fn row_of(words: &[u32], id: u32) -> usize
-    ensures { (result ≡ row_of (rows_in words.now) id) × (result ≤ row_count) }
+// The lowest row open under an ID.
+pub fn open_row_of(words: &[u32], id: u32) -> Option<usize>
+    ensures { result ≡ in_table (open_row_of (rows_in words.now) id) }
 {
-    first_row(words, Search::InUse { id })
-}
-
-// The lowest row open under an ID, or 16.
-pub fn open_row_of(words: &[u32], id: u32) -> usize
-    ensures { (result ≡ open_row_of (rows_in words.now) id) × (result ≤ row_count) }
-{
-    first_row(words, Search::Open { id })
+    (0..ROWS).find(|&i| {
+        let row = row_at(words, i);
+        row.phase.is_open() && row.id == id
+    })
 }
 
 // ---- a row is put
 
-fn phase_word(phase: Phase) -> u32
-    ensures { result ≡ phase_word phase }
-{
-    match phase {
-        Phase::Free => 0,
-        Phase::Calling => 1,
-        Phase::Open => 2,
+impl From<Phase> for u32 {
+    ghost from_gives = { λ phase x. x ≡ phase_word phase };
+
+    fn from(phase: Phase) -> u32 {
+        match phase {
+            Phase::Free => 0,
+            Phase::Calling => 1,
+            Phase::Open => 2,
+        }
     }
 }
 
 pub fn flag(on: bool) -> u32
     ensures { result ≡ flag on }
 {
-    if on { 1 } else { 0 }
-}
-
-// Whether two rows are the same.
-fn same_row(a: Row, b: Row) -> bool
-    ensures { result ≡ same (row_cells a) (row_cells b) }
-{
-    let old = a.phase;
-    let new = b.phase;
-    if phase_word(old) != phase_word(new) {
-        return false;
-    }
-    if a.id != b.id {
-        return false;
-    }
-    if a.peer != b.peer {
-        return false;
-    }
-    flag(a.choked) == flag(b.choked)
+    u32::from(on)
 }
 
 // Writes the words of row i.
@@ -230,24 +189,19 @@ fn store_row(words: &mut [u32], i: usize, row: Row)
     ensures { words.new ≡ sets words.old (row_place i) (row_cells row) }
 {
     let at = ROWS_PLACE + ROW_WORDS * i;
-    let phase = row.phase;
-    put_word(words, at, phase_word(phase));
+    put_word(words, at, u32::from(row.phase));
     put_word(words, at + 1, row.id);
     put_word(words, at + 2, row.peer);
-    put_word(words, at + 3, flag(row.choked));
+    put_word(words, at + 3, u32::from(row.choked));
 }
 
 // Puts a row at a place. Where it is that row already nothing is written, nor is anything past the table.
 pub fn put_row(words: &mut [u32], i: usize, row: Row)
     ensures { words.new ≡ put_row words.old i row }
 {
-    if ROWS <= i {
-        return;
+    if i < ROWS && row != row_in(words, i) {
+        store_row(words, i, row);
     }
-    if same_row(row, row_in(words, i)) {
-        return;
-    }
-    store_row(words, i, row);
 }
 
 // ---- an order is put
@@ -257,16 +211,8 @@ fn put_order(words: &mut [u32], order: Order)
     requires { rows_place ≤ length words.old }
     ensures { words.new ≡ sets words.old 0 (order_words order) }
 {
-    let root = order.root;
     words[0] = LAYOUT_VERSION;
-    words[1] = root.words[0];
-    words[2] = root.words[1];
-    words[3] = root.words[2];
-    words[4] = root.words[3];
-    words[5] = root.words[4];
-    words[6] = root.words[5];
-    words[7] = root.words[6];
-    words[8] = root.words[7];
+    words[1..9].copy_from_slice(&order.root.words);
     words[9] = order.length;
     words[METHOD_PLACE] = order.method;
 }

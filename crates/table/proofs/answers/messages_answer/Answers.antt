@@ -1,19 +1,28 @@
 use native.Mathlib.Omega.{arith}
-use mathlib.Core.Path.{sym}
-use Rattle.table.proofs.AnswerLaws.{found-open, messages-zero, messages-lost, messages-alive, messages-open, messages-early}
+use mathlib.Core.Path.{refl, sym, ◌∙◌}
+use Rattle.table.proofs.AnswerLaws.{place-found, place-none, found-open, messages-zero, messages-lost, messages-alive, messages-open, messages-early}
 use Rattle.table.proofs.answers.messages_answer.Goals as goal
+use Rattle.table.proofs.answers.messages_answer.Goals.{else-not-keepalive-via-then-not-keepalive+else-not-is_open, else-not-keepalive-via-else-not-keepalive}
 
-pub returns-then-destination-eq0 : goal.returns-then-destination-eq0
-returns-then-destination-eq0 c = sym (messages-zero _ _ _ c.if-destination-eq0.true)
+pub returns-then-destination-eq0-clause-answer : goal.returns-then-destination-eq0-clause-answer
+returns-then-destination-eq0-clause-answer c = (sym (messages-zero _ _ _ c.if-destination-eq0.true), refl)
 
-pub returns-then-i-ge-ROWS : goal.returns-then-i-ge-ROWS
-returns-then-i-ge-ROWS c = sym (messages-lost _ _ _ c.if-destination-eq0.false (omega arith))
+pub returns-in_default-clause-answer : goal.returns-in_default-clause-answer
+returns-in_default-clause-answer c = (sym (messages-lost _ _ _ c.if-destination-eq0.false (place-none _ (sym c.in_default.is ∙ c.row_of.ensures))), refl)
 
-pub returns-then-keepalive : goal.returns-then-keepalive
-returns-then-keepalive c = sym (messages-alive _ _ _ c.if-destination-eq0.false (omega arith) c.if-keepalive.true)
+pub returns-then-not-is_open-clause-answer : goal.returns-then-not-is_open-clause-answer
+returns-then-not-is_open-clause-answer c =
+    let e = sym c.in-Some.is ∙ c.row_of.ensures in
+    let t = place-found _ _ e in
+    let o = found-open _ _ _ _ e c.row_at.ensures c.is_open.ensures c.if-not-is_open.true in
+    (sym (messages-early _ _ _ c.if-destination-eq0.false (omega arith) c.if-not-keepalive.true o), refl)
 
-pub returns-then-is_open : goal.returns-then-is_open
-returns-then-is_open c = let o = found-open _ _ _ _ c.requires c.row_at-row.ensures c.is_open.ensures c.if-is_open.true in sym (messages-open _ _ _ c.if-destination-eq0.false (omega arith) c.if-keepalive.false o)
-
-pub returns : goal.returns
-returns c = let o = found-open _ _ _ _ c.requires c.row_at-row.ensures c.is_open.ensures c.if-is_open.false in sym (messages-early _ _ _ c.if-destination-eq0.false (omega arith) c.if-keepalive.false o)
+pub returns-clause-answer : goal.returns-clause-answer
+returns-clause-answer c =
+    let e = sym c.in-Some.is ∙ c.row_of.ensures in
+    let t = place-found _ _ e in
+    elim c.else-not-keepalive.branch [
+      | else-not-keepalive-via-then-not-keepalive+else-not-is_open w ↦
+          (sym (messages-open _ _ _ c.if-destination-eq0.false (omega arith) w.if-not-keepalive.true (found-open _ _ _ _ e w.row_at.ensures w.is_open.ensures w.if-not-is_open.false)), refl)
+      | else-not-keepalive-via-else-not-keepalive w ↦ (sym (messages-alive _ _ _ c.if-destination-eq0.false (omega arith) w.if-not-keepalive.false), refl)
+    ]
