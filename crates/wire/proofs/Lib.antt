@@ -4,6 +4,7 @@ pub mod BytesLaws
 pub mod OptionsLaws
 pub mod PlaceLaws
 pub mod ReadLaws
+pub mod SizeLaws
 pub mod SpanLaws
 pub mod LayoutLaws
 pub mod PlainLaws

@@ -28,6 +28,17 @@ option_code least t = step (ltb (length t) 1) (eqb (code t) 255) (ltb (code t) l
     step false false false true e n h = absurd (omega arith)
     step false false false false e n h = ltb-false 9 (code t) e
 
+-- a head has two bytes at least
+pub head_least : (k : ℕ) → 2 ≤ head_size k
+unfolding head_size
+head_least k = by (eqb k 2) (eqb k 7) (eqb k 9)
+  where
+    by : (a b c : Bool) → 2 ≤ pick a 3 (pick b 5 (pick c 5 2))
+    by true b c = omega arith
+    by false true c = omega arith
+    by false false true = omega arith
+    by false false false = omega arith
+
 -- ---- an option with a value
 
 module _ (least : ℕ) (t : List ℕ) (some : 1 ≤ length t) (other : code t ≡ 255 → ⊥) (rising : least ≤ code t) (known : code t ≤ 9) (h : ℕ) (he : h ≡ head_size (code t)) where

@@ -8,18 +8,20 @@ use mathlib.Core.List.{List}
 use mathlib.Core.Bool.{Bool, true, false, not, true≢false}
 use lib.ListN.{length, get_or, take, drop, length-drop}
 use lib.Dec.{ltb, eqb}
-use borrow.Author.Tests.{lt-ltb, le-ltb, eqb-true, not-true, not-false}
+use borrow.Author.Tests.{lt-ltb, le-ltb, eq-eqb, ne_eqb, eqb-true, eqb-false, not-true, not-false}
 use Rattle.base.specs.Pick.{pick}
 use Rattle.wire.specs.Bytes.{be64}
 use Rattle.wire.specs.Place.{first_of, last_of, integrity_size, is_empty, is_special, named_size, timed_size}
 use Rattle.wire.specs.Read.{cursor, ack_at, ranged_at, typed, step_of, step_at, named, names_node, is_ranged}
-use Rattle.wire.specs.Steps.{is_single, ranged_size, plain_size, plain_message, is_node, ack_size}
+use Rattle.wire.specs.Steps.{is_single, ranged_size, plain_size, plain_message, is_node, ack_size, some_size}
 use Rattle.wire.specs.declared.message.Message.{Message}
 use Rattle.wire.specs.declared.message.Message.TheVariants.{Ack, Integrity, Empty}
 use Rattle.wire.specs.declared.message.Step.{Step}
 use Rattle.wire.specs.declared.message.Step.TheVariants.{Read, Refused}
 use Rattle.wire.proofs.BytesLaws.{part}
+use Rattle.std.specs.Prelude.{Some}
 use Rattle.wire.proofs.PlaceLaws.{not_none, none-order}
+use Rattle.wire.proofs.SizeLaws.{size-said}
 use Rattle.wire.proofs.ViewLaws.{View, the_end, refused, a_handshake, a_data, an_ack, a_have, an_integrity, a_request, a_cancel, a_choke, an_unchoke, view, an_empty, ranged_types}
 use Rattle.wire.proofs.ViewLaws.{refusing, typed-is, end_is, choke-is, unchoke-is, integrity-is}
 use Rattle.format.specs.declared.Format.{Format}
@@ -33,6 +35,19 @@ single_types k = by (eqb k 10) refl
     by : (b : Bool) → eqb k 10 ≡ b → pick b true (eqb k 11) ≡ true → (k ≡ 10) ⊎ (k ≡ 11)
     by true e h = inl (eqb-true k 10 e)
     by false e h = inr (eqb-true k 11 h)
+
+pub ranged-high : (k : ℕ) → 8 ≤ k → k ≤ 9 → true ≡ is_ranged k
+unfolding is_ranged
+ranged-high k h l = by (eqb k 3) (eqb k 8) refl
+  where
+    by : (a b : Bool) → eqb k 8 ≡ b → true ≡ pick a true (pick b true (eqb k 9))
+    by true b e = refl
+    by false true e = refl
+    by false false e = let n = eqb-false k 8 e in let q : k ≡ 9 = omega (arith, n) in sym (eq-eqb k 9 q)
+
+pub ranged-none : (k : ℕ) → (k ≡ 3 → ⊥) → (k ≡ 8 → ⊥) → (k ≡ 9 → ⊥) → false ≡ is_ranged k
+unfolding is_ranged
+ranged-none k a b c = simp (ne_eqb k 3 a, ne_eqb k 8 b, ne_eqb k 9 c)
 
 -- a type that a test tells is not another
 not_single : {k n : ℕ} → k ≡ n → is_single n ≡ true → is_single k ≡ false → ⊥
@@ -311,6 +326,9 @@ module _ (F : Format) (s : List ℕ) (at : ℕ) where
   -- the message lies in the datagram
   pub size-inside : {n : ℕ} → n ≡ plain_size F (step_at F s at) → (n ≡ 0 → ⊥) → at + n ≤ length s
   size-inside e h = omega (arith, e, h, size_fits F at (drop at s), length-drop at s)
+
+  pub size-inside-said : {n : ℕ} → Some n ≡ some_size (plain_size F (step_at F s at)) → at + n ≤ length s
+  size-inside-said e = let h = size-said (plain_size F (step_at F s at)) e in size-inside h.0 h.1
 
   pub node-inside : {b : Bool} → b ≡ is_node (step_at F s at) → b ≡ true → at + integrity_size F ≤ length s
   node-inside e h = omega (arith, node-fits F at (drop at s) (sym e ∙ h), length-drop at s)

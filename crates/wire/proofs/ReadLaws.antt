@@ -1,11 +1,12 @@
 -- Laws of reading a message, test by test as the code has them. Assumes nothing.
 use Prim.Native.Nat.{ℕ, ◌+◌, ◌-◌, ◌<◌, ◌≤◌}
 use native.Mathlib.Omega.{arith}
-use mathlib.Core.Path.{◌≡◌, ◌∙◌}
+use mathlib.Core.Path.{◌≡◌, refl, ◌∙◌}
 use mathlib.Core.List.{List}
 use mathlib.Core.Bool.{Bool, true, false}
 use lib.ListN.{length, get_or, take, drop, length-drop, drop_of_length-le}
-use borrow.Author.Tests.{lt-ltb, le-ltb, eq-eqb, ne_eqb}
+use borrow.Author.Tests.{lt-ltb, le-ltb, eq-eqb, ne_eqb, eqb-true, eqb-false}
+use lib.Dec.{eqb}
 use Rattle.wire.specs.Bytes.{be32, be64}
 use Rattle.wire.specs.Place.{integrity_size, is_empty, is_special, named_size, timed_size}
 use Rattle.wire.specs.Options.{options_size, is_fixed, root_place}
@@ -181,21 +182,20 @@ module _ (F : Format) (k at : ℕ) (t : List ℕ) where
   unfolding typed
   row-ack e = rw e
 
-  pub row-have : k ≡ 3 → ranged_at F 3 at t ≡ typed F k at t
+  -- HAVE, REQUEST and CANCEL
+  pub row-ranged : ((k ≡ 3 → ⊥) → (8 ≤ k) × (k ≤ 9)) → ranged_at F k at t ≡ typed F k at t
   unfolding typed
-  row-have e = rw e
+  row-ranged h = by (eqb k 3) (eqb k 8) (eqb k 9) refl refl refl
+    where
+      by : (a b c : Bool) → eqb k 3 ≡ a → eqb k 8 ≡ b → eqb k 9 ≡ c → ranged_at F k at t ≡ typed F k at t
+      by true b c p q r = rw (eqb-true k 3 p)
+      by false true c p q r = rw (eqb-true k 8 q)
+      by false false true p q r = rw (eqb-true k 9 r)
+      by false false false p q r = let z = h (eqb-false k 3 p) in absurd (omega (arith, z.0, z.1, eqb-false k 8 q, eqb-false k 9 r))
 
   pub row-integrity : k ≡ 4 → integrity_at F at t ≡ typed F k at t
   unfolding typed
   row-integrity e = rw e
-
-  pub row-request : k ≡ 8 → ranged_at F 8 at t ≡ typed F k at t
-  unfolding typed
-  row-request e = rw e
-
-  pub row-cancel : k ≡ 9 → ranged_at F 9 at t ≡ typed F k at t
-  unfolding typed
-  row-cancel e = rw e
 
   pub row-choke : k ≡ 10 → Read Choke (cursor (at + 1)) ≡ typed F k at t
   unfolding typed
@@ -204,10 +204,6 @@ module _ (F : Format) (k at : ℕ) (t : List ℕ) where
   pub row-unchoke : k ≡ 11 → Read Unchoke (cursor (at + 1)) ≡ typed F k at t
   unfolding typed
   row-unchoke e = rw e
-
-  pub row-reserved : k ≡ 255 → Refused ≡ typed F k at t
-  unfolding typed
-  row-reserved e = rw e
 
   -- a refused type
   pub no_row : (k ≡ 0 → ⊥) → (k ≡ 1 → ⊥) → (k ≡ 2 → ⊥) → (k ≡ 3 → ⊥) → (k ≡ 4 → ⊥) → (k ≡ 8 → ⊥) → (k ≡ 9 → ⊥) → (k ≡ 10 → ⊥) → (k ≡ 11 → ⊥) → Refused ≡ typed F k at t

@@ -1,11 +1,11 @@
 -- Laws of the survey: one turn of it, its end, and what a plain message adds to it and to the layout. Assumes nothing.
-use Prim.Native.Nat.{ℕ, zero, suc, ◌+◌, ◌-◌, ◌<◌, ◌≤◌}
+use Prim.Native.Nat.{ℕ, zero, suc, ◌+◌, ◌-◌, ◌<◌, ◌≤◌, max}
 use native.Mathlib.Omega.{arith}
 use mathlib.Core.Path.{◌≡◌, refl, sym, ap, ◌∙◌}
 use mathlib.Core.List.{List, []}
 use mathlib.Core.Bool.{true, Bool, false}
 use lib.ListN.{length, drop, length-drop}
-use borrow.Author.Tests.{lt-ltb, le-ltb, eq-eqb}
+use borrow.Author.Tests.{lt-ltb, le-ltb, eq-eqb, ltb-true, ltb-false}
 use Rattle.wire.specs.Limits.{min_size, max_size}
 use Rattle.wire.specs.Read.{step_at}
 use Rattle.wire.specs.Layout.{Checked, checked_of, number_of, layout_step, layout_from, layout_of}
@@ -56,6 +56,14 @@ survey-done F (suc n) s at v h = ap (λ (st : Step). survey_step F st v (λ x w.
 pub survey_passed : (F : Format) (s : List ℕ) → number_of (layout_of F s).layout ≡ 0 → survey_spec F s ≡ survey_all F s
 unfolding survey_spec
 survey_passed F s e = rw (eq-eqb _ _ e)
+
+-- the code's greater of two
+pub higher-max : (a b : ℕ) → max a b ≡ higher a b
+higher-max a b = by (ltb a b) refl
+  where
+    by : (x : Bool) → ltb a b ≡ x → max a b ≡ pick x b a
+    by true e = omega (arith, ltb-true a b e)
+    by false e = omega (arith, ltb-false a b e)
 
 -- ---- a plain message
 

@@ -1,5 +1,6 @@
 -- Nothing of the papers: what the code computes on its way, and one turn of its loops. Assumes nothing.
 use Rattle.std.specs.Prelude.{ℕ, zero, suc, ◌+◌, ◌-◌, ◌*◌, ◌/◌, ◌%◌, ◌≤◌, ◌≡◌, List, [], ◌∷◌, Bool, true, false, length, get_or, take, ltb, eqb}
+use Rattle.std.specs.Prelude.{Option, Some, None}
 use Rattle.base.specs.Pick.{pick}
 use Rattle.wire.specs.Bytes.{be64, placed}
 use Rattle.wire.specs.Limits.{min_size, max_size}
@@ -10,6 +11,7 @@ use Rattle.wire.specs.Layout.{Checked, checked_of, number_of, seen, handshake_la
 use Rattle.wire.specs.declared.range.Range.{Range}
 use Rattle.wire.specs.declared.message.Message.{Message}
 use Rattle.wire.specs.declared.message.Message.TheVariants.{Handshake, Data, Ack, Have, Integrity, Request, Cancel, Choke, Unchoke, Empty}
+use Rattle.wire.specs.declared.message.Cursor.{Cursor}
 use Rattle.wire.specs.declared.message.Step.{Step}
 use Rattle.wire.specs.declared.message.Step.TheVariants.{Read, End, Refused}
 use Rattle.wire.specs.declared.layout.Layout.{Layout}
@@ -20,7 +22,17 @@ use Rattle.wire.specs.declared.pass.Front.{Front}
 use Rattle.wire.specs.declared.pass.Turn.{Turn}
 use Rattle.wire.specs.declared.pass.Turn.TheVariants.{On, Over}
 
+-- A size as an option: 0 stands for none.
+abbrev pub some_size : ℕ → Option ℕ
+some_size zero = None
+some_size (suc n) = Some (suc n)
+
 -- ---- reading a message
+
+-- A message with the cursor behind it, as a step; none is refused.
+abbrev pub step_said : Option (Message × Cursor) → Step
+step_said (Some p) = Read p.0 p.1
+step_said None = Refused
 
 -- The chunks that the message t names.
 abbrev pub range_of : Format → List ℕ → Range

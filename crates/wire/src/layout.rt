@@ -81,11 +81,7 @@ pub fn seen(entries: &[u64], node: u64) -> bool
 fn is_end_only(options: Options) -> bool
     ensures { result ≡ is_end_only options }
 {
-    match options {
-        Options::Fixed { root: _ } => false,
-        Options::EndOnly => true,
-        Options::Other => false,
-    }
+    matches!(options, Options::EndOnly)
 }
 
 // 3 for a HANDSHAKE with both channel numbers 0, and for one that closes with other options than End.

@@ -1,5 +1,24 @@
 // The messages of a datagram as values: numbers, and places of bytes in a slice beside them.
 
+// The types of messages (RFC 7574, 8); 5 to 7 are refused here.
+pub const HANDSHAKE: u8 = 0;
+
+pub const DATA: u8 = 1;
+
+pub const ACK: u8 = 2;
+
+pub const HAVE: u8 = 3;
+
+pub const INTEGRITY: u8 = 4;
+
+pub const REQUEST: u8 = 8;
+
+pub const CANCEL: u8 = 9;
+
+pub const CHOKE: u8 = 10;
+
+pub const UNCHOKE: u8 = 11;
+
 // The options of a HANDSHAKE.
 #[derive(Clone, Copy)]
 pub enum Options {
@@ -49,7 +68,8 @@ pub enum Message {
     },
     Choke,
     Unchoke,
-    // HAVE, REQUEST or CANCEL, by its type, over no chunk at all, under bins alone.
+    // HAVE, REQUEST or CANCEL, by its type, over no chunk at all, under bins alone. Any byte may be asked to be added, and
+    // is refused there (writer, `writable_empty`): so the type is a number here.
     Empty {
         kind: u8,
     },
@@ -61,7 +81,8 @@ pub struct Cursor {
     pub at: usize,
 }
 
-// What stands at a cursor; `step_number` (specs/Read) gives its number.
+// What stands at a cursor; `step_number` (specs/Read) gives its number. One enum names the three cases: as
+// `Option<Result<(Message, Cursor), Refusal>>` every reader would match the same three one level deeper.
 #[derive(Clone, Copy)]
 pub enum Step {
     Read { message: Message, next: Cursor },

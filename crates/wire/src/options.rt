@@ -1,6 +1,7 @@
 // The options of a HANDSHAKE.
-ghost use Rattle.std.specs.Prelude.{◌≡◌, ◌+◌, ◌≤◌, ◌<◌, length, get_or};
+ghost use Rattle.std.specs.Prelude.{◌≡◌, ◌+◌, ◌≤◌, ◌<◌, length, get_or, IfSome};
 ghost use Rattle.wire.specs.Options.{head_size, body_size, option_size, options_size, fixed_tail, is_fixed};
+ghost use Rattle.wire.specs.Steps.{some_size};
 
 use crate::bytes;
 use format::{Addressing, Format};
@@ -23,17 +24,10 @@ pub const FIXED_SIZE: usize = TAIL_PLACE + 12;
 pub fn fixed_tail(format: Format) -> [u8; 12]
     ensures { result ≡ fixed_tail format }
 {
-    let addressing = format.addressing;
-    match addressing {
+    match format.addressing {
         Addressing::Bins => BINS_TAIL,
         Addressing::Ranges => RANGES_TAIL,
     }
-}
-
-fn index(x: u32) -> usize
-    ensures { result ≡ x }
-{
-    x as usize
 }
 
 // The size of an option up to the variable part of its value, by its code.
@@ -55,62 +49,62 @@ fn body_size(rest: &[u8], code: u8) -> usize
     ensures { (result ≡ body_size rest.now) × (result < 65536) }
 {
     match code {
-        2 => index(bytes::load16(rest, 1)),
-        8 => index(bytes::wide(rest[1])),
+        2 => usize::from(bytes::load16(rest, 1)),
+        8 => usize::from(rest[1]),
         _ => 0,
     }
 }
 
-// The size of the option at the front, whose code is to be at least `least`: 1 is End's, and 0 stands for a refusal.
-fn option_size(rest: &[u8], least: u8) -> usize
-    ensures { (result ≡ option_size least rest.now) × (result ≤ length rest.now) }
+// The code of End.
+const END: u8 = 255;
+
+// The size of the option at the front, whose code is to be at least `least`: 1 is End's, and none is refused.
+fn option_size(rest: &[u8], least: u8) -> Option<usize>
+    ensures size { result ≡ some_size (option_size least rest.now) }
+    ensures inside { IfSome result (λ n. n ≤ length rest.now) }
 {
     if rest.len() < 1 {
-        return 0;
+        return None;
     }
     let code = rest[0];
-    if code == 255 {
-        return 1;
+    if code == END {
+        return Some(1);
     }
-    if code < least {
-        return 0;
-    }
-    if 9 < code {
-        return 0;
+    if code < least || 9 < code {
+        return None;
     }
     let head = head_size(code);
     if rest.len() < head {
-        return 0;
+        return None;
     }
     let size = head + body_size(rest, code);
     if rest.len() < size {
-        return 0;
+        return None;
     }
-    size
+    Some(size)
 }
 
-// Where the options end, End included; 0 where they are refused.
-pub(crate) fn options_size(options: &[u8]) -> usize
-    ensures { (result ≡ options_size options.now) × (result ≤ length options.now) }
+// Codes rise, so ten options and End are the most.
+const MOST_OPTIONS: u32 = 11;
+
+// Where the options end, End included, unless they are refused.
+pub(crate) fn options_size(options: &[u8]) -> Option<usize>
+    ensures size { result ≡ some_size (options_size options.now) }
+    ensures inside { IfSome result (λ n. n ≤ length options.now) }
 {
     let mut rest = options;
     let mut least: u8 = 0;
     let mut at: usize = 0;
-    let mut left: u32 = 11;
-    while 0 < left {
-        left = left - 1;
-        let size = option_size(rest, least);
-        if size == 0 {
-            return 0;
-        }
+    for _ in 0..MOST_OPTIONS {
+        let size = option_size(rest, least)?;
         if size == 1 {
-            return at + 1;
+            return Some(at + 1);
         }
         least = rest[0] + 1;
-        at = at + size;
+        at += size;
         rest = &rest[size..];
     }
-    0
+    None
 }
 
 // Whether they begin with the fixed options around some root.
@@ -120,9 +114,6 @@ pub(crate) fn is_fixed(format: Format, options: &[u8]) -> bool
     if options.len() < FIXED_SIZE {
         return false;
     }
-    if !bytes::begins(options, &FIXED_HEAD) {
-        return false;
-    }
     let tail = fixed_tail(format);
-    bytes::begins(&options[TAIL_PLACE..], &tail)
+    options.starts_with(&FIXED_HEAD) && options[TAIL_PLACE..].starts_with(&tail)
 }

@@ -10,7 +10,7 @@ use crate::layout::Layout;
 use crate::limits::{ENTRIES, MAX_SIZE, MIN_SIZE};
 use crate::message::{Cursor, Message, Step};
 use crate::survey::Survey;
-use crate::{layout, plain, range, read, survey};
+use crate::{layout, plain, range, read};
 use format::Format;
 
 // What a pass gives.
@@ -38,15 +38,14 @@ pub fn plain_front(format: Format, datagram: &[u8]) -> Front
 {
     let mut at: usize = MIN_SIZE;
     let mut left: usize = datagram.len();
-    let mut survey = survey::no_survey();
+    let mut survey = Survey::none();
     while 0 < left {
-        let size = plain::size(format, datagram, at);
-        if size == 0 {
-            return Front { at, left, survey };
-        }
-        survey = survey::acting(format, survey, &datagram[at..], size);
-        at = at + size;
-        left = left - 1;
+        let Some(size) = plain::size(format, datagram, at) else {
+            break;
+        };
+        survey = survey.acting(format, &datagram[at..], size);
+        at += size;
+        left -= 1;
     }
     Front { at, left, survey }
 }
@@ -81,7 +80,7 @@ fn note(
         return Turn::Over {
             pass: Pass {
                 layout: Layout::Fault { number: 2 },
-                survey: survey::no_survey(),
+                survey: Survey::none(),
             },
         };
     }
@@ -109,7 +108,7 @@ fn last_message(
     match message {
         Message::Handshake { source, options } => Pass {
             layout: layout::handshake(datagram, at, next, source, options),
-            survey: survey::no_survey(),
+            survey: Survey::none(),
         },
         Message::Data {
             first,
@@ -125,11 +124,11 @@ fn last_message(
                 len,
                 entries: used,
             },
-            survey: survey::naming(survey, last),
+            survey: survey.naming(last),
         },
         _ => Pass {
             layout: Layout::Fault { number: 2 },
-            survey: survey::no_survey(),
+            survey: Survey::none(),
         },
     }
 }
@@ -155,7 +154,7 @@ fn last_turn(format: Format, datagram: &[u8], at: usize, used: usize, survey: Su
         },
         Step::Refused => Pass {
             layout: Layout::Fault { number: 2 },
-            survey: survey::no_survey(),
+            survey: Survey::none(),
         },
     }
 }
@@ -174,12 +173,11 @@ fn take_turn(
         ≡ turn_at format datagram.now entries.old used at survey
         (step_at format datagram.now at) }
 {
-    let size = plain::any_size(format, datagram, at);
-    if size != 0 {
+    if let Some(size) = plain::any_size(format, datagram, at) {
         return Turn::On {
             at: at + size,
             entries: used,
-            survey: survey::acting(format, survey, &datagram[at..], size),
+            survey: survey.acting(format, &datagram[at..], size),
         };
     }
     if plain::is_node(format, datagram, at) {
@@ -188,7 +186,7 @@ fn take_turn(
         return note(
             entries,
             used,
-            survey::naming(survey, range::last(format, rest)),
+            survey.naming(range::last(format, rest)),
             range::node(format, rest),
             at + named,
             at + (named + 32),

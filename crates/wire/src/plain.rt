@@ -2,8 +2,9 @@
 // and UNCHOKE. A pass over a datagram tells them by their size, without a message value.
 ghost use Rattle.std.specs.Prelude.{◌≡◌, length};
 ghost use Rattle.wire.specs.Read.{step_at, is_ranged};
-ghost use Rattle.wire.specs.Steps.{is_single, ranged_size, ack_size, plain_size, is_node};
+ghost use Rattle.wire.specs.Steps.{is_single, ranged_size, ack_size, plain_size, is_node, some_size};
 
+use crate::message::{ACK, CANCEL, CHOKE, HAVE, INTEGRITY, REQUEST, UNCHOKE};
 use crate::range;
 use format::Format;
 
@@ -11,87 +12,69 @@ use format::Format;
 fn is_single(kind: u8) -> bool
     ensures { result ≡ is_single kind }
 {
-    if kind == 10 {
-        return true;
-    }
-    kind == 11
+    kind == CHOKE || kind == UNCHOKE
 }
 
 // HAVE, REQUEST and CANCEL: a type and chunks.
 pub fn is_ranged(kind: u8) -> bool
     ensures { result ≡ is_ranged kind }
 {
-    if kind == 3 {
-        return true;
-    }
-    if kind == 8 {
-        return true;
-    }
-    kind == 9
+    matches!(kind, HAVE | REQUEST | CANCEL)
 }
 
-// The size of HAVE, REQUEST or CANCEL, if the message has as many bytes and its chunks are in order, or none; else 0.
-fn ranged_size(format: Format, rest: &[u8]) -> usize
-    ensures { result ≡ ranged_size format rest.now }
+// The size of HAVE, REQUEST or CANCEL, if the message has as many bytes and its chunks are in order, or none.
+fn ranged_size(format: Format, rest: &[u8]) -> Option<usize>
+    ensures { result ≡ some_size (ranged_size format rest.now) }
 {
     let size = range::named_size(format);
-    if rest.len() < size {
-        return 0;
+    if rest.len() < size || !range::in_order(format, rest) {
+        return None;
     }
-    if !range::in_order(format, rest) {
-        return 0;
-    }
-    size
+    Some(size)
 }
 
-// The size of ACK, if the message has as many bytes and its chunks are in order, and neither none nor all; else 0.
-fn ack_size(format: Format, rest: &[u8]) -> usize
-    ensures { result ≡ ack_size format rest.now }
+// The size of ACK, if the message has as many bytes and its chunks are in order, and neither none nor all.
+fn ack_size(format: Format, rest: &[u8]) -> Option<usize>
+    ensures { result ≡ some_size (ack_size format rest.now) }
 {
     let size = range::named_size(format) + 8;
-    if rest.len() < size {
-        return 0;
+    if rest.len() < size || range::is_special(format, rest) || !range::in_order(format, rest) {
+        return None;
     }
-    if range::is_special(format, rest) {
-        return 0;
-    }
-    if !range::in_order(format, rest) {
-        return 0;
-    }
-    size
+    Some(size)
 }
 
-// The size of the plain message at a place of a datagram, 0 where none stands there.
-pub(crate) fn any_size(format: Format, datagram: &[u8], at: usize) -> usize
-    ensures { result ≡ plain_size format (step_at format datagram.now at) }
+// The size of the plain message at a place of a datagram, if one stands there.
+pub(crate) fn any_size(format: Format, datagram: &[u8], at: usize) -> Option<usize>
+    ensures { result ≡ some_size (plain_size format (step_at format datagram.now at)) }
 {
     if datagram.len() <= at {
-        return 0;
+        return None;
     }
     let rest = &datagram[at..];
     let kind = rest[0];
     if is_single(kind) {
-        return 1;
+        return Some(1);
     }
     if is_ranged(kind) {
         return ranged_size(format, rest);
     }
-    if kind == 2 {
+    if kind == ACK {
         return ack_size(format, rest);
     }
-    0
+    None
 }
 
 // The same. The types of one byte are told before the call: what is behind it is too large to be put in line.
-pub fn size(format: Format, datagram: &[u8], at: usize) -> usize
-    ensures { result ≡ plain_size format (step_at format datagram.now at) }
+pub fn size(format: Format, datagram: &[u8], at: usize) -> Option<usize>
+    ensures { result ≡ some_size (plain_size format (step_at format datagram.now at)) }
 {
     if datagram.len() <= at {
-        return 0;
+        return None;
     }
     let rest = &datagram[at..];
     if is_single(rest[0]) {
-        return 1;
+        return Some(1);
     }
     any_size(format, datagram, at)
 }
@@ -104,10 +87,7 @@ pub(crate) fn is_node(format: Format, datagram: &[u8], at: usize) -> bool
         return false;
     }
     let rest = &datagram[at..];
-    if rest[0] != 4 {
-        return false;
-    }
-    if rest.len() < range::named_size(format) + 32 {
+    if rest[0] != INTEGRITY || rest.len() < range::named_size(format) + 32 {
         return false;
     }
     range::names_node(format, rest)

@@ -24,8 +24,7 @@ pub const EVERYTHING_BIN: u32 = 0x7fff_ffff;
 fn place_size(format: Format) -> usize
     ensures { (result ≡ place_size format) × (4 ≤ result) × (result ≤ 8) }
 {
-    let addressing = format.addressing;
-    match addressing {
+    match format.addressing {
         Addressing::Bins => 4,
         Addressing::Ranges => 8,
     }
@@ -43,8 +42,7 @@ pub fn read(format: Format, rest: &[u8]) -> Range
     requires { named_size format ≤ length rest.now }
     ensures { result ≡ range_of format rest.now }
 {
-    let addressing = format.addressing;
-    match addressing {
+    match format.addressing {
         Addressing::Bins => {
             let b = bytes::load32(rest, 1);
             Range {
@@ -64,8 +62,7 @@ pub fn is_empty(format: Format, rest: &[u8]) -> bool
     requires { named_size format ≤ length rest.now }
     ensures { result ≡ is_empty format rest.now }
 {
-    let addressing = format.addressing;
-    match addressing {
+    match format.addressing {
         Addressing::Bins => bytes::load32(rest, 1) == EMPTY_BIN,
         Addressing::Ranges => false,
     }
@@ -76,14 +73,10 @@ pub(crate) fn is_special(format: Format, rest: &[u8]) -> bool
     requires { named_size format ≤ length rest.now }
     ensures { result ≡ is_special format rest.now }
 {
-    let addressing = format.addressing;
-    match addressing {
+    match format.addressing {
         Addressing::Bins => {
             let b = bytes::load32(rest, 1);
-            if b == EMPTY_BIN {
-                return true;
-            }
-            b == EVERYTHING_BIN
+            b == EMPTY_BIN || b == EVERYTHING_BIN
         }
         Addressing::Ranges => false,
     }
@@ -104,8 +97,7 @@ pub(crate) fn names_node(format: Format, rest: &[u8]) -> bool
     if is_special(format, rest) {
         return false;
     }
-    let addressing = format.addressing;
-    match addressing {
+    match format.addressing {
         Addressing::Bins => true,
         Addressing::Ranges => is_node(bytes::load32(rest, 1), bytes::load32(rest, 5)),
     }
@@ -116,8 +108,7 @@ pub(crate) fn in_order(format: Format, rest: &[u8]) -> bool
     requires { named_size format ≤ length rest.now }
     ensures { result ≡ not (ltb (last_of format rest.now) (first_of format rest.now)) }
 {
-    let addressing = format.addressing;
-    match addressing {
+    match format.addressing {
         Addressing::Bins => true,
         Addressing::Ranges => bytes::load32(rest, 1) <= bytes::load32(rest, 5),
     }
@@ -128,8 +119,7 @@ pub(crate) fn last(format: Format, rest: &[u8]) -> u32
     requires { named_size format ≤ length rest.now }
     ensures { result ≡ last_of format rest.now }
 {
-    let addressing = format.addressing;
-    match addressing {
+    match format.addressing {
         Addressing::Bins => bin::last(bytes::load32(rest, 1)),
         Addressing::Ranges => bytes::load32(rest, 5),
     }
@@ -140,10 +130,11 @@ pub(crate) fn node(format: Format, rest: &[u8]) -> u64
     requires { named_size format ≤ length rest.now }
     ensures { result ≡ first_of format rest.now + last_of format rest.now }
 {
-    let addressing = format.addressing;
-    match addressing {
-        Addressing::Bins => bytes::load32(rest, 1) as u64,
-        Addressing::Ranges => bytes::load32(rest, 1) as u64 + bytes::load32(rest, 5) as u64,
+    match format.addressing {
+        Addressing::Bins => u64::from(bytes::load32(rest, 1)),
+        Addressing::Ranges => {
+            u64::from(bytes::load32(rest, 1)) + u64::from(bytes::load32(rest, 5))
+        }
     }
 }
 
@@ -152,8 +143,7 @@ pub(crate) fn reach(format: Format, rest: &[u8]) -> u32
     requires { named_size format ≤ length rest.now }
     ensures { result ≡ reach format (first_of format rest.now) (last_of format rest.now) }
 {
-    let addressing = format.addressing;
-    match addressing {
+    match format.addressing {
         Addressing::Bins => bin::first(bytes::load32(rest, 1)),
         Addressing::Ranges => bytes::load32(rest, 5),
     }

@@ -1,10 +1,15 @@
-// One message at a cursor. Its bytes, from its type on, are `rest`, which stands at `at` of the datagram.
+// One message at a cursor. Its bytes, from its type on, are `rest`, which stands at `at` of the datagram. None stands for a
+// message that is refused.
 ghost use Rattle.std.specs.Prelude.{◌≡◌, ◌+◌, ◌≤◌, ◌<◌, ◌^◌, length};
 ghost use Rattle.wire.specs.Options.{options_size};
 ghost use Rattle.wire.specs.Read.{kind_of, handshake_at, data_at, integrity_at, ack_at, named, ranged_at};
 ghost use Rattle.wire.specs.Read.{typed, step_at};
+ghost use Rattle.wire.specs.Steps.{step_said};
 
-use crate::message::{Cursor, Message, Options, Step};
+use crate::message::{
+    ACK, CANCEL, CHOKE, Cursor, DATA, HANDSHAKE, HAVE, INTEGRITY, Message, Options, REQUEST, Step,
+    UNCHOKE,
+};
 use crate::{bytes, options, range};
 use format::Format;
 
@@ -25,43 +30,34 @@ fn kind(format: Format, rest: &[u8], size: usize, at: usize) -> Options
     Options::Other
 }
 
-fn handshake(format: Format, rest: &[u8], at: usize) -> Step
+fn handshake(format: Format, rest: &[u8], at: usize) -> Option<(Message, Cursor)>
     requires { at + length rest.now < 2 ^ 64 }
-    ensures { result ≡ handshake_at format at rest.now }
+    ensures { step_said result ≡ handshake_at format at rest.now }
 {
     if rest.len() < 5 {
-        return Step::Refused;
+        return None;
     }
     let options = &rest[5..];
-    let size = options::options_size(options);
-    if size == 0 {
-        return Step::Refused;
-    }
+    let size = options::options_size(options)?;
     let message = Message::Handshake {
         source: bytes::load32(rest, 1),
         options: kind(format, options, size, at + 5),
     };
-    Step::Read {
-        message,
-        next: Cursor { at: at + 5 + size },
-    }
+    Some((message, Cursor { at: at + 5 + size }))
 }
 
-fn chunk(format: Format, rest: &[u8], at: usize) -> Step
+fn chunk(format: Format, rest: &[u8], at: usize) -> Option<(Message, Cursor)>
     requires { at + length rest.now < 2 ^ 64 }
-    ensures { result ≡ data_at format at rest.now }
+    ensures { step_said result ≡ data_at format at rest.now }
 {
     let named = range::named_size(format);
     let head = named + 8;
-    if rest.len() < head {
-        return Step::Refused;
-    }
-    if range::is_special(format, rest) {
-        return Step::Refused;
+    if rest.len() < head || range::is_special(format, rest) {
+        return None;
     }
     let r = range::read(format, rest);
     if r.first != r.last {
-        return Step::Refused;
+        return None;
     }
     let message = Message::Data {
         first: r.first,
@@ -70,25 +66,18 @@ fn chunk(format: Format, rest: &[u8], at: usize) -> Step
         start: at + head,
         len: rest.len() - head,
     };
-    Step::Read {
-        message,
-        next: Cursor {
-            at: at + rest.len(),
-        },
-    }
+    let end = at + rest.len();
+    Some((message, Cursor { at: end }))
 }
 
-fn integrity(format: Format, rest: &[u8], at: usize) -> Step
+fn integrity(format: Format, rest: &[u8], at: usize) -> Option<(Message, Cursor)>
     requires { at + length rest.now < 2 ^ 64 }
-    ensures { result ≡ integrity_at format at rest.now }
+    ensures { step_said result ≡ integrity_at format at rest.now }
 {
     let named = range::named_size(format);
     let size = named + 32;
-    if rest.len() < size {
-        return Step::Refused;
-    }
-    if !range::names_node(format, rest) {
-        return Step::Refused;
+    if rest.len() < size || !range::names_node(format, rest) {
+        return None;
     }
     let r = range::read(format, rest);
     let message = Message::Integrity {
@@ -96,37 +85,28 @@ fn integrity(format: Format, rest: &[u8], at: usize) -> Step
         last: r.last,
         hash: at + named,
     };
-    Step::Read {
-        message,
-        next: Cursor { at: at + size },
-    }
+    Some((message, Cursor { at: at + size }))
 }
 
-fn ack(format: Format, rest: &[u8], at: usize) -> Step
+fn ack(format: Format, rest: &[u8], at: usize) -> Option<(Message, Cursor)>
     requires { at + length rest.now < 2 ^ 64 }
-    ensures { result ≡ ack_at format at rest.now }
+    ensures { step_said result ≡ ack_at format at rest.now }
 {
     let named = range::named_size(format);
     let size = named + 8;
-    if rest.len() < size {
-        return Step::Refused;
-    }
-    if range::is_special(format, rest) {
-        return Step::Refused;
+    if rest.len() < size || range::is_special(format, rest) {
+        return None;
     }
     let r = range::read(format, rest);
     if r.last < r.first {
-        return Step::Refused;
+        return None;
     }
     let message = Message::Ack {
         first: r.first,
         last: r.last,
         delay: bytes::load64(rest, named),
     };
-    Step::Read {
-        message,
-        next: Cursor { at: at + size },
-    }
+    Some((message, Cursor { at: at + size }))
 }
 
 // HAVE, REQUEST or CANCEL, by its type.
@@ -134,61 +114,46 @@ fn named(kind: u8, first: u32, last: u32) -> Message
     ensures { result ≡ named kind first last }
 {
     match kind {
-        3 => Message::Have { first, last },
-        8 => Message::Request { first, last },
+        HAVE => Message::Have { first, last },
+        REQUEST => Message::Request { first, last },
         _ => Message::Cancel { first, last },
     }
 }
 
-fn ranged(format: Format, rest: &[u8], kind: u8, at: usize) -> Step
+fn ranged(format: Format, rest: &[u8], kind: u8, at: usize) -> Option<(Message, Cursor)>
     requires { at + length rest.now < 2 ^ 64 }
-    ensures { result ≡ ranged_at format kind at rest.now }
+    ensures { step_said result ≡ ranged_at format kind at rest.now }
 {
     let size = range::named_size(format);
     if rest.len() < size {
-        return Step::Refused;
+        return None;
     }
+    let next = Cursor { at: at + size };
     if range::is_empty(format, rest) {
-        return Step::Read {
-            message: Message::Empty { kind },
-            next: Cursor { at: at + size },
-        };
+        return Some((Message::Empty { kind }, next));
     }
-    let chunks = range::read(format, rest);
-    if chunks.last < chunks.first {
-        return Step::Refused;
+    let r = range::read(format, rest);
+    if r.last < r.first {
+        return None;
     }
-    Step::Read {
-        message: named(kind, chunks.first, chunks.last),
-        next: Cursor { at: at + size },
-    }
+    Some((named(kind, r.first, r.last), next))
 }
 
 // The message of a type.
-fn typed(format: Format, rest: &[u8], kind: u8, at: usize) -> Step
+fn typed(format: Format, rest: &[u8], kind: u8, at: usize) -> Option<(Message, Cursor)>
     requires in_bounds { 1 ≤ length rest.now }
     requires rest_bound { at + length rest.now < 2 ^ 64 }
-    ensures { result ≡ typed format kind at rest.now }
+    ensures { step_said result ≡ typed format kind at rest.now }
 {
     match kind {
-        0 => handshake(format, rest, at),
-        1 => chunk(format, rest, at),
-        2 => ack(format, rest, at),
-        3 => ranged(format, rest, 3, at),
-        4 => integrity(format, rest, at),
-        5..=7 => Step::Refused,
-        8 => ranged(format, rest, 8, at),
-        9 => ranged(format, rest, 9, at),
-        10 => Step::Read {
-            message: Message::Choke,
-            next: Cursor { at: at + 1 },
-        },
-        11 => Step::Read {
-            message: Message::Unchoke,
-            next: Cursor { at: at + 1 },
-        },
-        12..=254 => Step::Refused,
-        255 => Step::Refused,
+        HANDSHAKE => handshake(format, rest, at),
+        DATA => chunk(format, rest, at),
+        ACK => ack(format, rest, at),
+        HAVE | REQUEST | CANCEL => ranged(format, rest, kind, at),
+        INTEGRITY => integrity(format, rest, at),
+        CHOKE => Some((Message::Choke, Cursor { at: at + 1 })),
+        UNCHOKE => Some((Message::Unchoke, Cursor { at: at + 1 })),
+        _ => None,
     }
 }
 
@@ -201,5 +166,8 @@ pub fn read(format: Format, datagram: &[u8], cursor: Cursor) -> Step
         return Step::End;
     }
     let rest = &datagram[at..];
-    typed(format, rest, rest[0], at)
+    match typed(format, rest, rest[0], at) {
+        Some((message, next)) => Step::Read { message, next },
+        None => Step::Refused,
+    }
 }

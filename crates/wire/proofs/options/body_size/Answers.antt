@@ -15,11 +15,11 @@ bounds-rest-1 c = omega (arith, c.requires.code_in_bounds, ap head_size c.in-8.i
 
 pub returns-in-2 : goal.returns-in-2
 unfolding body_size
-returns-in-2 c = (simp (eq-eqb _ _ (sym c.requires.code_value ∙ c.in-2.is)) (c.index.ensures ∙ c.load16.ensures.0), omega (arith, c.index.ensures, c.load16.ensures.1))
+returns-in-2 c = (simp (eq-eqb _ _ (sym c.requires.code_value ∙ c.in-2.is)) (c.from.ensures ∙ c.load16.ensures), omega (arith, c.from.ensures))
 
 pub returns-in-8 : goal.returns-in-8
 unfolding body_size
-returns-in-8 c = (rw (sym c.requires.code_value ∙ c.in-8.is) (c.index-in-8.ensures ∙ c.wide.ensures.0), omega (arith, c.index-in-8.ensures, c.wide.ensures.1))
+returns-in-8 c = (rw (sym c.requires.code_value ∙ c.in-8.is) c.from-in-8.ensures, omega (arith, c.from-in-8.ensures, (c.type_inv.rest 1).fits))
 
 pub returns-in_default : goal.returns-in_default
 unfolding body_size

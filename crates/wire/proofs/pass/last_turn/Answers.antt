@@ -13,4 +13,4 @@ pub returns-in-End : goal.returns-in-End
 returns-in-End c = last_end _ _ _ _ (sym c.read.ensures ∙ c.in-End.is)
 
 pub returns-in-Refused : goal.returns-in-Refused
-returns-in-Refused c = last-refused _ _ _ _ (sym c.read.ensures ∙ c.in-Refused.is) c.no_survey.ensures
+returns-in-Refused c = last-refused _ _ _ _ (sym c.read.ensures ∙ c.in-Refused.is) c.none.ensures

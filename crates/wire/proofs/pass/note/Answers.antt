@@ -4,7 +4,7 @@ use Rattle.wire.proofs.LayoutLaws.{note-seen, note-new}
 use Rattle.wire.proofs.pass.note.Goals as goal
 
 pub returns-then-seen : goal.returns-then-seen
-returns-then-seen c = note-seen _ _ _ _ _ _ _ c.seen.ensures c.if-seen.true c.no_survey.ensures
+returns-then-seen c = note-seen _ _ _ _ _ _ _ c.seen.ensures c.if-seen.true c.none.ensures
 
 pub bounds-entries-used-2 : goal.bounds-entries-used-2
 bounds-entries-used-2 c = simp length-set (omega (arith, c.requires))

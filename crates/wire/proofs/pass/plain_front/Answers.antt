@@ -1,4 +1,5 @@
-use Rattle.wire.proofs.PlainLaws.{size-inside}
+use Rattle.wire.proofs.PlainLaws.{size-inside-said}
+use Rattle.wire.proofs.SizeLaws.{size-said}
 use native.Mathlib.Omega.{arith}
 use lib.ListN.{length-drop}
 use Rattle.wire.proofs.BytesLaws.{part}
@@ -6,25 +7,25 @@ use Rattle.wire.proofs.SurveyLaws.{front-start, front_on}
 use Rattle.wire.proofs.pass.plain_front.Goals as goal
 
 pub loop-left-init : goal.loop-left-init
-loop-left-init c = front-start _ _ c.requires.min_size_in_bounds c.requires.datagram_len_bound c.no_survey-survey.ensures
+loop-left-init c = front-start _ _ c.requires.min_size_in_bounds c.requires.datagram_len_bound c.none-survey.ensures
 
-pub returns-then-size-eq0 : goal.returns-then-size-eq0
-returns-then-size-eq0 c = c.loop-left.invariant
+pub returns-in_default : goal.returns-in_default
+returns-in_default c = c.loop-left.invariant
 
 pub slice_bounds-acting-count : goal.slice_bounds-acting-count
-slice_bounds-acting-count c = omega (arith, size-inside _ _ _ c.size-size.ensures c.if-size-eq0.false)
+slice_bounds-acting-count c = omega (arith, size-inside-said _ _ _ c.in-Some.ensures)
 
 pub slice_bounds-acting-start : goal.slice_bounds-acting-start
-slice_bounds-acting-start c = omega (arith, size-inside _ _ _ c.size-size.ensures c.if-size-eq0.false)
+slice_bounds-acting-start c = omega (arith, size-inside-said _ _ _ c.in-Some.ensures)
 
 pub acting-survey-requires : goal.acting-survey-requires
-acting-survey-requires c = simp (part, length-drop) (omega (arith, size-inside _ _ _ c.size-size.ensures c.if-size-eq0.false))
+acting-survey-requires c = simp (part, length-drop) (omega (arith, size-inside-said _ _ _ c.in-Some.ensures))
 
 pub overflow_add-at : goal.overflow_add-at
-overflow_add-at c = omega (arith, size-inside _ _ _ c.size-size.ensures c.if-size-eq0.false)
+overflow_add-at c = omega (arith, size-inside-said _ _ _ c.in-Some.ensures)
 
 pub loop-left-preserved : goal.loop-left-preserved
-loop-left-preserved c = front_on _ _ _ _ _ c.loop-left.invariant (omega arith) c.size-size.ensures c.if-size-eq0.false (rw part at c.acting-survey.ensures)
+loop-left-preserved c = let h = size-said _ c.in-Some.ensures in front_on _ _ _ _ _ c.loop-left.invariant (omega arith) h.0 h.1 (rw part at c.acting-survey.ensures)
 
-pub returns : goal.returns
-returns c = c.loop-left.invariant
+pub returns-after-loop-left : goal.returns-after-loop-left
+returns-after-loop-left c = c.loop-left.invariant

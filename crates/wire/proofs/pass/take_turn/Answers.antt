@@ -1,25 +1,27 @@
 use native.Mathlib.Omega.{arith}
 use lib.ListN.{length-drop}
 use Rattle.wire.proofs.BytesLaws.{part}
-use Rattle.wire.proofs.PlainLaws.{size-inside, node-inside}
+use Rattle.wire.proofs.PlainLaws.{size-inside-said, node-inside}
+use mathlib.Core.Path.{refl}
 use Rattle.wire.proofs.PlaceLaws.{place-least}
+use Rattle.wire.proofs.SizeLaws.{size-said, size-unsaid}
 use Rattle.wire.proofs.TurnLaws.{turn-plain, turn-node, turn_last, note-room}
 use Rattle.wire.proofs.pass.take_turn.Goals as goal
 
 pub overflow_add-result : goal.overflow_add-result
-overflow_add-result c = omega (arith, c.requires.high, size-inside _ _ _ c.any_size-size.ensures c.if-size-ne0.true)
+overflow_add-result c = omega (arith, c.requires.high, size-inside-said _ _ _ c.in-Some.ensures)
 
 pub slice_bounds-acting-count : goal.slice_bounds-acting-count
-slice_bounds-acting-count c = omega (arith, size-inside _ _ _ c.any_size-size.ensures c.if-size-ne0.true)
+slice_bounds-acting-count c = omega (arith, size-inside-said _ _ _ c.in-Some.ensures)
 
 pub slice_bounds-acting-start : goal.slice_bounds-acting-start
-slice_bounds-acting-start c = omega (arith, size-inside _ _ _ c.any_size-size.ensures c.if-size-ne0.true)
+slice_bounds-acting-start c = omega (arith, size-inside-said _ _ _ c.in-Some.ensures)
 
 pub acting-requires : goal.acting-requires
-acting-requires c = simp (part, length-drop) (omega (arith, size-inside _ _ _ c.any_size-size.ensures c.if-size-ne0.true))
+acting-requires c = simp (part, length-drop) (omega (arith, size-inside-said _ _ _ c.in-Some.ensures))
 
-pub returns-then-size-ne0 : goal.returns-then-size-ne0
-returns-then-size-ne0 c = turn-plain _ _ _ _ _ _ c.any_size-size.ensures c.if-size-ne0.true (rw part at c.acting.ensures)
+pub returns-in-Some : goal.returns-in-Some
+returns-in-Some c = let h = size-said _ c.in-Some.ensures in turn-plain _ _ _ _ _ _ h.0 h.1 (rw part at c.acting.ensures)
 
 pub slice_bounds-rest-count : goal.slice_bounds-rest-count
 slice_bounds-rest-count c = omega (arith, node-inside _ _ _ c.is_node.ensures c.if-is_node.true)
@@ -49,4 +51,4 @@ pub returns-then-is_node : goal.returns-then-is_node
 returns-then-is_node c = turn-node _ _ _ _ _ _ c.is_node.ensures c.if-is_node.true c.last.ensures c.node.ensures c.naming.ensures c.named_size-named.ensures.0 c.note.ensures
 
 pub returns : goal.returns
-returns c = turn_last _ _ _ _ _ _ c.any_size-size.ensures (omega (arith, c.if-size-ne0.false)) c.is_node.ensures c.if-is_node.false c.last_turn.ensures
+returns c = turn_last _ _ _ _ _ _ refl (size-unsaid _ c.in_default.ensures) c.is_node.ensures c.if-is_node.false c.last_turn.ensures

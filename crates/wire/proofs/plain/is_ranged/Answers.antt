@@ -1,15 +1,17 @@
+use native.Mathlib.Omega.{arith}
 use Rattle.wire.specs.Read.{is_ranged}
-use Rattle.wire.proofs.OptionsLaws.{tests}
+use Rattle.wire.proofs.PlainLaws.{ranged-high, ranged-none}
 use Rattle.wire.proofs.plain.is_ranged.Goals as goal
 
-pub returns-then-kind-eq3 : goal.returns-then-kind-eq3
+pub returns-in-3 : goal.returns-in-3
 unfolding is_ranged
-returns-then-kind-eq3 c = search tests
+returns-in-3 c = rw c.in-3.is
 
-pub returns-then-kind-eq8 : goal.returns-then-kind-eq8
-unfolding is_ranged
-returns-then-kind-eq8 c = search tests
+pub returns-in-3-2 : goal.returns-in-3-2
+returns-in-3-2 c = ranged-high _ (omega arith) (omega arith)
 
-pub returns : goal.returns
-unfolding is_ranged
-returns c = search tests
+pub returns-in_default : goal.returns-in_default
+returns-in_default c = ranged-none _ (omega arith) (omega arith) (omega arith)
+
+pub returns-in_default-2 : goal.returns-in_default-2
+returns-in_default-2 c = ranged-none _ (omega arith) (omega arith) (omega arith)

@@ -2,10 +2,10 @@ use Rattle.wire.specs.Steps.{is_single}
 use Rattle.wire.proofs.OptionsLaws.{tests}
 use Rattle.wire.proofs.plain.is_single.Goals as goal
 
-pub returns-then-kind-eq10 : goal.returns-then-kind-eq10
+pub returns-then-kind-eq-CHOKE : goal.returns-then-kind-eq-CHOKE
 unfolding is_single
-returns-then-kind-eq10 c = search tests
+returns-then-kind-eq-CHOKE c = rw c.if-kind-eq-CHOKE.true
 
-pub returns : goal.returns
+pub returns-else-kind-eq-CHOKE : goal.returns-else-kind-eq-CHOKE
 unfolding is_single
-returns c = search tests
+returns-else-kind-eq-CHOKE c = search tests

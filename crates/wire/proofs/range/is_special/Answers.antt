@@ -1,3 +1,5 @@
+use borrow.Author.Tests.{eq-eqb}
+use mathlib.Core.Path.{◌∙◌}
 use native.Mathlib.Omega.{arith}
 use Rattle.wire.proofs.PlaceLaws.{special-none, special-all, special-ranges, place-least}
 use Rattle.wire.proofs.range.is_special.Goals as goal
@@ -6,7 +8,7 @@ pub load32-b-requires : goal.load32-b-requires
 load32-b-requires c = omega (arith, c.requires, place-least c.args.format)
 
 pub returns-then-b : goal.returns-then-b
-returns-then-b c = special-none _ _ c.in-Bins.is c.load32-b.ensures c.if-b.true
+returns-then-b c = eq-eqb _ _ c.if-b.true ∙ special-none _ _ c.in-Bins.is c.load32-b.ensures c.if-b.true
 
 pub returns-else-b : goal.returns-else-b
 returns-else-b c = special-all _ _ c.in-Bins.is c.load32-b.ensures c.if-b.false

@@ -1,4 +1,5 @@
 use Rattle.wire.proofs.PlaceLaws.{number-bins, number-ranges, place_ranges, place-least}
+use mathlib.Core.Path.{◌∙◌}
 use native.Mathlib.Omega.{arith}
 use Rattle.wire.proofs.range.node.Goals as goal
 
@@ -12,7 +13,7 @@ pub load32-requires-in-Ranges-2 : goal.load32-requires-in-Ranges-2
 load32-requires-in-Ranges-2 c = omega (arith, c.requires, place_ranges c.args.format c.in-Ranges.is)
 
 pub returns-in-Bins : goal.returns-in-Bins
-returns-in-Bins c = number-bins _ _ c.in-Bins.is c.load32.ensures
+returns-in-Bins c = c.from.ensures ∙ number-bins _ _ c.in-Bins.is c.load32.ensures
 
 pub returns-in-Ranges : goal.returns-in-Ranges
-returns-in-Ranges c = number-ranges _ _ c.in-Ranges.is c.load32-in-Ranges.ensures c.load32-in-Ranges-2.ensures
+returns-in-Ranges c = rw (c.from-in-Ranges.ensures, c.from-in-Ranges-2.ensures) (number-ranges _ _ c.in-Ranges.is c.load32-in-Ranges.ensures c.load32-in-Ranges-2.ensures)

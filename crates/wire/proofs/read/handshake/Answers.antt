@@ -1,11 +1,19 @@
+use native.Mathlib.Omega.{arith}
+use mathlib.Core.Path.{refl}
+use lib.ListN.{length-drop}
+use Rattle.wire.proofs.BytesLaws.{part}
 use Rattle.wire.proofs.ReadLaws.{handshake-cut, handshake-bad, handshake-good}
+use Rattle.wire.proofs.SizeLaws.{size-said, size-unsaid}
 use Rattle.wire.proofs.read.handshake.Goals as goal
 
 pub returns-then-rest-lt5 : goal.returns-then-rest-lt5
 returns-then-rest-lt5 c = handshake-cut _ _ _ c.if-rest-lt5.true
 
-pub returns-then-size-eq0 : goal.returns-then-size-eq0
-returns-then-size-eq0 c = handshake-bad _ _ _ c.if-rest-lt5.false _ c.options_size-size.ensures.0 c.if-size-eq0.true
+pub returns-in_err-size : goal.returns-in_err-size
+returns-in_err-size c = rw c.from_residual.ensures (handshake-bad _ _ _ c.if-rest-lt5.false _ refl (size-unsaid _ c.in_err-size.ensures.size))
+
+pub kind-requires : goal.kind-requires
+kind-requires c = record { size_value = (size-said _ c.in_ok-size.ensures.size).0; rest_bound = simp (part, length-drop) (omega arith) }
 
 pub returns : goal.returns
-returns c = handshake-good _ _ _ c.if-rest-lt5.false _ c.options_size-size.ensures.0 c.if-size-eq0.false c.load32.ensures c.kind.ensures
+returns c = let h = size-said _ c.in_ok-size.ensures.size in handshake-good _ _ _ c.if-rest-lt5.false _ h.0 h.1 c.load32.ensures c.kind.ensures
