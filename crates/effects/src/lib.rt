@@ -107,8 +107,7 @@ fn apply_turn(
         ≡ turned n base (peer_of has.old wants.old choked) left
         (step_at format datagram.now at) }
 {
-    let size = plain::size(format, datagram, at);
-    if size != 0 {
+    if let Some(size) = plain::size(format, datagram, at) {
         return Turn {
             choked: apply_plain(has, wants, format, n, base, choked, &datagram[at..]),
             at: at + size,

@@ -13,7 +13,9 @@ use Rattle.wire.proofs.CountLaws.{entries_fit}
 use Rattle.wire.proofs.DataLaws as data-laws
 use Rattle.wire.proofs.LayoutLaws as layouts
 use Rattle.wire.proofs.PlainLaws as plains
+use Rattle.wire.proofs.SizeLaws as sizes
 use Rattle.wire.proofs.SurveyLaws as surveys
+use Rattle.std.specs.Prelude.{Some, None}
 use Rattle.wire.specs.declared.message.Step.TheVariants.{Read}
 use Rattle.wire.specs.declared.layout.Layout.{Layout}
 use Rattle.wire.specs.declared.layout.Layout.TheVariants.{Fault, Messages}
@@ -24,7 +26,7 @@ pub use Rattle.wire.specs.Place.{named_size, timed_size, integrity_size, empty_b
 pub use Rattle.wire.specs.Options.{fixed_head, fixed_tail, fixed_size}
 pub use Rattle.wire.specs.Read.{step_number, cursor, named, step_at}
 pub use Rattle.wire.specs.Layout.{Checked, checked_of, number_of, is_end_only, layout_of}
-pub use Rattle.wire.specs.Steps.{entry_words, has_size, check_spec, Fronted, survey_of, no_survey, surveyed, survey_step, survey_all, survey_spec, range_of, plain_size}
+pub use Rattle.wire.specs.Steps.{entry_words, has_size, check_spec, Fronted, survey_of, no_survey, surveyed, survey_step, survey_all, survey_spec, range_of, plain_size, some_size}
 unfoldable pub use Rattle.wire.specs.Layout.{seen, handshake_fault}
 unfoldable pub use Rattle.wire.specs.Steps.{naming, survey_from, plain_message}
 pub use Rattle.wire.proofs.FaultLaws.{Passed, Numbered}
@@ -79,6 +81,13 @@ survey_passed = surveys.survey_passed
 -- A plain message is told by its size: it is the one that its bytes say, and the next stands behind it.
 pub plain-read : (F : Format) (s : List ℕ) (at : ℕ) {n : ℕ} → n ≡ plain_size F (step_at F s at) → (n ≡ 0 → ⊥) → step_at F s at ≡ Read (plain_message F (drop at s)) (cursor (at + n))
 plain-read = plains.plain-read
+
+-- A size that is found is the number, and not 0; none is 0.
+pub size-said : {n : ℕ} (m : ℕ) → Some n ≡ some_size m → (n ≡ m) × (n ≡ 0 → ⊥)
+size-said = sizes.size-said
+
+pub size-unsaid : (m : ℕ) → None ≡ some_size m → m ≡ 0
+size-unsaid = sizes.size-unsaid
 
 -- It lies in the datagram.
 pub plain-inside : (F : Format) (s : List ℕ) (at : ℕ) {n : ℕ} → n ≡ plain_size F (step_at F s at) → (n ≡ 0 → ⊥) → at + n ≤ length s
