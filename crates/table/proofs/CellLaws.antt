@@ -1,14 +1,10 @@
--- A word of a room, and of a list of stores. Assumes nothing.
+-- A word of a list of stores. Assumes nothing.
 use Prim.Native.Nat.{ℕ, zero, suc, ◌+◌, ◌<◌, ◌≤◌}
 use native.Mathlib.Omega.{arith}
-use mathlib.Core.Path.{◌≡◌, refl, sym, ◌∙◌}
+use mathlib.Core.Path.{◌≡◌, refl, ◌∙◌}
 use mathlib.Core.List.{List, [], ◌∷◌}
-use lib.ListN.{length, get_or, set, length-set, get_or-eq_default}
+use lib.ListN.{length, get_or, set, length-set}
 use lib.Seq.{sets, get_or-set_same, get_or-set_other}
-
--- A word past the room.
-pub word-past : (w : List ℕ) (at : ℕ) → length w ≤ at → 0 ≡ get_or w at 0
-word-past w at h = sym (get_or-eq_default w 0 h)
 
 -- ---- a cell of a list of stores
 

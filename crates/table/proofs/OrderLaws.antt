@@ -2,7 +2,7 @@
 use Prim.Native.Nat.{ℕ, zero, suc, ◌+◌, ◌*◌, ◌<◌, ◌≤◌}
 use native.Mathlib.Nat.{zero-add}
 use native.Mathlib.Omega.{arith}
-use mathlib.Core.Path.{◌≡◌, refl, sym, ap, subst, ◌∙◌}
+use mathlib.Core.Path.{◌≡◌, refl, sym, subst, ◌∙◌}
 use mathlib.Core.Bool.{Bool, true, false, true≢false, ◌&&◌}
 use mathlib.Core.List.{List, [], ◌∷◌, ◌++◌, map}
 use native.Mathlib.Decide.{ℕ_discrete}
@@ -21,7 +21,6 @@ use lib.Seq.{sets, length-sets}
 use Rattle.base.specs.Pick.{pick}
 use Rattle.bits.proofs.Promise.{clear_words, length-clear_words, clear_words_in, clear_words-before}
 use Rattle.format.specs.Format.{is_method}
-use Rattle.hash.specs.declared.value.HashValue.{HashValue}
 use Rattle.order.specs.declared.Order.{Order}
 use Rattle.table.specs.Rows.{row_count, free_row}
 use Rattle.table.specs.Words.{layout_version, state_words, method_place, rows_place, row_size, phase_of, row_in, rows_from, rows_in, no_order, has_order, order_in, order_words, fresh_words}
@@ -41,36 +40,6 @@ module _ {F : Type 0} (g : Mut F (ℕ × Unit {0}) ℕ) (h : ℕ → ℕ) (f : F
 
   pub array_computed : (n : ℕ) → IsFromFnResult g f ys n → ys ≡ map h (range_with_len 0 n)
   array_computed n r = fill_by_all h ys n 0 r.long (λ k l. calls_give n 0 f refl r.each k (omega arith) (omega arith))
-
-module _ (w : List ℕ) where
-  -- The order of words that were read.
-  module _ {b : Bool} (he : b ≡ has_order w) (t : b ≡ true) where
-    pub length-read : {n : ℕ} → n ≡ get_or w 9 0 → n ≡ (order_in w).length
-    unfolding order_in
-    length-read f = rw (sym he ∙ t) f
-
-    pub method-read : {m : ℕ} → m ≡ get_or w method_place 0 → m ≡ (order_in w).method
-    unfolding order_in
-    method-read f = rw (sym he ∙ t) f
-
-    pub root-read : {ws : List ℕ} → ws ≡ map (λ k. get_or w (1 + k) 0) (range_with_len 0 8) → ◌≡◌ {A = HashValue} (record { words = ws }) (order_in w).root
-    unfolding order_in
-    root-read f = rw (sym he ∙ t, f)
-
-  -- Words without an order.
-  module _ {b : Bool} (he : b ≡ has_order w) (t : b ≡ false) where
-    none_read : no_order ≡ order_in w
-    unfolding order_in
-    none_read = rw (sym he ∙ t)
-
-    pub length_none : no_order.length ≡ (order_in w).length
-    length_none = ap (λ (o : Order). o.length) none_read
-
-    pub method-none : no_order.method ≡ (order_in w).method
-    method-none = ap (λ (o : Order). o.method) none_read
-
-    pub root_none : no_order.root ≡ (order_in w).root
-    root_none = ap (λ (o : Order). o.root) none_read
 
 -- ---- what holds of any words
 

@@ -51,7 +51,7 @@ open_row_of rs id = first_row (open_under id) rs
 unfoldable pub handshake_row : List Row → ℕ → ℕ
 handshake_row rs to = pick (eqb to 0) (lowest_free rs) (row_of rs to)
 
--- Such a row's place as it is given back: where no row is found, that is none.
+-- The place of a row that was looked for, if there is one.
 abbrev pub in_table : ℕ → Option ℕ
 in_table i = pick (ltb i row_count) (Some i) None
 

@@ -1,5 +1,6 @@
-// A store's state as lent words: the layout's version, the root's eight, the length, the method of addressing, and four for
-// each of the 16 rows. A word past the room is read as 0 and not written.
+// A store's state as lent words: the layout's version, the root's eight, the length, the method of addressing, and four
+// for each of the 16 rows. A word past the room is read as 0 and not written.
+// The words have no type of their own: (d) a caller is lent them to write, and would wrap them anew for each read.
 ghost use Rattle.std.specs.Prelude.{◌≡◌, ◌<◌, ◌≤◌, get_or, set, length};
 ghost use Rattle.std.proofs.lemmas.List.Edits.{sets};
 ghost use Rattle.format.specs.Format.{format_of};
@@ -31,7 +32,7 @@ fn word(words: &[u32], at: usize) -> u32
     words.get(at).copied().unwrap_or(0)
 }
 
-// Not by `get_mut`: after it a proof knows the length of the slice and none of its elements.
+// By index, and not by `get_mut`: (c) after that a proof knows the length of the words and none of them.
 fn put_word(words: &mut [u32], at: usize, x: u32)
     ensures { words.new ≡ set words.old at x }
 {
@@ -49,52 +50,45 @@ fn has_order(words: &[u32]) -> bool
     word(words, 0) == LAYOUT_VERSION && format::is_method(word(words, METHOD_PLACE))
 }
 
-// The order's length; 0 in words without an order.
+// The order; in words without one, zeros and the method of ranges.
+pub fn order_in(words: &[u32]) -> Order
+    ensures { result ≡ order_in words.now }
+{
+    if !has_order(words) {
+        return Order {
+            root: HashValue { words: [0; 8] },
+            length: 0,
+            method: format::RANGES,
+        };
+    }
+    Order {
+        root: HashValue {
+            words: std::array::from_fn(|k| word(words, 1 + k)),
+        },
+        length: word(words, 9),
+        method: word(words, METHOD_PLACE),
+    }
+}
+
+// The order's length.
 pub fn length_in(words: &[u32]) -> u32
     ensures { result ≡ (order_in words.now).length }
 {
-    if has_order(words) { word(words, 9) } else { 0 }
+    order_in(words).length
 }
 
-// The number of the order's method; that of ranges in words without an order.
-fn method_in(words: &[u32]) -> u32
-    ensures { result ≡ (order_in words.now).method }
+// The order's root.
+pub fn root_in(words: &[u32]) -> HashValue
+    ensures { result ≡ (order_in words.now).root }
 {
-    if has_order(words) {
-        word(words, METHOD_PLACE)
-    } else {
-        format::RANGES
-    }
+    order_in(words).root
 }
 
 // What the order settles of a datagram's form.
 pub fn format_in(words: &[u32]) -> Format
     ensures { result ≡ format_of (order_in words.now).method }
 {
-    format::of_method(method_in(words))
-}
-
-// The order's root; zeros in words without an order.
-pub fn root_in(words: &[u32]) -> HashValue
-    ensures { result ≡ (order_in words.now).root }
-{
-    let words = if has_order(words) {
-        std::array::from_fn(|k| word(words, 1 + k))
-    } else {
-        [0; 8]
-    };
-    HashValue { words }
-}
-
-// The order.
-pub fn order_in(words: &[u32]) -> Order
-    ensures { result ≡ order_in words.now }
-{
-    Order {
-        root: root_in(words),
-        length: length_in(words),
-        method: method_in(words),
-    }
+    format::of_method(order_in(words).method)
 }
 
 // ---- rows are read
