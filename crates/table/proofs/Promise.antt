@@ -9,7 +9,7 @@ use lib.ListN.{get_or}
 use Rattle.base.specs.Among.{OneOf}
 use Rattle.table.specs.declared.rows.Row.{Row}
 use Rattle.table.proofs.NumberLaws as numbers
-pub use Rattle.table.specs.Rows.{row_count, free_row, lowest_free, row_of, open_row_of, row_at, row_after}
+pub use Rattle.table.specs.Rows.{row_count, free_row, lowest_free, row_of, open_row_of, handshake_row, in_table, row_at, row_after}
 pub use Rattle.table.specs.Answers.{open_answer, messages_answer, handshake_answer, write_answer}
 pub use Rattle.table.specs.Words.{layout_version, state_words, method_place, flag, rows_in, put_row, no_order, order_in, fresh_words}
 pub use Rattle.table.proofs.RowWordLaws.{rows_length, peer-fits, flag_same, put_row_same, put-row-rows, put-row-order, put-row-length}

@@ -48,7 +48,7 @@ unfoldable pub open_row_of : List Row → ℕ → ℕ
 open_row_of rs id = first_row (open_under id) rs
 
 -- The row that a HANDSHAKE to a channel is for: to 0, the one that it opens.
-unfoldable pub handshake_row : List Row → ℕ → ℕ
+abbrev pub handshake_row : List Row → ℕ → ℕ
 handshake_row rs to = pick (eqb to 0) (lowest_free rs) (row_of rs to)
 
 -- The place of a row that was looked for, if there is one.

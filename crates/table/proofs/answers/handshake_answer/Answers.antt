@@ -5,7 +5,6 @@ use mathlib.Core.Bool.{not}
 use borrow.Author.Tests.{eq-eqb, ne_eqb}
 use Rattle.table.specs.declared.rows.Row.{Row}
 use Rattle.table.specs.Answers.{row_answer}
-use Rattle.table.specs.Rows.{handshake_row}
 use Rattle.table.proofs.AnswerLaws.{place-found, place-none, row-found, handshake-other, handshake-new, handshake-lost, handshake-found}
 use Rattle.table.proofs.answers.handshake_answer.Goals as goal
 
@@ -18,7 +17,6 @@ returns-then-destination-eq0-clause-answer c =
     (t.0 ∙ sym (handshake-new _ _ _ _ _ c.if-destination-eq0.true (ap not c.if-not-ours.false)), t.1)
 
 pub returns-then-destination-eq0-clause-row : goal.returns-then-destination-eq0-clause-row
-unfolding handshake_row
 returns-then-destination-eq0-clause-row c = rw (eq-eqb _ _ c.if-destination-eq0.true) c.open_answer.ensures.row
 
 pub returns-in_default-clause-answer : goal.returns-in_default-clause-answer
@@ -41,7 +39,6 @@ returns-clause-answer c =
     (c.in_ok-row_answer.ensures.0 ∙ ap (λ (r : Row). row_answer r c.args.source c.args.ours) found ∙ sym (handshake-found _ _ _ _ _ c.if-destination-eq0.false (omega arith)), refl)
 
 pub returns-clause-row : goal.returns-clause-row
-unfolding handshake_row
 returns-clause-row c =
     let t = place-found _ _ (sym c.in-Some.is ∙ c.row_of.ensures) in
     (rw (ne_eqb _ _ c.if-destination-eq0.false) t.0, t.1)
