@@ -11,13 +11,13 @@ use native.Mathlib.Decide.{ℕ_discrete}
 use borrow.Author.Tests.{leb-true}
 use lib.Dec.{leb, ltb}
 use lib.Pow.{pow_pos}
-use lib.ListN.{length, take, drop}
+use lib.ListN.{length}
 use Rattle.hash.proofs.Promise.{sha256}
 use Rattle.bits.proofs.Promise.{set_bit, set_range}
 use Rattle.base.specs.Pick.{pick}
 use Rattle.tree.specs.Bin.{bin}
 use Rattle.tree.specs.Node.{above}
-use Rattle.tree.specs.Pack.{chunk_size, chunks, size, levels, leaf_places}
+use Rattle.tree.specs.Pack.{chunk_size, chunks, levels, leaf_places}
 use Rattle.tree.specs.Tree.{tree, root, given, combined}
 use Rattle.verdict.specs.Room.{filler, Digest, hash_in, put_hash}
 use Rattle.verdict.specs.Rooms.{rooms_of, count_of, chunk_in}
@@ -32,14 +32,6 @@ use Rattle.tree.proofs.PackLaws.{high_bound}
 use Rattle.base.proofs.PickLaws.{both_true}
 use Rattle.tree.proofs.SoundLaws.{combined-peaks}
 use Rattle.tree.proofs.TreeLaws.{tree-leaf, tree-step, combined-root}
-
--- ---- the content
-
-pub chunk-last : (s : List ℕ) (i : ℕ) → length s - chunk_size * i < chunk_size → take (length s - chunk_size * i) (drop (chunk_size * i) s) ≡ chunk_in (length s) s i
-chunk-last s i u = let e : length s - chunk_size * i ≡ size chunk_size (length s) i = omega arith in ap (λ (x : ℕ). take x (drop (chunk_size * i) s)) e
-
-pub chunk_whole : (s : List ℕ) (i : ℕ) → chunk_size ≤ length s - chunk_size * i → take (chunk_size * i + chunk_size - chunk_size * i) (drop (chunk_size * i) s) ≡ chunk_in (length s) s i
-chunk_whole s i u = let e : chunk_size * i + chunk_size - chunk_size * i ≡ size chunk_size (length s) i = omega arith in ap (λ (x : ℕ). take x (drop (chunk_size * i) s)) e
 
 -- the k-th node of height h
 pub multiple : (h k : ℕ) → above h (k * 2 ^ h) ≡ k * 2 ^ h

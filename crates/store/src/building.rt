@@ -20,8 +20,7 @@ use verdict::{peaks, room};
 fn clear_row(ws: &mut [u32], n: u64)
     ensures { ws.new ≡ clear_row ws.old n }
 {
-    let words = bits::row_words(n);
-    bits::clear_words(ws, 0, words as usize);
+    bits::clear_words(ws, 0, bits::row_words(n) as usize);
 }
 
 // Clears the rows, and writes and trusts the root's hash.
@@ -31,7 +30,7 @@ pub fn start(map: &mut [u32], hashes: &mut [u32], trusted: &mut [u32], root: Has
         (bytes_of root.words) }
 {
     let w = tree::pack::leaf_places(n);
-    clear_row(map, n as u64);
+    clear_row(map, u64::from(n));
     clear_row(trusted, 2 * w);
     storing::trust(hashes, trusted, w - 1, root);
 }
@@ -43,11 +42,7 @@ fn leaf_of(content: &[u8], i: usize) -> HashValue
 {
     let size = CHUNK_SIZE as usize;
     let at = size * i;
-    let left = content.len() - at;
-    if left < size {
-        return message::sha256(&content[at..]);
-    }
-    let end = at + size;
+    let end = content.len().min(at + size);
     message::sha256(&content[at..end])
 }
 
@@ -57,7 +52,7 @@ fn nth(h: u32, k: u32) -> u64
     ensures { result ≡ bin h (k * 2 ^ h) }
 {
     let w = tree::bin::pow2(h);
-    2 * (k as u64 * w) + (w - 1)
+    2 * (u64::from(k) * w) + (w - 1)
 }
 
 // The hash of the k-th node of height h, inside a content of n chunks: of a chunk, or of the two children in the room.
@@ -102,11 +97,9 @@ fn put_level(hashes: &mut [u32], trusted: &mut [u32], content: &[u8], n: u32, h:
         ≡ put_level put_hash (tree_of content.now) h (n / 2 ^ h) hashes.old)
         × (trusted.new ≡ put_level mark (tree_of content.now) h (n / 2 ^ h) trusted.old) }
 {
-    let count = (n as u64 / tree::bin::pow2(h)) as u32;
-    let mut k = 0u32;
-    while k < count {
+    let count = (u64::from(n) / tree::bin::pow2(h)) as u32;
+    for k in 0..count {
         put_node(hashes, trusted, content, n, h, k);
-        k = k + 1;
     }
 }
 
@@ -117,10 +110,8 @@ fn put_levels(hashes: &mut [u32], trusted: &mut [u32], content: &[u8], n: u32, t
         ≡ put_levels put_hash (tree_of content.now) n (suc top) hashes.old)
         × (trusted.new ≡ put_levels mark (tree_of content.now) n (suc top) trusted.old) }
 {
-    let mut h = 0u32;
-    while h <= top {
+    for h in 0..=top {
         put_level(hashes, trusted, content, n, h);
-        h = h + 1;
     }
 }
 
@@ -130,7 +121,7 @@ fn mark_all(map: &mut [u32], trusted: &mut [u32], n: u32, w: u64)
     ensures { (map.new ≡ set_range (clear_row map.old n) 0 n)
         × (trusted.new ≡ clear_row trusted.old (2 * w)) }
 {
-    clear_row(map, n as u64);
+    clear_row(map, u64::from(n));
     bits::set_range(map, 0, n as usize);
     clear_row(trusted, 2 * w);
 }

@@ -27,11 +27,7 @@ pub fn copy_in(dst: &mut [u8], at: usize, src: &[u8])
     requires { at + length src.now ≤ length dst.old }
     ensures { dst.new ≡ copied dst.old at src.now }
 {
-    let mut j: usize = 0;
-    while j < src.len() {
-        dst[at + j] = src[j];
-        j += 1;
-    }
+    dst[at..at + src.len()].copy_from_slice(src);
 }
 
 // Writes node b's hash and trusts it.
@@ -77,10 +73,8 @@ fn put_peaks(
         ≡ put_peaks mark (got_by (integrity_of entries.now bytes.now)) n (suc top)
         trusted.old) }
 {
-    let mut h = 0u32;
-    while h <= top {
+    for h in 0..=top {
         put_peak(hashes, trusted, entries, bytes, n, h);
-        h = h + 1;
     }
 }
 
@@ -152,11 +146,9 @@ fn put_path(
         ≡ put_path mark (hash_in scratch.now) (got_by (integrity_of entries.now bytes.now))
         c t trusted.old) }
 {
-    let mut h = 0u32;
-    while h < t {
-        let own = room::read(scratch, h as u64);
+    for h in 0..t {
+        let own = room::read(scratch, u64::from(h));
         put_pair(hashes, trusted, entries, bytes, c, h, own);
-        h = h + 1;
     }
 }
 

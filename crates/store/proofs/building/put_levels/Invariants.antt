@@ -1,5 +1,4 @@
 use mathlib.Core.Path.{◌≡◌}
-use Prim.Native.Nat.{suc, ◌-◌, ◌≤◌}
 use Rattle.verdict.specs.Room.{put_hash}
 use Rattle.store.specs.Storing.{mark}
 use Rattle.store.specs.Building.{tree_of}
@@ -7,7 +6,4 @@ use Rattle.store.specs.Steps.{put_levels}
 use Rattle.store.proofs.building.put_levels.Given as goal
 
 abbrev pub invariant-loop-h : goal.invariant-loop-h
-invariant-loop-h l = (l.h ≤ suc l.top) × (l.hashes ≡ put_levels put_hash (tree_of l.content) l.n l.h l.initial.hashes) × (l.trusted ≡ put_levels mark (tree_of l.content) l.n l.h l.initial.trusted)
-
-abbrev pub decreases-loop-h : goal.decreases-loop-h
-decreases-loop-h l = suc l.top - l.h
+invariant-loop-h l = (l.hashes ≡ put_levels put_hash (tree_of l.content) l.n l.h l.initial.hashes) × (l.trusted ≡ put_levels mark (tree_of l.content) l.n l.h l.initial.trusted)

@@ -14,4 +14,4 @@ pub overflow_sub-w : goal.overflow_sub-w
 overflow_sub-w c = omega (arith, c.leaf_places-w.ensures, pow_pos (levels c.args.n))
 
 pub returns : goal.returns
-returns c = started_is c.args.map.now c.args.hashes.now c.args.trusted.now c.args.n (bytes_of c.args.root.words) _ c.leaf_places-w.ensures c.clear_row.ensures c.clear_row-2.ensures c.trust.ensures.0 c.trust.ensures.1
+returns c = started_is c.args.map.now c.args.hashes.now c.args.trusted.now c.args.n (bytes_of c.args.root.words) _ c.leaf_places-w.ensures (rw c.from.ensures at c.clear_row.ensures) c.clear_row-2.ensures c.trust.ensures.0 c.trust.ensures.1
