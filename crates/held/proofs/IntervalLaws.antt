@@ -19,13 +19,13 @@ use Rattle.tree.proofs.Promise.{bin, first, last, first_chunk, first_plus_last}
 use Rattle.tree.proofs.Promise.{above, levels, node-above, above_nested, height_bound}
 use Rattle.wire.proofs.Promise.{empty_bin}
 use Rattle.writer.proofs.Promise.{nameable, ranges_name, bins_name, node-nameable}
-use Rattle.held.specs.declared.interval.Interval.{Interval}
+use Rattle.wire.specs.declared.range.Range.{Range}
 use Rattle.held.specs.Interval.{Biggest, run_around, is_within, height_within, node_chunks, complete_by, complete_interval}
 
 -- ---- the run
 
 -- The chunks of an interval are held.
-abbrev Held : List ℕ → Interval → Type 0
+abbrev Held : List ℕ → Range → Type 0
 Held map i = (x : ℕ) → i.first ≤ x → x ≤ i.last → bit_at map x ≡ true
 
 -- It covers the chunk.
@@ -50,7 +50,7 @@ module _ (map : List ℕ) (N c : ℕ) (h : c < N) where
       go (no b) (no q) = held-from-set map (N - suc c) (suc c) x (omega arith) (omega arith)
 
   -- Any other that is held around c lies within it.
-  run-most : (j : Interval) → (j.first ≤ c) × (c ≤ j.last) → j.last < N → Held map j
+  run-most : (j : Range) → (j.first ≤ c) × (c ≤ j.last) → j.last < N → Held map j
       → ((run_around map N c).first ≤ j.first) × (j.last ≤ (run_around map N c).last)
   unfolding run_around
   run-most j k l held =
@@ -72,10 +72,10 @@ module _ (map : List ℕ) (N c : ℕ) (h : c < N) where
 -- ---- the largest node within it
 
 -- The node of height h above chunk c lies within an interval; so says the test.
-abbrev pub Within : (h c : ℕ) → Interval → Type 0
+abbrev pub Within : (h c : ℕ) → Range → Type 0
 Within h c i = (i.first ≤ above h c) × (above h c + 2 ^ h ≤ i.last + 1)
 
-pub within-says : (h c : ℕ) (i : Interval) → is_within h c i ≡ true → Within h c i
+pub within-says : (h c : ℕ) (i : Range) → is_within h c i ≡ true → Within h c i
 within-says h c i = go (leb i.first (above h c)) refl
   where
     go : (b : Bool) → leb i.first (above h c) ≡ b → pick b (leb (above h c + 2 ^ h - 1) i.last) false ≡ true
@@ -83,11 +83,11 @@ within-says h c i = go (leb i.first (above h c)) refl
     go true e w = (leb-true _ _ e, omega (arith, leb-true (above h c + 2 ^ h - 1) i.last w, pow_pos h))
     go false e w = absurd (true≢false (sym w))
 
-pub within_if : (h c : ℕ) (i : Interval) → Within h c i → is_within h c i ≡ true
+pub within_if : (h c : ℕ) (i : Range) → Within h c i → is_within h c i ≡ true
 within_if h c i w = rw (le-leb _ _ w.0, le-leb (above h c + 2 ^ h - 1) i.last (omega (arith, w.1, pow_pos h)))
 
 -- The height found is one of those looked at.
-pub height_le : (c : ℕ) (i : Interval) (d : ℕ) → height_within d c i ≤ d
+pub height_le : (c : ℕ) (i : Range) (d : ℕ) → height_within d c i ≤ d
 unfolding height_within
 height_le c i zero = omega arith
 height_le c i (suc d) = go (is_within (suc d) c i) (height_le c i d)
@@ -96,7 +96,7 @@ height_le c i (suc d) = go (is_within (suc d) c i) (height_le c i d)
     go true h = omega arith
     go false h = omega arith
 
-module _ (c : ℕ) (i : Interval) (k : (i.first ≤ c) × (c ≤ i.last)) where
+module _ (c : ℕ) (i : Range) (k : (i.first ≤ c) × (c ≤ i.last)) where
   -- The node found lies within: the leaf does.
   pub height-in : (d : ℕ) → Within (height_within d c i) c i
   unfolding height_within

@@ -14,7 +14,7 @@ use Rattle.bits.proofs.Promise.{held_below, held_from, held-from_le}
 use Rattle.format.specs.declared.Addressing.TheVariants.{Bins, Ranges}
 use Rattle.format.specs.declared.Format.{Format}
 use Rattle.tree.proofs.Promise.{above, levels, above_nested}
-use Rattle.held.specs.declared.interval.Interval.{Interval}
+use Rattle.wire.specs.declared.range.Range.{Range}
 use Rattle.held.specs.Interval.{interval, run_around, is_within, height_within, complete_interval}
 use Rattle.held.proofs.IntervalLaws.{run-covers, Within, within_if, height_le, height-in, height-most}
 
@@ -30,23 +30,23 @@ module _ (map : List ℕ) (n c : ℕ) {f : ℕ} (fe : f ≡ held_from map (n - (
 
 -- ---- a height
 
-module _ (h c first last : ℕ) {from : ℕ} (e : from ≡ above h c) where
+module _ (h c : ℕ) (i : Range) {from : ℕ} (e : from ≡ above h c) where
   -- The node begins before the interval.
-  pub within-no : from < first → false ≡ is_within h c (interval first last)
-  within-no l = rw (lt-leb first (above h c) (omega arith))
+  pub within-no : from < i.first → false ≡ is_within h c i
+  within-no l = rw (lt-leb i.first (above h c) (omega arith))
 
   -- It does not.
-  pub within_by : {w : ℕ} → w ≡ 2 ^ h → first ≤ from → leb (from + (w - 1)) last ≡ is_within h c (interval first last)
+  pub within_by : {w : ℕ} → w ≡ 2 ^ h → i.first ≤ from → leb (from + (w - 1)) i.last ≡ is_within h c i
   within_by {w} we l =
       let s : from + (w - 1) ≡ above h c + 2 ^ h - 1 = omega (arith, e, we, pow_pos h) in
-      rw (le-leb first (above h c) (omega arith), s)
+      rw (le-leb i.first (above h c) (omega arith), s)
 
 -- The leaf lies within chunks around c.
-pub leaf_in : (c : ℕ) (i : Interval) → (i.first ≤ c) × (c ≤ i.last) → Within 0 c i
+pub leaf_in : (c : ℕ) (i : Range) → (i.first ≤ c) × (c ≤ i.last) → Within 0 c i
 leaf_in c i k = omega arith
 
 -- The height to which the nodes above c lie within is the largest: a node within has all below it within.
-pub height_is : (c : ℕ) (i : Interval) → (i.first ≤ c) × (c ≤ i.last) → (d h : ℕ) → h ≤ d → Within h c i
+pub height_is : (c : ℕ) (i : Range) → (i.first ≤ c) × (c ≤ i.last) → (d h : ℕ) → h ≤ d → Within h c i
     → (is_within (h + 1) c i ≡ false) ⊎ (d ≤ h) → h ≡ height_within d c i
 height_is c i k d h l w stop = go stop (dec_lt h (height_within d c i))
   where
@@ -63,7 +63,7 @@ height_is c i k d h l w stop = go stop (dec_lt h (height_within d c i))
 
 -- ---- by the method
 
-module _ (map : List ℕ) (n c : ℕ) {run : Interval} (re : run ≡ run_around map n c) where
+module _ (map : List ℕ) (n c : ℕ) {run : Range} (re : run ≡ run_around map n c) where
   -- What the search for the height asks for.
   pub run-around-c : {d : ℕ} → d ≤ 32 → (d < 59) × (run.first ≤ c) × (c ≤ run.last)
   run-around-c l = let k = run-covers map n c in (omega arith, rw re k.0, rw re k.1)
@@ -73,7 +73,7 @@ module _ (map : List ℕ) (n c : ℕ) {run : Interval} (re : run ≡ run_around 
   ranges-are F e = rw e re
 
   -- The height found, the first chunk of the node, and its width.
-  module _ {d h a w : ℕ} (de : d ≡ levels n) (he : h ≡ height_within d c (interval run.first run.last))
+  module _ {d h a w : ℕ} (de : d ≡ levels n) (he : h ≡ height_within d c run)
       (ae : a ≡ above h c) (we : w ≡ 2 ^ h) where
     found : h ≡ height_within (levels n) c (run_around map n c)
     found = he ∙ rw (de, re)

@@ -1,66 +1,57 @@
 // The biggest complete interval of held chunks around one, which an ACK names.
 ghost use Rattle.std.specs.Prelude.{◌≡◌, ◌≤◌, ◌<◌};
-ghost use Rattle.held.specs.Interval.{interval, run_around, is_within, height_within, complete_interval};
+ghost use Rattle.held.specs.Interval.{run_around, is_within, height_within, complete_interval};
 
 use bits::search;
 use format::{Addressing, Format};
 use tree::{bin, pack, peaks};
-
-// The chunks from first to last.
-#[derive(Clone, Copy)]
-pub struct Interval {
-    pub first: u32,
-    pub last: u32,
-}
+use wire::range::Range;
 
 // The run of held chunks around chunk c of n.
-fn run_around(map: &[u32], n: u32, c: u32) -> Interval
+fn run_around(map: &[u32], n: u32, c: u32) -> Range
     ensures { result ≡ run_around map.now n c }
 {
     let below = search::run_below(map, c as usize);
     let behind = search::run_from(map, c as usize + 1, n as usize);
-    Interval {
+    Range {
         first: c - below as u32,
         last: c + behind as u32,
     }
 }
 
-// Whether the node of height h above chunk c lies within the chunks from first to last.
-fn is_within(h: u32, c: u32, first: u32, last: u32) -> bool
+// Whether the node of height h above chunk c lies within an interval.
+fn is_within(h: u32, c: u32, interval: Range) -> bool
     requires { h < 60 }
-    ensures { result ≡ is_within h c (interval first last) }
+    ensures { result ≡ is_within h c interval }
 {
     let from = peaks::above(c, h);
-    if from < first as u64 {
-        return false;
-    }
-    from + (bin::pow2(h) - 1) <= last as u64
+    u64::from(interval.first) <= from && from + (bin::pow2(h) - 1) <= u64::from(interval.last)
 }
 
-// The largest height up to `most` at which it does, where c is one of them.
-fn height_within(most: u32, c: u32, first: u32, last: u32) -> u32
-    requires { (most < 59) × (first ≤ c) × (c ≤ last) }
-    ensures { (result ≡ height_within most c (interval first last)) × (result ≤ most) }
+// The largest height up to `most` at which it does, where c is one of its chunks.
+fn height_within(most: u32, c: u32, interval: Range) -> u32
+    requires { (most < 59) × (interval.first ≤ c) × (c ≤ interval.last) }
+    ensures { (result ≡ height_within most c interval) × (result ≤ most) }
 {
-    let mut h: u32 = 0;
-    while h < most && is_within(h + 1, c, first, last) {
-        h += 1;
+    for h in 0..most {
+        if !is_within(h + 1, c, interval) {
+            return h;
+        }
     }
-    h
+    most
 }
 
 // The biggest complete interval around the held chunk c of n that the method names.
-pub fn complete_interval(format: Format, map: &[u32], n: u32, c: u32) -> Interval
+pub fn complete_interval(format: Format, map: &[u32], n: u32, c: u32) -> Range
     ensures { result ≡ complete_interval format map.now n c }
 {
     let run = run_around(map, n, c);
-    let addressing = format.addressing;
-    match addressing {
+    match format.addressing {
         Addressing::Ranges => run,
         Addressing::Bins => {
-            let h = height_within(pack::levels(n), c, run.first, run.last);
+            let h = height_within(pack::levels(n), c, run);
             let first = peaks::above(c, h);
-            Interval {
+            Range {
                 first: first as u32,
                 last: (first + (bin::pow2(h) - 1)) as u32,
             }

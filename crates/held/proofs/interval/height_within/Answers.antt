@@ -1,29 +1,19 @@
-use Prim.Native.Nat.{◌+◌}
 use native.Mathlib.Omega.{arith}
 use mathlib.Core.Logic.{inl, inr}
-use mathlib.Core.Path.{sym, ◌∙◌}
-use Rattle.held.specs.Interval.{interval}
-use Rattle.held.proofs.IntervalLaws.{within-says}
-use Rattle.held.proofs.SearchLaws.{leaf_in, height_is}
+use mathlib.Core.Path.{◌≡◌, sym, ◌∙◌}
+use Rattle.held.proofs.SearchLaws.{height_is}
 use Rattle.held.proofs.interval.height_within.Goals as goal
 
-pub loop-h-init : goal.loop-h-init
-loop-h-init c = (omega arith, leaf_in c.args.c (interval c.args.first c.args.last) (c.requires.1, c.requires.2))
-
-pub loop-h-preserved : goal.loop-h-preserved
-loop-h-preserved c = let e = sym c.is_within.ensures ∙ c.if-is_within.true in
-    (omega arith, within-says (c.loop-h.h + 1) c.args.c (interval c.args.first c.args.last) e)
-
-pub returns-else-is_within : goal.returns-else-is_within
-returns-else-is_within c = (
-  height_is c.args.c (interval c.args.first c.args.last) (c.requires.1, c.requires.2) c.args.most c.loop-h.h c.loop-h.invariant.0 c.loop-h.invariant.1
-      (inl (sym c.is_within.ensures ∙ c.if-is_within.false)),
-  c.loop-h.invariant.0,
+pub returns-then-not-is_within : goal.returns-then-not-is_within
+returns-then-not-is_within c = (
+  height_is c.args.c c.args.interval (c.requires.1, c.requires.2) c.args.most c.loop-h.h (omega arith) c.loop-h.invariant
+      (inl (sym c.is_within.ensures ∙ c.if-not-is_within.true)),
+  omega arith,
 )
 
-pub returns-after-loop-h : goal.returns-after-loop-h
-returns-after-loop-h c = (
-  height_is c.args.c (interval c.args.first c.args.last) (c.requires.1, c.requires.2) c.args.most c.loop-h.h c.loop-h.invariant.0 c.loop-h.invariant.1
+pub returns : goal.returns
+returns c = let e : c.loop-h.h ≡ c.args.most = omega arith in (
+  height_is c.args.c c.args.interval (c.requires.1, c.requires.2) c.args.most c.args.most (omega arith) (rw e at c.loop-h.invariant)
       (inr (omega arith)),
-  c.loop-h.invariant.0,
+  omega arith,
 )
