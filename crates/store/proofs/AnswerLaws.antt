@@ -1,17 +1,15 @@
--- The numbers that refuse a call, test by test as the code has them, and what an answer of 0 says. Assumes nothing.
-use mathlib.Core.Path.{◌≡◌, refl, sym, ◌∙◌}
+-- What an answer of 0 says. Assumes nothing.
+use mathlib.Core.Path.{◌≡◌, refl}
 use mathlib.Core.Logic.{◌≢◌}
 use mathlib.Core.Bool.{Bool, true, false, true≢false, ◌&&◌, not}
-use Prim.Native.Nat.{ℕ, zero, suc, ◌*◌, ◌≤◌, ◌<◌}
+use Prim.Native.Nat.{ℕ, zero, suc, ◌≤◌, ◌<◌}
 use native.Mathlib.Omega.{arith}
-use borrow.Author.Tests.{lt-ltb, le-ltb, le-leb, lt-leb, eq-eqb, ne_eqb, eqb-true, eqb-false, leb-true, leb-false, ltb-false}
+use borrow.Author.Tests.{le-ltb, ne_eqb, eqb-true, eqb-false, leb-true, leb-false, ltb-false}
 use lib.Dec.{leb, ltb, eqb}
 use Rattle.base.specs.Pick.{pick}
-use Rattle.bits.proofs.Promise.{row_words}
-use Rattle.tree.specs.Pack.{chunk_size, max_length, size, leaf_places}
+use Rattle.tree.specs.Pack.{chunk_size, max_length, size}
 use Rattle.verdict.specs.Rooms.{count_of}
-use Rattle.store.specs.Answers.{earlier, length_answer, content_answer, map_words, hash_words, trusted_words, room_answer, order_answer, chunk_answer}
-use Rattle.store.specs.Calls.{build_answer}
+use Rattle.store.specs.Answers.{earlier, length_answer, map_words, hash_words, trusted_words, room_answer, chunk_answer}
 
 -- ---- a chain of tests
 
@@ -44,88 +42,9 @@ length_facts L e =
     positive : (n : ℕ) → (n ≡ 0 → ⊥) → 0 < n
     positive n d = omega (arith, d)
 
-module _ (L : ℕ) where
-  pub length-zero : L ≡ 0 → 12 ≡ length_answer L
-  unfolding length_answer
-  length-zero e = rw (eq-eqb L 0 e)
-
-  pub length_over : L ≢ 0 → max_length < L → 12 ≡ length_answer L
-  unfolding length_answer
-  length_over d l = rw (ne_eqb L 0 d, lt-ltb max_length L l)
-
-  pub length-right : L ≢ 0 → L ≤ max_length → 0 ≡ length_answer L
-  unfolding length_answer
-  length-right d l = rw (ne_eqb L 0 d, le-ltb max_length L l)
-
--- ---- the rooms
-
-module _ (L b m h t n w x y : ℕ) (ne : n ≡ count_of L) (we : w ≡ leaf_places n) where
-  pub bytes-short : b < L → 11 ≡ room_answer L b m h t
-  unfolding room_answer
-  bytes-short l = rw (lt-leb L b l)
-
-  module _ (bl : L ≤ b) (xe : x ≡ row_words n) where
-    pub map-short : m < x → 11 ≡ room_answer L b m h t
-    unfolding room_answer
-    map-short l = rw (le-leb L b bl, ← ne, ← xe, lt-leb x m l)
-
-    module _ (ml : x ≤ m) where
-      pub hashes-short : h < 16 * w → 11 ≡ room_answer L b m h t
-      unfolding room_answer
-      hashes-short l = rw (le-leb L b bl, ← ne, ← xe, le-leb x m ml, ← we, lt-leb (16 * w) h l)
-
-      module _ (hl : 16 * w ≤ h) (ye : y ≡ row_words (2 * w)) where
-        pub trusted-short : t < y → 11 ≡ room_answer L b m h t
-        unfolding room_answer
-        trusted-short l = rw (le-leb L b bl, ← ne, ← xe, le-leb x m ml, ← we, le-leb (16 * w) h hl, ← ye, lt-leb y t l)
-
-        pub rooms-right : y ≤ t → 0 ≡ room_answer L b m h t
-        unfolding room_answer
-        rooms-right l = rw (le-leb L b bl, ← ne, ← xe, le-leb x m ml, ← we, le-leb (16 * w) h hl, ← ye, le-leb y t l)
-
--- ---- one after the other
-
-pub order-refused : (L b m h t : ℕ) {r : ℕ} → r ≡ length_answer L → r ≢ 0 → r ≡ order_answer L b m h t
-unfolding order_answer
-order-refused L b m h t e d = e ∙ earlier_not (length_answer L) (room_answer L b m h t) (λ z. d (e ∙ z))
-
-pub order-rooms : (L b m h t : ℕ) {r s : ℕ} → r ≡ length_answer L → r ≡ 0 → s ≡ room_answer L b m h t → s ≡ order_answer L b m h t
-unfolding order_answer
-order-rooms L b m h t e z f = f ∙ sym (earlier-zero (length_answer L) (room_answer L b m h t) (sym e ∙ z))
-
-module _ (L n b m h t : ℕ) {r : ℕ} (e : r ≡ length_answer L) where
-  pub build-refused : r ≢ 0 → r ≡ build_answer L n b m h t
-  unfolding build_answer
-  build-refused d = e ∙ go (length_answer L) (λ z. d (e ∙ z))
-    where
-      go : (x : ℕ) → x ≢ 0 → x ≡ earlier (earlier x (content_answer L n)) (room_answer L b m h t)
-      go zero q = absurd (q refl)
-      go (suc x) q = refl
-
-  module _ (z : r ≡ 0) where
-    pub build-other : n ≢ L → 12 ≡ build_answer L n b m h t
-    unfolding build_answer
-    build-other d = rw (sym e ∙ z, ne_eqb n L d)
-
-    pub build-rooms : n ≡ L → {s : ℕ} → s ≡ room_answer L b m h t → s ≡ build_answer L n b m h t
-    unfolding build_answer
-    build-rooms q f = rw (sym e ∙ z, eq-eqb n L q) f
-
--- ---- the chunk
-
-module _ (L c n k : ℕ) (ke : k ≡ count_of L) where
-  pub chunk-past : k ≤ c → 7 ≡ chunk_answer L c n
-  unfolding chunk_answer
-  chunk-past l = rw (← ke, le-leb k c l)
-
-  module _ (l : c < k) (s : ℕ) (se : s ≡ size chunk_size L c) where
-    pub chunk-other : n ≢ s → 8 ≡ chunk_answer L c n
-    unfolding chunk_answer
-    chunk-other d = rw (← ke, lt-leb k c l, ← se, ne_eqb n s d)
-
-    pub chunk-right : n ≡ s → 0 ≡ chunk_answer L c n
-    unfolding chunk_answer
-    chunk-right e = rw (← ke, lt-leb k c l, ← se, eq-eqb n s e)
+pub length-right : (L : ℕ) → L ≢ 0 → L ≤ max_length → 0 ≡ length_answer L
+unfolding length_answer
+length-right L d l = rw (ne_eqb L 0 d, le-ltb max_length L l)
 
 -- ---- what an answer of 0 says
 

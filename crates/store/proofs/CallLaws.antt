@@ -1,9 +1,9 @@
 -- The calls on the rooms, return by return as the code has them. Assumes nothing.
 use mathlib.Core.Path.{◌≡◌, refl, sym, ap, ap₂, ◌∙◌}
-use mathlib.Core.Logic.{◌≢◌}
+use mathlib.Core.Logic.{◌≢◌, ◌⊎◌, inl, inr}
 use mathlib.Core.Bool.{Bool, true, false, not}
 use mathlib.Core.List.{List, []}
-use Prim.Native.Nat.{ℕ, zero, suc, ◌+◌, ◌*◌, ◌≤◌, ◌<◌}
+use Prim.Native.Nat.{ℕ, ◌+◌, ◌*◌, ◌≤◌, ◌<◌}
 use native.Mathlib.Omega.{arith}
 use borrow.Author.Tests.{eqb-true}
 use lib.Dec.{eqb}
@@ -15,19 +15,23 @@ use Rattle.tree.specs.Pack.{chunk_size, max_length, leaf_places, root_node}
 use Rattle.tree.specs.Verdicts.{number, named, peaks_trusted, reached}
 use Rattle.tree.specs.Verdicts as theory
 use Rattle.tree.specs.declared.verdict.Verdict.{Verdict}
-use Rattle.tree.specs.declared.verdict.Verdict.TheVariants.{Fits, Missing, WrongPeaks, WrongClimb}
+use Rattle.tree.specs.declared.verdict.Verdict.TheVariants.{Fits, WrongPeaks, WrongClimb}
 use Rattle.verdict.specs.Room.{filler, put_hash}
 use Rattle.verdict.specs.Integrity.{Integrity, came_from}
 use Rattle.verdict.specs.Rooms.{Rooms, rooms_of, count_of, state_of}
 use Rattle.verdict.specs.Steps.{room_reached, room_verdict}
 use Rattle.store.specs.Storing.{store_spec}
-use Rattle.store.specs.Building.{clear_row, start_rooms, build_rooms}
+use Rattle.store.specs.Building.{clear_row, start_rooms}
 use Rattle.store.specs.Answers.{earlier, length_answer, content_answer, room_answer, order_answer, chunk_answer}
-use Rattle.store.specs.Calls.{rooms_answer, start_spec, build_answer, build_spec, take_spec}
-use Rattle.store.specs.Steps.{found_root, store_if_fits}
-use Rattle.base.proofs.OutLaws.{at-not, at_done, at_zero, at-unaltered, unless_not, unless-done, unless-zero, done-unaltered, unless-unaltered}
+use Rattle.store.specs.Calls.{rooms_answer, start_spec, build_answer, take_spec}
+use Rattle.store.specs.Steps.{store_if_fits}
+use Rattle.base.proofs.OutLaws.{at-not, at_done, at_zero, at-unaltered, unless-done, unless-zero, done-unaltered, unless-unaltered, refusal_number}
 use Rattle.base.specs.Out.{Out, out_at, out_of, unless_at, unless}
 use Rattle.base.specs.Out.{Named}
+use Rattle.base.specs.Refusal as refusal
+use Rattle.base.specs.declared.Refusal.{Refusal}
+use Rattle.base.specs.declared.Refusal.TheVariants.{HashWrong}
+use Rattle.std.specs.Prelude.{Some}
 use Rattle.store.proofs.AnswerLaws.{both_zero, length_facts, room_facts, chunk_facts}
 use Rattle.tree.proofs.ChunkLaws.{chunk_inside}
 use Rattle.verdict.proofs.VerdictLaws.{fits_reached, verdict_sees}
@@ -58,22 +62,17 @@ module _ (m n : ℕ) (b : Named) (w x : Rooms) where
 
 -- ---- starting
 
-module _ (w : Rooms) (r : List ℕ) (L k : ℕ) (ke : k ≡ rooms_answer L w) where
-  pub start-refused : k ≢ 0 → out_of k 0 w ≡ start_spec w r L
-  unfolding start_spec
-  start-refused d = ap (λ (x : ℕ). out_of x 0 w) ke ∙ unless_not (rooms_answer L w) w _ (λ z. d (ke ∙ z))
-
-  pub start-done : k ≡ 0 → (n : ℕ) {m h t : List ℕ} → n ≡ count_of L
-      → rooms_of [] m h t ≡ start_rooms (rooms_of [] w.map w.hashes w.trusted) n r → out_of 0 0 (rooms_of w.bytes m h t) ≡ start_spec w r L
-  unfolding start_spec start_rooms
-  start-done z n {m} {h} {t} ne e =
-      ap (out_of 0 0) (whole (ap (λ (x : Rooms). x.map) e) (ap (λ (x : Rooms). x.hashes) e) (ap (λ (x : Rooms). x.trusted) e))
-      ∙ ap (λ (x : ℕ). out_of 0 0 (start_rooms w x r)) ne
-      ∙ unless-done (rooms_answer L w) w (out_of 0 0 (start_rooms w (count_of L) r)) (sym ke ∙ z)
-    where
-      whole : m ≡ clear_row w.map n → h ≡ put_hash w.hashes (root_node n) r → t ≡ set_bit (clear_row w.trusted (2 * leaf_places n)) (root_node n)
-          → rooms_of w.bytes m h t ≡ start_rooms w n r
-      whole p q s = cc
+pub start-done : (w : Rooms) (r : List ℕ) (L n : ℕ) {m h t : List ℕ} → 0 ≡ rooms_answer L w → n ≡ count_of L
+    → rooms_of [] m h t ≡ start_rooms (rooms_of [] w.map w.hashes w.trusted) n r → out_of 0 0 (rooms_of w.bytes m h t) ≡ start_spec w r L
+unfolding start_spec start_rooms
+start-done w r L n {m} {h} {t} z ne e =
+    ap (out_of 0 0) (whole (ap (λ (x : Rooms). x.map) e) (ap (λ (x : Rooms). x.hashes) e) (ap (λ (x : Rooms). x.trusted) e))
+    ∙ ap (λ (x : ℕ). out_of 0 0 (start_rooms w x r)) ne
+    ∙ unless-done (rooms_answer L w) w (out_of 0 0 (start_rooms w (count_of L) r)) (sym z)
+  where
+    whole : m ≡ clear_row w.map n → h ≡ put_hash w.hashes (root_node n) r → t ≡ set_bit (clear_row w.trusted (2 * leaf_places n)) (root_node n)
+        → rooms_of w.bytes m h t ≡ start_rooms w n r
+    whole p q s = cc
 
 -- ---- building
 
@@ -84,39 +83,19 @@ content_long L n e = go (eqb n L) refl e
     go true q e = eqb-true n L q
     go false q e = absurd (omega arith)
 
-module _ (w : Rooms) (L k : ℕ) (s : List ℕ)
-    (ke : k ≡ build_answer L (length s) (length w.bytes) (length w.map) (length w.hashes) (length w.trusted)) where
-  pub build-not : k ≢ 0 → out_of k 0 w ≡ build_spec w L s
-  unfolding build_spec
-  build-not d = ap (λ (x : ℕ). out_of x 0 w) ke ∙ unless_not _ w _ (λ z. d (ke ∙ z))
-
-  pub build-done : k ≡ 0 → {x : Rooms} → x ≡ build_rooms w (count_of (length s)) s → out_of 0 0 x ≡ build_spec w L s
-  unfolding build_spec
-  build-done z e = ap (out_of 0 0) e ∙ unless-done _ w (out_of 0 0 (build_rooms w (count_of (length s)) s)) (sym ke ∙ z)
-
-  -- an answer of 0: the content has the order's length, and the rooms are large enough
-  pub build-facts : k ≡ 0 → (n : ℕ) → n ≡ count_of L
-      → (n ≡ count_of (length s)) × (16 * leaf_places n ≤ length w.hashes) × (length s ≤ length w.bytes)
-  unfolding build_answer
-  build-facts z n ne =
-      let p = both_zero (earlier (length_answer L) (content_answer L (length s))) (room_answer L (length w.bytes) (length w.map) (length w.hashes) (length w.trusted)) (sym ke ∙ z) in
-      let q = both_zero (length_answer L) (content_answer L (length s)) p.0 in
-      let e = content_long L (length s) q.1 in
-      let f = room_facts L (length w.bytes) (length w.map) (length w.hashes) (length w.trusted) p.1 in
-      (ne ∙ ap count_of (sym e), rw ne f.2, omega (arith, e, f.0))
-
-pub root_not : (k : ℕ) (r : List ℕ) {x : List ℕ} → k ≢ 0 → x ≡ filler → x ≡ found_root k r
-root_not zero r d e = absurd (d refl)
-root_not (suc k) r d e = e
+-- not refused: the content has the order's length, and the rooms are large enough
+pub build-facts : (w : Rooms) (L n : ℕ) (s : List ℕ)
+    → 0 ≡ build_answer L (length s) (length w.bytes) (length w.map) (length w.hashes) (length w.trusted) → n ≡ count_of L
+    → (n ≡ count_of (length s)) × (16 * leaf_places n ≤ length w.hashes) × (length s ≤ length w.bytes)
+unfolding build_answer
+build-facts w L n s z ne =
+    let p = both_zero (earlier (length_answer L) (content_answer L (length s))) (room_answer L (length w.bytes) (length w.map) (length w.hashes) (length w.trusted)) (sym z) in
+    let q = both_zero (length_answer L) (content_answer L (length s)) p.0 in
+    let e = content_long L (length s) q.1 in
+    let f = room_facts L (length w.bytes) (length w.map) (length w.hashes) (length w.trusted) p.1 in
+    (ne ∙ ap count_of (sym e), rw ne f.2, omega (arith, e, f.0))
 
 -- ---- taking
-
--- the verdicts that refuse a chunk
-refuses : (v : Verdict) → ((t : ℕ) → v ≡ Fits t → ⊥) → number v ≢ 0
-refuses (Fits t) h e = absurd (h t refl)
-refuses (Missing b) h e = omega arith
-refuses (WrongPeaks b) h e = omega arith
-refuses (WrongClimb b) h e = omega arith
 
 -- the height reached is found in the row of trusted nodes alone
 reached_in : (w : Rooms) (L N c : ℕ) → room_reached N w.trusted c ≡ reached N (state_of L w) c
@@ -127,46 +106,45 @@ reached_in w L N c = refl
 pub fits-at : (w : Rooms) (r : List ℕ) (L N c : ℕ) (d : List ℕ) (o : Integrity) (t : ℕ) → room_verdict N r w.hashes w.trusted c d o ≡ Fits t → t ≡ reached N (state_of L w) c
 fits-at w r L N c d o t e = fits_reached N r w.hashes w.trusted c d o t e ∙ reached_in w L N c
 
-module _ (w : Rooms) (r : List ℕ) (N c : ℕ) (d : List ℕ) (o : Integrity) (v : Verdict) (vo : v ≡ room_verdict N r w.hashes w.trusted c d o)
-    (n : ℕ) (b : Named) (ne : n ≡ number v) (be : b ≡ named v) where
-  pub if-fits : (t : ℕ) (w' : Rooms) → v ≡ Fits t → w' ≡ store_spec w N c t d o → out_at n 0 b w' ≡ store_if_fits w r N c d o
+module _ (w : Rooms) (r : List ℕ) (N c : ℕ) (d : List ℕ) (o : Integrity) (v : Verdict) (vo : v ≡ room_verdict N r w.hashes w.trusted c d o) where
+  pub if-fits : (t : ℕ) (w' : Rooms) → v ≡ Fits t → w' ≡ store_spec w N c t d o → out_of 0 0 w' ≡ store_if_fits w r N c d o
   unfolding store_if_fits
   if-fits t w' e f =
-      let z : number v ≡ 0 = ap number e in
-      rw (ne ∙ z, be ∙ ap named e)
-      (ap (out_of 0 0) (f ∙ ap (λ (h : ℕ). store_spec w N c h d o) (fits-at w r 0 N c d o t (sym vo ∙ e)))
-      ∙ at_done _ _ w _ (ap number (sym vo) ∙ z))
+      ap (out_of 0 0) (f ∙ ap (λ (h : ℕ). store_spec w N c h d o) (fits-at w r 0 N c d o t (sym vo ∙ e)))
+      ∙ at_done _ _ w _ (ap number (sym vo ∙ e))
 
-  pub if-refused : ((t : ℕ) → v ≡ Fits t → ⊥) → out_at n 0 b w ≡ store_if_fits w r N c d o
+  -- What the verdict says, as the refusal that the code gives.
+  pub if-refused : (e : Refusal) → number v ≡ refusal.number e → named v ≡ refusal.node e
+      → out_at (refusal.number e) 0 (refusal.node e) w ≡ store_if_fits w r N c d o
   unfolding store_if_fits
-  if-refused h =
-      ap₂ (λ (x : ℕ) (y : Named). out_at x 0 y w) (ne ∙ ap number vo) (be ∙ ap named vo)
-      ∙ at-not _ _ w _ (λ z. refuses v h (ap number vo ∙ z))
+  if-refused e p q =
+      ap₂ (λ (x : ℕ) (y : Named). out_at x 0 y w) (sym p ∙ ap number vo) (sym q ∙ ap named vo)
+      ∙ at-not _ _ w _ (λ z. refusal_number e (sym p ∙ ap number vo ∙ z))
 
-module _ (w : Rooms) (r : List ℕ) (L c : ℕ) (d : List ℕ) (o : Integrity) (k : ℕ) (ke : k ≡ earlier (rooms_answer L w) (chunk_answer L c (length d))) where
-  -- what follows the tests before the verdict
-  take-is : unless k w (store_if_fits w r (count_of L) c d o) ≡ take_spec w r L c d o
+  pub if-wrong : (b : ℕ) → (v ≡ WrongPeaks b) ⊎ (v ≡ WrongClimb b) → out_at 10 0 (Some b) w ≡ store_if_fits w r N c d o
+  if-wrong b (inl e) = if-refused (HashWrong b) (ap number e) (ap named e)
+  if-wrong b (inr e) = if-refused (HashWrong b) (ap number e) (ap named e)
+
+module _ (w : Rooms) (r : List ℕ) (L c : ℕ) (d : List ℕ) (o : Integrity) (z : 0 ≡ earlier (rooms_answer L w) (chunk_answer L c (length d))) where
+  -- What follows the tests before the verdict.
+  pub take-judged : (n : ℕ) {x : Out Rooms} → n ≡ count_of L → x ≡ store_if_fits w r n c d o → x ≡ take_spec w r L c d o
   unfolding take_spec store_if_fits
-  take-is =
-      ap₂ (λ (x : ℕ) (v : Verdict). unless x w (unless_at (number v) (named v) w (out_of 0 0 (store_spec w (count_of L) c (reached (count_of L) (state_of 0 w) c) d o))))
-      ke (verdict_sees (count_of L) r w.hashes w.trusted c d o L w.bytes w.map)
-      ∙ ap (λ (h : ℕ). unless (earlier (rooms_answer L w) (chunk_answer L c (length d))) w (unless_at (number seen) (named seen) w (out_of 0 0 (store_spec w (count_of L) c h d o))))
+  take-judged n ne e =
+      e ∙ ap (λ (y : ℕ). store_if_fits w r y c d o) ne
+      ∙ ap (λ (v : Verdict). unless_at (number v) (named v) w (out_of 0 0 (store_spec w (count_of L) c (reached (count_of L) (state_of 0 w) c) d o)))
+      (verdict_sees (count_of L) r w.hashes w.trusted c d o L w.bytes w.map)
+      ∙ ap (λ (h : ℕ). unless_at (number seen) (named seen) w (out_of 0 0 (store_spec w (count_of L) c h d o)))
       (sym (reached_in w 0 (count_of L) c) ∙ reached_in w L (count_of L) c)
+      ∙ unless-done (earlier (rooms_answer L w) (chunk_answer L c (length d))) w _ (sym z)
     where
       seen : Verdict
       seen = theory.verdict sha256 filler (count_of L) r (state_of L w) c d (came_from o)
 
-  pub take-refused : k ≢ 0 → out_of k 0 w ≡ take_spec w r L c d o
-  take-refused q = unless_not k w (store_if_fits w r (count_of L) c d o) q ∙ take-is
-
-  pub take-judged : k ≡ 0 → (n : ℕ) {x : Out Rooms} → n ≡ count_of L → x ≡ store_if_fits w r n c d o → x ≡ take_spec w r L c d o
-  take-judged z n ne e = e ∙ ap (λ (y : ℕ). store_if_fits w r y c d o) ne ∙ unless-done k w (store_if_fits w r (count_of L) c d o) z ∙ take-is
-
-  -- an answer of 0: the chunk is one of a pack within the limit, and has its place in the room
-  pub take-facts : k ≡ 0 → (n : ℕ) → n ≡ count_of L → (c < n) × (n ≤ count_of max_length) × (chunk_size * c + length d ≤ length w.bytes)
+  -- The chunk is one of a pack within the limit, and has its place in the room.
+  pub take-facts : (n : ℕ) → n ≡ count_of L → (c < n) × (n ≤ count_of max_length) × (chunk_size * c + length d ≤ length w.bytes)
   unfolding order_answer
-  take-facts z n ne =
-      let p = both_zero (rooms_answer L w) (chunk_answer L c (length d)) (sym ke ∙ z) in
+  take-facts n ne =
+      let p = both_zero (rooms_answer L w) (chunk_answer L c (length d)) (sym z) in
       let q = both_zero (length_answer L) (room_answer L (length w.bytes) (length w.map) (length w.hashes) (length w.trusted)) p.0 in
       let f = room_facts L (length w.bytes) (length w.map) (length w.hashes) (length w.trusted) q.1 in
       let g = chunk_facts L c (length d) p.1 in

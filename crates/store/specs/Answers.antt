@@ -4,7 +4,12 @@ use Rattle.std.specs.Prelude.{ℕ, ◌*◌, ◌≤◌, ◌&&◌, not, leb, ltb, 
 use Rattle.bits.proofs.Promise.{row_words}
 use Rattle.tree.specs.Pack.{chunk_size, max_length, size, leaf_places}
 use Rattle.verdict.specs.Rooms.{Rooms, count_of}
+use Rattle.store.specs.declared.answers.Sizes.{Sizes}
 pub use Rattle.base.specs.Pick.{pick, earlier}
+
+-- The sizes of a store's rooms.
+abbrev pub sizes_of : Rooms → Sizes
+sizes_of w = record { chunks = length w.bytes; map = length w.map; hashes = length w.hashes; trusted = length w.trusted }
 
 -- 12: the order's length is 0 or over the limit.
 unfoldable pub length_answer : ℕ → ℕ

@@ -8,7 +8,7 @@ use Rattle.tree.specs.Node.{above, sibling_from}
 use Rattle.tree.specs.Steps.{peak_bit}
 use Rattle.tree.specs.Tree.{climb}
 use Rattle.tree.specs.Verdicts.{number, named, reached}
-use Rattle.verdict.specs.Room.{filler, hash_in}
+use Rattle.verdict.specs.Room.{hash_in}
 use Rattle.verdict.specs.Integrity.{Integrity}
 use Rattle.verdict.specs.Rooms.{Rooms, state_of}
 use Rattle.verdict.specs.Steps.{room_verdict}
@@ -60,8 +60,3 @@ unfoldable pub store_if_fits : Rooms → List ℕ → ℕ → ℕ → List ℕ �
 store_if_fits w r N c d o =
     let v = room_verdict N r w.hashes w.trusted c d o in
     unless_at (number v) (named v) w (out_of 0 0 (store_spec w N c (reached N (state_of 0 w) c) d o))
-
--- The root that building gives back: a refused one finds none and gives the filler.
-abbrev pub found_root : ℕ → List ℕ → List ℕ
-found_root zero r = r
-found_root (suc n) r = filler

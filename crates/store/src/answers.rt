@@ -1,102 +1,103 @@
-// The numbers that refuse a call, in 01's order, from the order's length and the rooms' lengths alone.
+// What refuses a call, in 01's order, by the order's length and the rooms' sizes alone.
 ghost use Rattle.std.specs.Prelude.{◌≡◌};
-ghost use Rattle.store.specs.Answers.{earlier, length_answer, room_answer, order_answer, chunk_answer};
+ghost use Rattle.base.specs.Out.{Answers};
+ghost use Rattle.verdict.specs.Rooms.{rooms_of};
+ghost use Rattle.store.specs.Answers.{earlier, length_answer, room_answer, order_answer, chunk_answer, sizes_of};
 ghost use Rattle.store.specs.Calls.{build_answer};
 
-// 12: the order's length is 0 or over the limit.
-pub fn length_answer(length: u32) -> u32
-    ensures { result ≡ length_answer length }
+use base::Refusal;
+use tree::pack;
+
+// The order's length is neither 0 nor over the limit.
+pub fn length_answer(length: u32) -> Result<(), Refusal>
+    ensures { Answers result (length_answer length) }
 {
-    if length == 0 {
-        return 12;
+    if length == 0 || length > pack::MAX_LENGTH {
+        return Err(Refusal::Order);
     }
-    if length > tree::pack::MAX_LENGTH {
-        return 12;
-    }
-    0
+    Ok(())
 }
 
-// 11: a room is too small.
-fn room_answer(length: u32, chunks: usize, map: usize, hashes: usize, trusted: usize) -> u32
-    ensures { result ≡ room_answer length chunks map hashes trusted }
+// Chunk c is one of the pack, and has this length.
+fn chunk_answer(length: u32, c: u32, size: usize) -> Result<(), Refusal>
+    ensures { Answers result (chunk_answer length c size) }
 {
-    let n = tree::pack::chunk_count(length);
-    let w = tree::pack::leaf_places(n);
-    if chunks < length as usize {
-        return 11;
+    if pack::chunk_count(length) <= c {
+        return Err(Refusal::PastPack);
     }
-    if (map as u64) < bits::row_words(n as u64) {
-        return 11;
+    if size != pack::chunk_size(length, c) as usize {
+        return Err(Refusal::ChunkSize);
     }
-    if (hashes as u64) < 16 * w {
-        return 11;
-    }
-    if (trusted as u64) < bits::row_words(2 * w) {
-        return 11;
-    }
-    0
+    Ok(())
 }
 
-// 12, then 11.
-pub fn order_answer(length: u32, chunks: usize, map: usize, hashes: usize, trusted: usize) -> u32
-    ensures { result ≡ order_answer length chunks map hashes trusted }
-{
-    let refused = length_answer(length);
-    if refused != 0 {
-        return refused;
-    }
-    room_answer(length, chunks, map, hashes, trusted)
+// The sizes of a store's rooms: the chunks' in bytes, the others' in words.
+#[derive(Clone, Copy)]
+pub struct Sizes {
+    pub chunks: usize,
+    pub map: usize,
+    pub hashes: usize,
+    pub trusted: usize,
 }
 
-// The same for building, 12 also where the content has another length.
-pub fn build_answer(
-    length: u32,
-    content: usize,
-    chunks: usize,
-    map: usize,
-    hashes: usize,
-    trusted: usize,
-) -> u32
-    ensures { result ≡ build_answer length content chunks map hashes trusted }
-{
-    let refused = length_answer(length);
-    if refused != 0 {
-        return refused;
+impl Sizes {
+    // The sizes of these rooms.
+    pub fn of(chunks: &[u8], map: &[u32], hashes: &[u32], trusted: &[u32]) -> Sizes
+        ensures { result ≡ sizes_of (rooms_of chunks.now map.now hashes.now trusted.now) }
+    {
+        Sizes {
+            chunks: chunks.len(),
+            map: map.len(),
+            hashes: hashes.len(),
+            trusted: trusted.len(),
+        }
     }
-    if content != length as usize {
-        return 12;
-    }
-    room_answer(length, chunks, map, hashes, trusted)
-}
 
-// 7: chunk c is past the pack; 8: it has another length.
-fn chunk_answer(length: u32, c: u32, size: usize) -> u32
-    ensures { result ≡ chunk_answer length c size }
-{
-    if tree::pack::chunk_count(length) <= c {
-        return 7;
+    // No room is too small for a pack of this length.
+    fn room_answer(self, length: u32) -> Result<(), Refusal>
+        ensures { Answers result (room_answer length self.chunks self.map self.hashes self.trusted) }
+    {
+        let n = pack::chunk_count(length);
+        let w = pack::leaf_places(n);
+        let map_words = bits::row_words(u64::from(n));
+        let trusted_words = bits::row_words(2 * w);
+        if length as usize <= self.chunks
+            && map_words <= self.map as u64
+            && 16 * w <= self.hashes as u64
+            && trusted_words <= self.trusted as u64
+        {
+            return Ok(());
+        }
+        Err(Refusal::RoomTooSmall)
     }
-    if size != tree::pack::chunk_size(length, c) as usize {
-        return 8;
-    }
-    0
-}
 
-// All that refuses a chunk before its hashes are looked at: 12, 11, 7, 8.
-pub(crate) fn take_answer(
-    length: u32,
-    chunks: usize,
-    map: usize,
-    hashes: usize,
-    trusted: usize,
-    c: u32,
-    size: usize,
-) -> u32
-    ensures { result ≡ earlier (order_answer length chunks map hashes trusted) (chunk_answer length c size) }
-{
-    let refused = order_answer(length, chunks, map, hashes, trusted);
-    if refused != 0 {
-        return refused;
+    // A pack of this length may be ordered into the rooms.
+    pub fn order_answer(self, length: u32) -> Result<(), Refusal>
+        ensures { Answers result (order_answer length self.chunks self.map self.hashes self.trusted) }
+    {
+        length_answer(length)?;
+        self.room_answer(length)
     }
-    chunk_answer(length, c, size)
+
+    // A pack of this length may be built in the rooms, from a content of so many bytes.
+    pub fn build_answer(self, length: u32, content: usize) -> Result<(), Refusal>
+        ensures { Answers result
+            (build_answer length content self.chunks self.map self.hashes self.trusted) }
+    {
+        length_answer(length)?;
+        if content != length as usize {
+            return Err(Refusal::Order);
+        }
+        self.room_answer(length)
+    }
+
+    // A chunk of so many bytes may be taken as chunk c, whatever its hashes.
+    pub(crate) fn take_answer(self, length: u32, c: u32, size: usize) -> Result<(), Refusal>
+        ensures { Answers result
+            (earlier (order_answer length self.chunks self.map self.hashes self.trusted)
+            (chunk_answer length c size)) }
+    {
+        self.order_answer(length)?;
+        chunk_answer(length, c, size)
+    }
 }

@@ -1,29 +1,24 @@
 // The calls on the rooms: start a store, build a whole one, take a chunk. Any order, any rooms, any numbers and any
 // bytes get an answer, and a refusal changes nothing.
-ghost use Rattle.std.specs.Prelude.{◌≡◌, ◌+◌, ◌*◌, ◌<◌, ◌≤◌, length};
+ghost use Rattle.std.specs.Prelude.{◌≡◌, ◌+◌, ◌*◌, ◌<◌, ◌≤◌, length, IfOk};
 ghost use Rattle.hash.proofs.Promise.{bytes_of};
 ghost use Rattle.tree.specs.Pack.{chunk_size, max_length};
 ghost use Rattle.verdict.specs.Integrity.{integrity_of};
 ghost use Rattle.verdict.specs.Rooms.{rooms_of, count_of};
 ghost use Rattle.store.specs.Building.{root_of};
 ghost use Rattle.store.specs.Calls.{start_spec, build_spec, take_spec};
-ghost use Rattle.store.specs.Steps.{found_root, store_if_fits};
-ghost use Rattle.base.specs.Out.{out_at, out_of};
+ghost use Rattle.store.specs.Steps.{store_if_fits};
+ghost use Rattle.base.specs.Out.{out_by};
 
-use crate::{answers, building, storing};
-use hash::value;
+use crate::answers::Sizes;
+use crate::{building, storing};
+use base::Refusal;
 use hash::value::HashValue;
 use order::Order;
+use tree::pack;
 use tree::verdict::Verdict;
 use verdict::integrity::Integrity;
 use verdict::{peaks, verdicts};
-
-// What building gives back: its answer and the root found; the filler where it was refused.
-#[derive(Clone, Copy)]
-pub struct Built {
-    pub answer: u32,
-    pub root: HashValue,
-}
 
 // Starts a store under an order.
 pub fn start(
@@ -32,29 +27,19 @@ pub fn start(
     map: &mut [u32],
     hashes: &mut [u32],
     trusted: &mut [u32],
-) -> u32
-    ensures { out_of result 0
+) -> Result<(), Refusal>
+    ensures { out_by result 0
         (rooms_of chunks.now map.new hashes.new trusted.new)
         ≡ start_spec (rooms_of chunks.now map.old hashes.old trusted.old)
         (bytes_of order.root.words) order.length }
 {
-    let length = order.length;
-    let root = order.root;
-    let refused = answers::order_answer(
-        length,
-        chunks.len(),
-        map.len(),
-        hashes.len(),
-        trusted.len(),
-    );
-    if refused != 0 {
-        return refused;
-    }
-    building::start(map, hashes, trusted, root, tree::pack::chunk_count(length));
-    0
+    Sizes::of(chunks, map, hashes, trusted).order_answer(order.length)?;
+    let n = pack::chunk_count(order.length);
+    building::start(map, hashes, trusted, order.root, n);
+    Ok(())
 }
 
-// Builds a whole store of a length from its content.
+// Builds a whole store of a length from its content, and gives its root.
 pub fn build(
     length: u32,
     chunks: &mut [u8],
@@ -62,43 +47,19 @@ pub fn build(
     hashes: &mut [u32],
     trusted: &mut [u32],
     content: &[u8],
-) -> Built
-    ensures { (out_of result.answer 0
+) -> Result<HashValue, Refusal>
+    ensures out { out_by result 0
         (rooms_of chunks.new map.new hashes.new trusted.new)
         ≡ build_spec (rooms_of chunks.old map.old hashes.old trusted.old)
-        length content.now)
-        × (bytes_of result.root.words ≡ found_root result.answer (root_of content.now)) }
+        length content.now }
+    ensures root { IfOk result (λ root. bytes_of root.words ≡ root_of content.now) }
 {
-    let refused = answers::build_answer(
-        length,
-        content.len(),
-        chunks.len(),
-        map.len(),
-        hashes.len(),
-        trusted.len(),
-    );
-    if refused != 0 {
-        return Built {
-            answer: refused,
-            root: value::zero(),
-        };
-    }
-    let n = tree::pack::chunk_count(length);
-    let root = building::build(chunks, map, hashes, trusted, n, content);
-    Built {
-        answer: 0,
-        root: root,
-    }
+    Sizes::of(chunks, map, hashes, trusted).build_answer(length, content.len())?;
+    let n = pack::chunk_count(length);
+    Ok(building::build(chunks, map, hashes, trusted, n, content))
 }
 
-// What taking a chunk gives back: the number, and the node that 9 or 10 names.
-#[derive(Clone, Copy)]
-pub struct Taken {
-    pub answer: u32,
-    pub node: Option<u64>,
-}
-
-// The verdict's number and node, and the chunk stored where it fits.
+// Stores the chunk where it fits, and otherwise gives what the verdict says.
 fn store_if_fits(
     chunks: &mut [u8],
     map: &mut [u32],
@@ -110,15 +71,15 @@ fn store_if_fits(
     chunk: &[u8],
     entries: &[u64],
     bytes: &[u8],
-) -> Taken
+) -> Result<(), Refusal>
     requires { (c < n) × (n ≤ count_of max_length)
         × (chunk_size * c + length chunk.now ≤ length chunks.old) }
-    ensures { out_at result.answer 0 result.node
+    ensures { out_by result 0
         (rooms_of chunks.new map.new hashes.new trusted.new)
         ≡ store_if_fits (rooms_of chunks.old map.old hashes.old trusted.old)
         (bytes_of root.words) n c chunk.now (integrity_of entries.now bytes.now) }
 {
-    let top = tree::pack::levels(n);
+    let top = pack::levels(n);
     let opened = peaks::all_trusted(trusted, n, top);
     let mut scratch = [0u32; verdicts::SCRATCH];
     let v = verdicts::judge(
@@ -133,16 +94,15 @@ fn store_if_fits(
         chunk,
         Integrity { entries, bytes },
     );
-    let answer = tree::verdict::number(v);
-    let node = tree::verdict::named(v);
     match v {
         Verdict::Fits(t) => {
             storing::store(
                 chunks, map, hashes, trusted, opened, n, top, c, t, &scratch, chunk, entries, bytes,
             );
-            Taken { answer, node }
+            Ok(())
         }
-        _ => Taken { answer, node },
+        Verdict::Missing(b) => Err(Refusal::HashMissing(b)),
+        Verdict::WrongPeaks(b) | Verdict::WrongClimb(b) => Err(Refusal::HashWrong(b)),
     }
 }
 
@@ -157,32 +117,17 @@ pub fn take(
     chunk: &[u8],
     entries: &[u64],
     bytes: &[u8],
-) -> Taken
-    ensures { out_at result.answer 0 result.node
+) -> Result<(), Refusal>
+    ensures { out_by result 0
         (rooms_of chunks.new map.new hashes.new trusted.new)
         ≡ take_spec (rooms_of chunks.old map.old hashes.old trusted.old)
         (bytes_of order.root.words) order.length c chunk.now
         (integrity_of entries.now bytes.now) }
 {
     let length = order.length;
-    let root = order.root;
-    let refused = answers::take_answer(
-        length,
-        chunks.len(),
-        map.len(),
-        hashes.len(),
-        trusted.len(),
-        c,
-        chunk.len(),
-    );
-    if refused != 0 {
-        return Taken {
-            answer: refused,
-            node: None,
-        };
-    }
-    let n = tree::pack::chunk_count(length);
+    Sizes::of(chunks, map, hashes, trusted).take_answer(length, c, chunk.len())?;
+    let n = pack::chunk_count(length);
     store_if_fits(
-        chunks, map, hashes, trusted, root, n, c, chunk, entries, bytes,
+        chunks, map, hashes, trusted, order.root, n, c, chunk, entries, bytes,
     )
 }

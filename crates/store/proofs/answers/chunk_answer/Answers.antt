@@ -1,12 +1,15 @@
-use native.Mathlib.Omega.{arith}
-use Rattle.store.proofs.AnswerLaws.{chunk-past, chunk-other, chunk-right}
+use Rattle.std.proofs.Common.{rules}
+use Rattle.store.specs.Answers.{chunk_answer}
 use Rattle.store.proofs.answers.chunk_answer.Goals as goal
 
 pub returns-then-chunk_count-c : goal.returns-then-chunk_count-c
-returns-then-chunk_count-c c = chunk-past _ _ _ _ c.chunk_count.ensures (omega arith)
+unfolding chunk_answer
+returns-then-chunk_count-c c = search rules
 
 pub returns-then-size-chunk_size : goal.returns-then-size-chunk_size
-returns-then-size-chunk_size c = chunk-other _ _ _ _ c.chunk_count.ensures (omega arith) _ c.chunk_size.ensures c.if-size-chunk_size.true
+unfolding chunk_answer
+returns-then-size-chunk_size c = search rules
 
 pub returns : goal.returns
-returns c = chunk-right _ _ _ _ c.chunk_count.ensures (omega arith) _ c.chunk_size.ensures (omega arith)
+unfolding chunk_answer
+returns c = search rules

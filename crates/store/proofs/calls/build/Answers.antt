@@ -1,16 +1,16 @@
-use native.Mathlib.Omega.{arith}
-use Rattle.verdict.specs.Room.{filler}
+use Rattle.std.proofs.Common.{rules}
 use Rattle.verdict.specs.Rooms.{rooms_of}
-use Rattle.store.specs.Building.{root_of}
-use Rattle.store.proofs.CallLaws.{build-not, build-done, build-facts, root_not}
+use Rattle.store.specs.Calls.{build_spec}
+use Rattle.store.proofs.CallLaws.{build-facts}
 use Rattle.store.proofs.calls.build.Goals as goal
 
-pub returns-then-refused-ne0 : goal.returns-then-refused-ne0
-unfolding filler
-returns-then-refused-ne0 c = (build-not (rooms_of c.args.chunks.now c.args.map.now c.args.hashes.now c.args.trusted.now) c.args.length c.build_answer-refused.result c.args.content.now c.build_answer-refused.ensures c.if-refused-ne0.true, root_not _ (root_of c.args.content.now) c.if-refused-ne0.true c.zero.ensures)
+pub returns-in_err-build_answer-clause-out : goal.returns-in_err-build_answer-clause-out
+unfolding build_spec
+returns-in_err-build_answer-clause-out c = search rules
 
-pub build-root-requires : goal.build-root-requires
-build-root-requires c = build-facts (rooms_of c.args.chunks.now c.args.map.now c.args.hashes.now c.args.trusted.now) c.args.length c.build_answer-refused.result c.args.content.now c.build_answer-refused.ensures (omega arith) c.chunk_count-n.result c.chunk_count-n.ensures
+pub build-requires : goal.build-requires
+build-requires c = build-facts (rooms_of c.args.chunks.now c.args.map.now c.args.hashes.now c.args.trusted.now) c.args.length _ c.args.content.now (rw c.of.ensures at c.in_ok-build_answer.ensures).0 c.chunk_count-n.ensures
 
-pub returns : goal.returns
-returns c = (build-done (rooms_of c.args.chunks.now c.args.map.now c.args.hashes.now c.args.trusted.now) c.args.length c.build_answer-refused.result c.args.content.now c.build_answer-refused.ensures (omega arith) c.build-root.ensures.1, c.build-root.ensures.0)
+pub returns-clause-out : goal.returns-clause-out
+unfolding build_spec
+returns-clause-out c = search rules
