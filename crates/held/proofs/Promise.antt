@@ -14,7 +14,7 @@ use Rattle.wire.proofs.Promise.{empty_bin}
 use Rattle.held.proofs.AskLaws as laws
 use Rattle.held.proofs.NumberLaws as numbers
 use Rattle.held.proofs.IntervalLaws as intervals
-pub use Rattle.held.specs.Held.{Asked, asked_of, held_spec}
+pub use Rattle.held.specs.Held.{Asked, asked_of, asked_by, held_spec}
 pub use Rattle.held.specs.Interval.{Complete, Biggest, complete_interval}
 
 -- Of a length within the limit, and a map that is large enough.

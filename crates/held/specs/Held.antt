@@ -1,8 +1,12 @@
 -- Asking what is held: the count, and whole or not (01, "Entry points"). Assumes nothing.
 use Rattle.std.specs.Prelude.{ℕ, zero, suc, Bool, false, List, ltb, eqb, length}
+use Rattle.std.specs.Prelude.{Result, Ok, Err}
 use Rattle.base.specs.Pick.{pick}
+use Rattle.base.specs.Refusal.{number}
+use Rattle.base.specs.declared.Refusal.{Refusal}
 use Rattle.bits.proofs.Promise.{count_bits}
 use Rattle.store.proofs.Promise.{earlier, length_answer, map_words, count_of}
+use Rattle.held.specs.declared.Held.{Held}
 
 -- The number given back, how many chunks are held, and whether that is all of them.
 pub record Asked : Type 0 where
@@ -12,6 +16,11 @@ pub record Asked : Type 0 where
 
 abbrev pub asked_of : ℕ → ℕ → Bool → Asked
 asked_of n held whole = record { answer = n; held = held; whole = whole }
+
+-- What the result of asking says: a refused call counts nothing.
+abbrev pub asked_by : Result Held Refusal → Asked
+asked_by (Ok h) = asked_of 0 h.count h.whole
+asked_by (Err e) = asked_of (number e) 0 false
 
 -- 12 for the order's length, then 11 for the map, the one room that it is lent.
 unfoldable pub ask_number : ℕ → ℕ → ℕ → ℕ

@@ -2,50 +2,41 @@
 #![tactic(auto)]
 
 ghost use Rattle.std.specs.Prelude.{◌≡◌};
-ghost use Rattle.held.specs.Held.{asked_of, ask_number, held_spec};
+ghost use Rattle.base.specs.Out.{Answers};
+ghost use Rattle.held.specs.Held.{asked_by, ask_number, held_spec};
 
+use base::Refusal;
 use store::answers;
 
 pub mod interval;
 
+// How many chunks are held, and whether that is all of them.
 #[derive(Clone, Copy)]
-pub struct Asked {
-    pub answer: u32,
-    pub held: u32,
+pub struct Held {
+    pub count: u32,
     pub whole: bool,
 }
 
-// 12, then 11 for a map of n chunks in `map` words.
-fn ask_number(length: u32, n: u32, map: usize) -> u32
-    ensures { result ≡ ask_number length n map }
+// The length may be ordered, and a map of so many words has a bit for each of the n chunks.
+fn ask_answer(length: u32, n: u32, map: usize) -> Result<(), Refusal>
+    ensures { Answers result (ask_number length n map) }
 {
-    let refused = answers::length_answer(length);
-    if refused != 0 {
-        return refused;
+    answers::length_answer(length)?;
+    if (map as u64) < bits::row_words(u64::from(n)) {
+        return Err(Refusal::RoomTooSmall);
     }
-    if (map as u64) < bits::row_words(n as u64) {
-        return 11;
-    }
-    0
+    Ok(())
 }
 
 // The count of the map's chunks, and whether that is all of them.
-pub fn ask(length: u32, map: &[u32]) -> Asked
-    ensures { asked_of result.answer result.held result.whole ≡ held_spec length map.now }
+pub fn ask(length: u32, map: &[u32]) -> Result<Held, Refusal>
+    ensures { asked_by result ≡ held_spec length map.now }
 {
     let n = tree::pack::chunk_count(length);
-    let refused = ask_number(length, n, map.len());
-    if refused != 0 {
-        return Asked {
-            answer: refused,
-            held: 0,
-            whole: false,
-        };
-    }
-    let held = bits::count(map, n);
-    Asked {
-        answer: 0,
-        held,
-        whole: held == n,
-    }
+    ask_answer(length, n, map.len())?;
+    let count = bits::count(map, n);
+    Ok(Held {
+        count,
+        whole: count == n,
+    })
 }
