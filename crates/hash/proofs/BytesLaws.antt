@@ -1,10 +1,9 @@
 -- Words of 32 bits and their bytes, the highest first: each gives back the other. Assumes nothing.
-use Rattle.std.proofs.Common.{◌≡◌, ℕ, zero, suc, ◌+◌, ◌-◌, ◌*◌, ◌/◌, ◌%◌, ◌^◌, ◌<◌, ◌≤◌, List, [], ◌∷◌, ◌++◌, length, get_or, take, drop, set, replicate, sym, refl, ap, ◌∙◌, ap₂, append_assoc, append-nil, add-zero, add_assoc, suc-add, zero-add, div-one, add-one, arith, length-append, length-take-le, get_or-drop, take-suc, drop-drop, shr-shr}
-use native.Mathlib.Numerals.{add-two, add-three, add-four}
-use lib.ListN.{length-replicate}
-use lib.Seq.{sets, take-length}
+use Rattle.std.proofs.Common.{◌≡◌, ℕ, zero, suc, ◌+◌, ◌*◌, ◌/◌, ◌%◌, ◌^◌, ◌<◌, ◌≤◌, List, [], ◌∷◌, ◌++◌, length, get_or, take, drop, replicate, sym, refl, ap, ◌∙◌, ap₂, append_assoc, append-nil, add_assoc, suc-add, zero-add, div-one, add-one, arith, length-take-le, get_or-drop, take-suc, drop-drop, shr-shr, ext_get_or, take_at, drop_at, drop_of_length-le}
+use lib.Seq.{sets, sets-eq, take-length}
+use borrow.Rule.Slice.PartMut.{put_mid}
+use Rattle.std.specs.Int.{w32, w64, to_be_bytes}
 use Rattle.hash.specs.Word.{Words, Bytes, word32, words, be, bytes_of}
-use Rattle.hash.proofs.Cells.{cells, cells_is}
 
 pub length-words : (n : ℕ) (s : List ℕ) → length (words n s) ≡ n
 unfolding words
@@ -31,35 +30,25 @@ bytes-append (x ∷ u) v = ap (λ (l : List ℕ). be 4 x ++ l) (bytes-append u v
 
 -- ---- where words stand in a list of bytes
 
-word_at : (s : List ℕ) (at : ℕ) → word32 (drop at s) 0 ≡ word32 s at
+word_in : (s : List ℕ) (at i : ℕ) → word32 (drop at s) i ≡ word32 s (at + i)
 unfolding word32
-word_at s at = rw (get_or-drop at s 0 0, get_or-drop at s 1 0, get_or-drop at s 2 0, get_or-drop at s 3 0, add-zero at)
+word_in s at i =
+    rw (get_or-drop at s i 0, get_or-drop at s (i + 1) 0, get_or-drop at s (i + 2) 0, get_or-drop at s (i + 3) 0, add_assoc at i 1, add_assoc at i 2, add_assoc at i 3)
 
--- n words from the place at + i on: at numerals n and i it computes to n cells.
-abbrev column : (n : ℕ) → List ℕ → (at i : ℕ) → List ℕ
-column zero s at i = []
-column (suc n) s at i = word32 s (at + i) ∷ column n s at (i + 4)
-
-column_is : (n : ℕ) (s : List ℕ) (at i : ℕ) → column n s at i ≡ words n (drop (at + i) s)
+get_or-words : (n : ℕ) (s : List ℕ) (i : ℕ) → i < n → get_or (words n s) i 0 ≡ word32 s (4 * i)
 unfolding words
-column_is zero s at i = refl
-column_is (suc n) s at i =
-    rw (word_at s (at + i), drop-drop 4 (at + i) s, add_assoc at i 4) (ap (λ (l : List ℕ). word32 s (at + i) ∷ l) (column_is n s at (i + 4)))
+get_or-words zero s i h = absurd (omega arith)
+get_or-words (suc n) s zero h = refl
+get_or-words (suc n) s (suc i) h =
+    let e : 4 * suc i ≡ 4 + 4 * i = omega arith in
+    rw e (get_or-words n (drop 4 s) i (omega arith) ∙ word_in s 4 (4 * i))
 
--- Eight words by eight calls.
-pub load_law : (s : List ℕ) (at : ℕ) {w0 w1 w2 w3 w4 w5 w6 w7 : ℕ}
-    → w0 ≡ word32 s at
-    → w1 ≡ word32 s (at + 4)
-    → w2 ≡ word32 s (at + 8)
-    → w3 ≡ word32 s (at + 12)
-    → w4 ≡ word32 s (at + 16)
-    → w5 ≡ word32 s (at + 20)
-    → w6 ≡ word32 s (at + 24)
-    → w7 ≡ word32 s (at + 28)
-    → w0 ∷ w1 ∷ w2 ∷ w3 ∷ w4 ∷ w5 ∷ w6 ∷ w7 ∷ [] ≡ words 8 (drop at s)
-load_law s at e0 e1 e2 e3 e4 e5 e6 e7 =
-    let z : column 8 s at 0 ≡ words 8 (drop at s) = column_is 8 s at 0 ∙ rw add-zero in
-    rw (e0, e1, e2, e3, e4, e5, e6, e7) (rw (add-zero at) at z)
+-- Eight words, each by its place.
+pub load_law : (s : List ℕ) (at : ℕ) (w : List ℕ) → length w ≡ 8 → ((i : ℕ) → i < 8 → get_or w i 0 ≡ word32 s (at + 4 * i))
+    → w ≡ words 8 (drop at s)
+load_law s at w l a =
+    ext_get_or 0 w (words 8 (drop at s)) (l ∙ sym (length-words 8 (drop at s)))
+    (λ i h. a i (omega arith) ∙ sym (get_or-words 8 (drop at s) i (omega arith) ∙ word_in s at (4 * i)))
 
 words-add : (m n : ℕ) (s : List ℕ) → words (m + n) s ≡ words m s ++ words n (drop (4 * m) s)
 unfolding words
@@ -86,65 +75,54 @@ words-front (suc n) (a ∷ b ∷ c ∷ d ∷ s) = ap (λ (l : List ℕ). (a * 2 
 pub words-pair : (s : List ℕ) (at : ℕ) → words 8 (drop at s) ++ words 8 (drop (at + 32) s) ≡ words 16 (take 64 (drop at s))
 words-pair s at = sym (words-front 16 (drop at s) ∙ words-add 8 8 (drop at s) ∙ rw (drop-drop 32 at s))
 
--- A list of eight, written out.
-pub pair_law : (u v : List ℕ) → length u ≡ 8 → length v ≡ 8 → cells 8 0 u ++ cells 8 0 v ≡ u ++ v
-pair_law u v e f = ap₂ (λ (x y : List ℕ). x ++ y) (sym (cells_is 8 u e)) (sym (cells_is 8 v f))
+-- A list of n over the front of one of 2 * n, and another over the rest.
+pub pair_law : (n : ℕ) (u v z : List ℕ) {x y : List ℕ} → length u ≡ n → length z ≡ n → x ≡ u → y ≡ v → put_mid n n (x ++ z) y ≡ u ++ v
+pair_law n u v z l m e f =
+    rw (e, f, take_at u z n l, drop_at u z n l, drop_of_length-le z {i = n} (omega arith), append-nil v)
+
+-- As the standard library has them.
+pub be_4 : (x : ℕ) → to_be_bytes w32 x ≡ be 4 x
+be_4 x = rw (div-one x)
+
+pub be_8 : (x : ℕ) → to_be_bytes w64 x ≡ be 8 x
+be_8 x = rw (div-one x)
 
 -- ---- writing the bytes of words, one word after another
-
--- A store behind p.
-set_past : (p z : List ℕ) (n i b : ℕ) → length p ≡ n → set (p ++ z) (n + i) b ≡ p ++ set z i b
-set_past [] z n i b l = rw (← l, zero-add)
-set_past (x ∷ p) z zero i b l = absurd (omega arith)
-set_past (x ∷ p) z (suc n) i b l = rw suc-add (ap (λ (q : List ℕ). x ∷ q) (set_past p z n i b (omega arith)))
-
-set_here : (p z : List ℕ) (n b : ℕ) → length p ≡ n → set (p ++ z) n b ≡ p ++ set z 0 b
-set_here p z n b l = rw (add-zero n) at (set_past p z n 0 b l)
-
--- The bytes of the first i words of n, and zeros for the rest.
-abbrev pub written : ℕ → ℕ → List ℕ → List ℕ
-written n i w = bytes_of (take i w) ++ replicate (4 * n - 4 * i) 0
 
 pub written-more : (w : List ℕ) (i : ℕ) → i < length w → bytes_of (take (suc i) w) ≡ bytes_of (take i w) ++ be 4 (get_or w i 0)
 unfolding bytes_of
 written-more w i h = rw (take-suc w i 0 h, bytes-append (take i w) (get_or w i 0 ∷ []))
 
-pub written-long : (n i : ℕ) (w r : List ℕ) → i ≤ n → length w ≡ n → r ≡ written n i w → length r ≡ 4 * n
-written-long n i w r h l e =
-    let k : length (bytes_of (take i w)) ≡ 4 * i = length-bytes (take i w) ∙ ap (λ (n : ℕ). 4 * n) (length-take-le i w (omega arith)) in
-    rw (e, length-append (bytes_of (take i w)) (replicate (4 * n - 4 * i) 0), length-replicate {A = ℕ} (4 * n - 4 * i) 0) (omega arith)
+-- The bytes of the first i words over the front of b.
+abbrev pub written : ℕ → (w b : List ℕ) → List ℕ
+written i w b = bytes_of (take i w) ++ drop (4 * i) b
 
--- A word by four stores.
-pub put_law : (r : List ℕ) (at x : ℕ) {b0 b1 b2 b3 : ℕ}
-    → b0 ≡ x / 2 ^ 24 % 2 ^ 8
-    → b1 ≡ x / 2 ^ 16 % 2 ^ 8
-    → b2 ≡ x / 2 ^ 8 % 2 ^ 8
-    → b3 ≡ x / 2 ^ 0 % 2 ^ 8
-    → set (set (set (set r at b0) (at + 1) b1) (at + 2) b2) (at + 3) b3 ≡ sets r at (be 4 x)
-put_law r at x e0 e1 e2 e3 = rw (e0, e1, e2, e3, add-one at, add-two at, add-three at)
+pub write_none : (w b : List ℕ) → b ≡ written 0 w b
+unfolding bytes_of
+write_none w b = refl
+
+front-long : (w : List ℕ) (i : ℕ) → i ≤ length w → length (bytes_of (take i w)) ≡ 4 * i
+front-long w i h = length-bytes (take i w) ∙ ap (λ (n : ℕ). 4 * n) (length-take-le i w h)
 
 -- A turn of the loop over the words, and its end.
-pub write_law : (n : ℕ) (w r : List ℕ) (i : ℕ) {r' : List ℕ} → i < n → length w ≡ n
-    → r ≡ written n i w
-    → r' ≡ sets r (4 * i) (be 4 (get_or w i 0))
-    → r' ≡ written n (i + 1) w
-write_law n w r i h l e f =
+pub write-turn : (w b : List ℕ) (i k : ℕ) {r ys : List ℕ} → i < length w → k ≡ 4 → r ≡ written i w b → ys ≡ be 4 (get_or w i 0)
+    → put_mid (4 * i) k r ys ≡ written (i + 1) w b
+write-turn w b i k h m e f =
     let p : List ℕ = bytes_of (take i w) in
-    let k : length p ≡ 4 * i = length-bytes (take i w) ∙ ap (λ (n : ℕ). 4 * n) (length-take-le i w (omega arith)) in
-    let z : 4 * n - 4 * i ≡ suc (suc (suc (suc (4 * n - 4 * (i + 1))))) = omega arith in
-    f
-    ∙ sym (put_law r (4 * i) (get_or w i 0) refl refl refl refl)
-    ∙ rw (e, z, set_here p _ (4 * i) _ k, set_past p _ (4 * i) 1 _ k, set_past p _ (4 * i) 2 _ k, set_past p _ (4 * i) 3 _ k, add-one i, written-more w i (omega arith))
-    (sym (append_assoc p _ _))
+    let l : length p ≡ 4 * i = front-long w i (omega arith) in
+    let at : 4 * suc i ≡ 4 * i + 4 = omega arith in
+    rw (e, f, m, take_at p (drop (4 * i) b) (4 * i) l, drop_at p (drop (4 * i) b) (4 * i) l, drop-drop 4 (4 * i) b, add-one i, at, written-more w i h)
+    (sym (append_assoc p (be 4 (get_or w i 0)) (drop (4 * i + 4) b)))
 
-pub write_end : (n : ℕ) (w r : List ℕ) (i : ℕ) → i ≤ n → n ≤ i → length w ≡ n → r ≡ written n i w → r ≡ bytes_of w
-write_end n w r i h k l e =
+pub write_end : (w b : List ℕ) (i : ℕ) {r : List ℕ} → length b ≡ 4 * length w → i ≤ length w → length w ≤ i → r ≡ written i w b → r ≡ bytes_of w
+write_end w b i l h k e =
     let all : i ≡ length w = omega arith in
-    let none : 4 * n - 4 * length w ≡ 0 = omega arith in
-    (rw (all, take-length w, none) at e) ∙ append-nil (bytes_of w)
+    (rw (all, take-length w, drop_of_length-le b {i = 4 * length w} (omega arith)) at e) ∙ append-nil (bytes_of w)
 
-pub write-pair : (u v w r : List ℕ) → w ≡ u ++ v → r ≡ bytes_of w → r ≡ bytes_of u ++ bytes_of v
-write-pair u v w r e f = f ∙ rw e (bytes-append u v)
+-- A part of b written over by a list.
+pub put_sets : (b vs : List ℕ) (at k : ℕ) {ys : List ℕ} → ys ≡ vs → k ≡ length vs → at + length vs ≤ length b → put_mid at k b ys ≡ sets b at vs
+put_sets b vs at k e f h =
+    rw (e, f, drop-drop (length vs) at b) (sym (append_assoc (take at b) vs (drop (at + length vs) b)) ∙ sym (sets-eq vs b at h))
 
 -- ---- each gives back the other
 
@@ -180,19 +158,6 @@ but_low_byte a b c d m = omega arith
 
 four-cells : {p q r s p' q' r' s' : ℕ} → p ≡ p' → q ≡ q' → r ≡ r' → s ≡ s' → p ∷ q ∷ r ∷ s ∷ [] ≡ p' ∷ q' ∷ r' ∷ s' ∷ []
 four-cells e f g h = cc
-
--- The eight bytes of a number are the four of its upper 32 bits and the four of its lower ones.
-be_halves : (x : ℕ) → be 4 (x / 2 ^ 32) ++ be 4 (x % 2 ^ 32) ≡ be 8 x
-be_halves x =
-    ap₂ (λ (p q : List ℕ). p ++ q)
-    (four-cells (ap (λ (y : ℕ). y % 2 ^ 8) (shr-shr x 32 24)) (ap (λ (y : ℕ). y % 2 ^ 8) (shr-shr x 32 16)) (ap (λ (y : ℕ). y % 2 ^ 8) (shr-shr x 32 8)) (ap (λ (y : ℕ). y % 2 ^ 8) (div-one (x / 2 ^ 32))))
-    (four-cells (omega arith) (omega arith) (omega arith) (omega arith))
-
-pub put_both : (b : List ℕ) (at x : ℕ) {h l : ℕ} {p q : List ℕ} → h ≡ x / 2 ^ 32 → l ≡ x % 2 ^ 32
-    → p ≡ sets b at (be 4 h)
-    → q ≡ sets p (at + 4) (be 4 l)
-    → q ≡ sets b at (be 8 x)
-put_both b at x e f g k = k ∙ rw (g, e, f, add-four at) (ap (sets b at) (be_halves x))
 
 value-bytes : (a b c d : ℕ) → a < 256 → b < 256 → c < 256 → d < 256 → be 4 (value a b c d) ≡ a ∷ b ∷ c ∷ d ∷ []
 value-bytes a b c d j k l m =

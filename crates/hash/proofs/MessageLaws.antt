@@ -1,8 +1,8 @@
 -- Blocks one after another, and the padding that ends a message. Assumes nothing.
-use Rattle.std.proofs.Common.{◌≡◌, ℕ, zero, suc, ◌+◌, ◌-◌, ◌*◌, ◌/◌, ◌%◌, ◌^◌, ◌<◌, ◌≤◌, List, ◌∷◌, ◌++◌, length, get_or, take, drop, set, replicate, sym, refl, ap, ◌∙◌, subst, append_assoc, le_refl, add-zero, add-suc, mul_comm, zero-add, add-one, arith, length-append, length-drop, take-append-drop, length-take-le, take_all, take-take, take_at, drop_at}
+use Rattle.std.proofs.Common.{◌≡◌, ℕ, zero, suc, ◌+◌, ◌-◌, ◌*◌, ◌/◌, ◌%◌, ◌^◌, ◌<◌, ◌≤◌, List, ◌∷◌, ◌++◌, length, take, drop, set, replicate, sym, refl, ap, ◌∙◌, subst, append_assoc, le_refl, add-zero, add-suc, mul_comm, add-one, arith, length-append, length-drop, take-append-drop, length-take-le, take_all, take-take, take_at, drop_at}
 use native.Mathlib.Nat.{sub-zero, zero-sub, suc-sub-suc}
 use lib.ListN.{length-replicate, replicate-append-replicate}
-use lib.Seq.{sets, sets-eq, paste-suc, set_at, take-length, take-append-le, drop-append-le, drop-append-add}
+use lib.Seq.{sets, sets-eq, set_at, take-append-le, drop-append-le, drop-append-add}
 use Rattle.hash.specs.Word.{be}
 use Rattle.hash.specs.Block.{compressed}
 use Rattle.hash.specs.Message.{gap, padded, block, after, finished}
@@ -135,17 +135,9 @@ drop_zeros zero k = rw sub-zero
 drop_zeros (suc n) zero = rw zero-sub
 drop_zeros (suc n) (suc k) = rw suc-sub-suc (drop_zeros n k)
 
--- The first i bytes copied over zeros.
-abbrev pub copied : ℕ → List ℕ → List ℕ
-copied i m = take i m ++ drop i (replicate 128 0)
-
-pub copy_turn : (m : List ℕ) (i : ℕ) {b : List ℕ} → i < 128 → i < length m → b ≡ copied i m → set b i (get_or m i 0) ≡ copied (i + 1) m
-copy_turn m i h l e = rw (e, add-one i) (simp zero-add at (paste-suc (replicate 128 0) 0 m i 0 (omega arith) l))
-
-pub mark_law : (m : List ℕ) (i : ℕ) {b : List ℕ} → i ≤ length m → length m ≤ i → length m < 64 → b ≡ copied i m
-    → set b (length m) 0x80 ≡ m ++ (0x80 ∷ replicate (127 - length m) 0)
-mark_law m i {b} h k l e =
-    let same : i ≡ length m = omega arith in
+-- The last bytes copied over zeros, and the mark behind them.
+pub mark_law : (m : List ℕ) {x : List ℕ} → length m < 64 → x ≡ m
+    → set (x ++ drop (length m) (replicate 128 0)) (length m) 0x80 ≡ m ++ (0x80 ∷ replicate (127 - length m) 0)
+mark_law m l e =
     let w : 128 - length m ≡ suc (127 - length m) = omega arith in
-    let g : b ≡ m ++ (0 ∷ replicate (127 - length m) 0) = e ∙ rw (same, take-length m, drop_zeros (length m) 128, w) in
-    rw g (set_at m 0 (replicate (127 - length m) 0) 0x80 (length m) refl)
+    rw (e, drop_zeros (length m) 128, w) (set_at m 0 (replicate (127 - length m) 0) 0x80 (length m) refl)

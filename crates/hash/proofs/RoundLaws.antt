@@ -1,5 +1,5 @@
 -- What the calls of a round ensure, put together, and rounds one run after another. Assumes nothing.
-use Rattle.std.proofs.Common.{◌≡◌, ℕ, zero, suc, ◌+◌, ◌%◌, ◌^◌, ◌<◌, ◌≤◌, List, [], ◌∷◌, ◌++◌, length, get_or, drop, replicate, sym, refl, ◌∙◌, le_refl, add-zero, add_assoc, add-suc, arith, get_or-append-add}
+use Rattle.std.proofs.Common.{◌≡◌, ℕ, zero, suc, ◌+◌, ◌%◌, ◌^◌, ◌<◌, ◌≤◌, List, [], ◌∷◌, ◌++◌, length, get_or, drop, replicate, sym, refl, ◌∙◌, le_refl, add-zero, add_assoc, add-suc, arith, get_or-append-add, ext_get_or}
 use native.Mathlib.Nat.{mod-add-mod, mod-mod, add-mod-mod}
 use lib.ListN.{get_or-replicate, get_or-append}
 use Rattle.hash.specs.Word.{◌⊞◌, Ch, Maj, Σ0, Σ1}
@@ -33,18 +33,25 @@ unfolding turned round T2
 round_law v k w e1 e2 e3 e4 e5 e6 e7 e8 e9 e10 e11 =
     rw (e10, e11, e9, e8, e7, e6, e5, e4, e3, e2, e1, T1-is (get_or v 4 0) (get_or v 5 0) (get_or v 6 0) (get_or v 7 0) k w)
 
-pub sums_law : (v u : List ℕ) {r0 r1 r2 r3 r4 r5 r6 r7 : ℕ}
-    → r0 ≡ get_or v 0 0 ⊞ get_or u 0 0
-    → r1 ≡ get_or v 1 0 ⊞ get_or u 1 0
-    → r2 ≡ get_or v 2 0 ⊞ get_or u 2 0
-    → r3 ≡ get_or v 3 0 ⊞ get_or u 3 0
-    → r4 ≡ get_or v 4 0 ⊞ get_or u 4 0
-    → r5 ≡ get_or v 5 0 ⊞ get_or u 5 0
-    → r6 ≡ get_or v 6 0 ⊞ get_or u 6 0
-    → r7 ≡ get_or v 7 0 ⊞ get_or u 7 0
-    → r0 ∷ r1 ∷ r2 ∷ r3 ∷ r4 ∷ r5 ∷ r6 ∷ r7 ∷ [] ≡ sums v u
+get_or-sums : (v u : List ℕ) (i : ℕ) → i < 8 → get_or (sums v u) i 0 ≡ get_or v i 0 ⊞ get_or u i 0
 unfolding sums
-sums_law v u e0 e1 e2 e3 e4 e5 e6 e7 = rw (e0, e1, e2, e3, e4, e5, e6, e7)
+get_or-sums v u zero h = refl
+get_or-sums v u (suc zero) h = refl
+get_or-sums v u (suc (suc zero)) h = refl
+get_or-sums v u (suc (suc (suc zero))) h = refl
+get_or-sums v u (suc (suc (suc (suc zero)))) h = refl
+get_or-sums v u (suc (suc (suc (suc (suc zero))))) h = refl
+get_or-sums v u (suc (suc (suc (suc (suc (suc zero)))))) h = refl
+get_or-sums v u (suc (suc (suc (suc (suc (suc (suc zero))))))) h = refl
+get_or-sums v u (suc (suc (suc (suc (suc (suc (suc (suc i)))))))) h = absurd (omega arith)
+
+sums-length : (v u : List ℕ) → length (sums v u) ≡ 8
+unfolding sums
+sums-length v u = refl
+
+pub sums_law : (v u w : List ℕ) → length w ≡ 8 → ((i : ℕ) → i < 8 → get_or w i 0 ≡ get_or v i 0 ⊞ get_or u i 0) → w ≡ sums v u
+sums_law v u w l a =
+    ext_get_or 0 w (sums v u) (l ∙ sym (sums-length v u)) (λ i h. a i (omega arith) ∙ sym (get_or-sums v u i (omega arith)))
 
 -- t rounds look at t constants and t words
 rounds-front : (t : ℕ) (v k k' w w' : List ℕ) → t ≤ length k → t ≤ length w → rounds t v (k ++ k') (w ++ w') ≡ rounds t v k w

@@ -1,5 +1,5 @@
 // Padding, and the hash value of a message: FIPS 180-4, sections 5.1.1, 5.3.3 and 6.2.
-ghost use Rattle.std.specs.Prelude.{◌≡◌, ◌+◌, ◌-◌, ◌/◌, ◌%◌, ◌^◌, ◌<◌, ◌≤◌, ◌∷◌, ◌++◌, length, replicate};
+ghost use Rattle.std.specs.Prelude.{◌≡◌, ◌+◌, ◌-◌, ◌<◌, ◌≤◌, ◌∷◌, ◌++◌, length, replicate};
 ghost use Rattle.std.proofs.lemmas.List.Edits.{sets};
 ghost use Rattle.hash.specs.Word.{be, bytes_of};
 ghost use Rattle.hash.specs.Message.{H0, finished};
@@ -7,7 +7,7 @@ ghost use Rattle.hash.specs.Sha256.{sha256 as SHA256};
 
 use crate::block::{blocks, mix};
 use crate::constants::{END_OF_1024, INITIAL};
-use crate::value::{HashValue, put};
+use crate::value::HashValue;
 
 // The hash value before the first block.
 pub fn initial() -> HashValue
@@ -23,37 +23,18 @@ fn marked(tail: &[u8]) -> [u8; 128]
 {
     let mut b = [0u8; 128];
     let n = tail.len();
-    let mut i: usize = 0;
-    while i < n {
-        b[i] = tail[i];
-        i += 1;
-    }
+    b[..n].copy_from_slice(tail);
     b[n] = 0x80;
     b
 }
 
-// The upper 32 bits of x, and the lower ones.
-fn high(x: u64) -> u32
-    ensures { result ≡ x / 2 ^ 32 }
-{
-    (x >> 32) as u32
-}
-
-fn low(x: u64) -> u32
-    ensures { result ≡ x % 2 ^ 32 }
-{
-    (x % 0x1_0000_0000) as u32
-}
-
 // The eight bytes of x, the highest first, written at a place.
-fn with_length(b: [u8; 128], at: usize, x: u64) -> [u8; 128]
+fn with_length(mut b: [u8; 128], at: usize, x: u64) -> [u8; 128]
     requires { at + 8 ≤ 128 }
     ensures { result ≡ sets b at (be 8 x) }
 {
-    let mut p = b;
-    put(&mut p, at, high(x));
-    put(&mut p, at + 4, low(x));
-    p
+    b[at..at + 8].copy_from_slice(&x.to_be_bytes());
+    b
 }
 
 // The last hash value of a message of n bytes, whose last bytes, less than a block, are tail: one block more, or two.
@@ -62,8 +43,8 @@ fn pad(v: HashValue, tail: &[u8], n: u64) -> HashValue
     ensures { result.words ≡ finished v.words tail.now n }
 {
     let count = (tail.len() + 72) / 64;
-    let b = with_length(marked(tail), 64 * count - 8, n << 3);
     let end = 64 * count;
+    let b = with_length(marked(tail), end - 8, n << 3);
     blocks(v, &b[..end])
 }
 
@@ -74,10 +55,8 @@ pub fn finish(v: HashValue, tail: &[u8], n: u64) -> HashValue
 {
     let from = 64 * (tail.len() / 64);
     let u = blocks(v, tail);
-    if tail.len() == from {
-        if n == 1024 {
-            return mix(u, &END_OF_1024);
-        }
+    if tail.len() == from && n == 1024 {
+        return mix(u, &END_OF_1024);
     }
     pad(u, &tail[from..], n)
 }

@@ -1,12 +1,12 @@
-use Rattle.std.proofs.Common.{refl, arith, rules}
+use Rattle.std.proofs.Common.{refl, arith}
 use Rattle.hash.proofs.BlockLaws.{mix-turn, mix_end}
 use Rattle.hash.proofs.block.mix.Goals as goal
 
-pub loop-i-init : goal.loop-i-init
-loop-i-init c = (omega arith, refl)
+pub loop-row-init : goal.loop-row-init
+loop-row-init c = refl
 
-pub loop-i-preserved : goal.loop-i-preserved
-loop-i-preserved c = (omega arith, mix-turn _ c.args.s.now c.loop-i.i c.loop-i.invariant.1 c.rounds-u.ensures)
+pub loop-row-preserved : goal.loop-row-preserved
+loop-row-preserved c = mix-turn _ c.args.s.now c.loop-row.row-index c.loop-row.invariant c.rounds-u.ensures
 
 pub returns : goal.returns
-returns c = mix_end _ _ _ c.loop-i.invariant.0 (search rules) c.loop-i.invariant.1 c.sums.ensures
+returns c = mix_end _ _ _ (omega arith) (omega arith) c.loop-row.invariant c.sums.ensures

@@ -3,4 +3,4 @@ use Rattle.hash.proofs.value.word.Goals as goal
 
 pub returns : goal.returns
 unfolding word32
-returns c = cc
+returns c = c.from_be_bytes.ensures

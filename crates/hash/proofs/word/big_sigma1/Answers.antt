@@ -6,4 +6,4 @@ use Rattle.hash.proofs.word.big_sigma1.Goals as goal
 
 pub returns : goal.returns
 unfolding Σ1
-returns c = ap₂ bit_xor (shared_rotation 5 6 21 _ c.ranges.x.fits c.rotr.ensures c.rotr-2.ensures) c.rotr-3.ensures
+returns c = ap₂ bit_xor (shared_rotation 5 6 21 _ c.ranges.x.fits c.rotate_right.ensures c.rotate_right-2.ensures) c.rotate_right-3.ensures
