@@ -1,5 +1,5 @@
 -- The schedule sixteen words at a time: each row follows from the row before it alone. Assumes nothing.
-use Rattle.std.proofs.Common.{◌≡◌, ℕ, zero, suc, ◌+◌, ◌-◌, ◌≤◌, List, [], ◌∷◌, ◌++◌, length, get_or, take, sym, refl, ap, ◌∙◌, append_assoc, le_refl, suc-add, zero-add, arith, length-append, length-drop, take-append-drop, take-take, get_or-append-add}
+use Rattle.std.proofs.Common.{◌≡◌, ℕ, zero, suc, ◌+◌, ◌-◌, ◌≤◌, ◌<◌, List, [], ◌∷◌, ◌++◌, length, get_or, take, sym, refl, ap, ◌∙◌, append_assoc, le_refl, suc-add, zero-add, arith, length-append, length-drop, take-append-drop, take-take, get_or-append-add}
 use mathlib.Core.Path.{subst⁻¹}
 use lib.Seq.{take-length, take-append-le}
 use Rattle.hash.specs.Block.{next, extended, schedule}
@@ -80,11 +80,13 @@ schedule_rows w e =
     (row 16 (row_of w 1) (row_length w 1 e)
     ∙ ap (λ (l : List ℕ). row_of w 1 ++ l) (row 0 (row_of w 2) (row_length w 2 e) ∙ ap (λ (l : List ℕ). row_of w 2 ++ l) (last_row (row_of w 3))))
 
--- One word on, by one call.
-pub slid_law : (w : List ℕ) {n : ℕ} → n ≡ next (get_or w 14 0) (get_or w 9 0) (get_or w 1 0) (get_or w 0 0)
-    → get_or w 1 0 ∷ get_or w 2 0 ∷ get_or w 3 0 ∷ get_or w 4 0 ∷ get_or w 5 0 ∷ get_or w 6 0 ∷ get_or w 7 0 ∷ get_or w 8 0 ∷ get_or w 9 0 ∷ get_or w 10 0 ∷ get_or w 11 0 ∷ get_or w 12 0 ∷ get_or w 13 0 ∷ get_or w 14 0 ∷ get_or w 15 0 ∷ n ∷ [] ≡ slid w
+-- One word on: each word moves up by one place, and the last is new.
+pub slid_law : (w u : List ℕ) → length u ≡ 16 → ((i : ℕ) → i < 15 → get_or u i 0 ≡ get_or w (i + 1) 0)
+    → get_or u 15 0 ≡ next (get_or w 14 0) (get_or w 9 0) (get_or w 1 0) (get_or w 0 0) → u ≡ slid w
 unfolding slid
-slid_law w e = rw e
+slid_law w u l a e =
+    cells_is 16 u l
+    ∙ rw (a 0 (omega arith), a 1 (omega arith), a 2 (omega arith), a 3 (omega arith), a 4 (omega arith), a 5 (omega arith), a 6 (omega arith), a 7 (omega arith), a 8 (omega arith), a 9 (omega arith), a 10 (omega arith), a 11 (omega arith), a 12 (omega arith), a 13 (omega arith), a 14 (omega arith), e)
 
 -- Sixteen times one word on.
 pub slid_sixteen : (w : List ℕ) → length w ≡ 16

@@ -19,14 +19,7 @@ struct Working {
 fn round(v: HashValue, k: u32, w: u32) -> HashValue
     ensures { result.words ≡ round v.words k w }
 {
-    let a = v.words[0];
-    let b = v.words[1];
-    let c = v.words[2];
-    let d = v.words[3];
-    let e = v.words[4];
-    let f = v.words[5];
-    let g = v.words[6];
-    let h = v.words[7];
+    let [a, b, c, d, e, f, g, h] = v.words;
     let t1 = add(add(add(h, big_sigma1(e)), ch(e, f, g)), add(k, w));
     let t2 = add(big_sigma0(a), maj(a, b, c));
     HashValue {
@@ -70,30 +63,10 @@ fn step(s: Working, k: u32) -> Working
     ensures { Stepped k s.variables.words s.schedule result.variables.words result.schedule }
 {
     let w = s.schedule;
-    let w0 = w[0];
-    let w1 = w[1];
-    let w9 = w[9];
-    let w14 = w[14];
+    let last = next(w[14], w[9], w[1], w[0]);
     Working {
-        variables: round(s.variables, k, w0),
-        schedule: [
-            w1,
-            w[2],
-            w[3],
-            w[4],
-            w[5],
-            w[6],
-            w[7],
-            w[8],
-            w9,
-            w[10],
-            w[11],
-            w[12],
-            w[13],
-            w14,
-            w[15],
-            next(w14, w9, w1, w0),
-        ],
+        variables: round(s.variables, k, w[0]),
+        schedule: std::array::from_fn(|i| if i < 15 { w[i + 1] } else { last }),
     }
 }
 
