@@ -24,9 +24,8 @@ pub extern "C" fn hash_sha256(m: &[u8], out: &mut [u8; 32])
 pub extern "C" fn hash_initial(out: &mut [u32; 8])
     ensures { out.new ≡ H0 }
 {
-    let v = hash::message::initial();
-    let w = v.words;
-    *out = w;
+    let HashValue { words } = hash::message::initial();
+    *out = words;
 }
 
 // The hash value after the block at a place.
@@ -35,10 +34,8 @@ pub extern "C" fn hash_compress(v: &mut [u32; 8], b: &[u8], at: usize)
     requires { at + 64 ≤ length b.now }
     ensures { v.new ≡ compressed v.old (take 64 (drop at b.now)) }
 {
-    let w = *v;
-    let r = hash::block::compress(HashValue { words: w }, b, at);
-    let u = r.words;
-    *v = u;
+    let HashValue { words } = hash::block::compress(HashValue { words: *v }, b, at);
+    *v = words;
 }
 
 // The last hash value of a message of n bytes, whose bytes after the blocks that led to v are tail.
@@ -46,10 +43,8 @@ pub extern "C" fn hash_compress(v: &mut [u32; 8], b: &[u8], at: usize)
 pub extern "C" fn hash_finish(v: &[u32; 8], tail: &[u8], n: u64, out: &mut [u32; 8])
     ensures { out.new ≡ finished v.now tail.now n }
 {
-    let w = *v;
-    let r = hash::message::finish(HashValue { words: w }, tail, n);
-    let u = r.words;
-    *out = u;
+    let HashValue { words } = hash::message::finish(HashValue { words: *v }, tail, n);
+    *out = words;
 }
 
 // SHA-256 of the 64 bytes left, right.
@@ -58,11 +53,11 @@ pub extern "C" fn hash_parent(left: &[u32; 8], right: &[u32; 8], out: &mut [u32;
     ensures { bytes_of out.new
         ≡ sha256 (bytes_of left.now ++ bytes_of right.now) }
 {
-    let x = *left;
-    let y = *right;
-    let r = hash::node::parent(HashValue { words: x }, HashValue { words: y });
-    let u = r.words;
-    *out = u;
+    let HashValue { words } = hash::node::parent(
+        HashValue { words: *left },
+        HashValue { words: *right },
+    );
+    *out = words;
 }
 
 // The hash value whose 32 bytes stand at a place.
@@ -71,9 +66,8 @@ pub extern "C" fn hash_load(b: &[u8], at: usize, out: &mut [u32; 8])
     requires { at + 32 ≤ length b.now }
     ensures { out.new ≡ words 8 (drop at b.now) }
 {
-    let v = hash::value::load(b, at);
-    let w = v.words;
-    *out = w;
+    let HashValue { words } = hash::value::load(b, at);
+    *out = words;
 }
 
 // The 32 bytes of a hash value.
@@ -81,8 +75,7 @@ pub extern "C" fn hash_load(b: &[u8], at: usize, out: &mut [u32; 8])
 pub extern "C" fn hash_bytes(v: &[u32; 8], out: &mut [u8; 32])
     ensures { out.new ≡ bytes_of v.now }
 {
-    let w = *v;
-    *out = hash::value::bytes(HashValue { words: w });
+    *out = hash::value::bytes(HashValue { words: *v });
 }
 
 // Whether two hash values are the same.
@@ -90,7 +83,5 @@ pub extern "C" fn hash_bytes(v: &[u32; 8], out: &mut [u8; 32])
 pub extern "C" fn hash_same(v: &[u32; 8], u: &[u32; 8]) -> bool
     ensures { result ≡ same (bytes_of v.now) (bytes_of u.now) }
 {
-    let x = *v;
-    let y = *u;
-    hash::value::same(HashValue { words: x }, HashValue { words: y })
+    hash::value::same(HashValue { words: *v }, HashValue { words: *u })
 }
