@@ -7,6 +7,7 @@ use hash::value::HashValue;
 pub struct Order {
     pub root: HashValue,
     pub length: u32,
-    // The method's number as the order names it: crate format says which numbers are a method's.
+    // The method's number as the order names it, and no `Addressing`: a call refuses an order whose number is no method's,
+    // as crate format tells.
     pub method: u32,
 }
