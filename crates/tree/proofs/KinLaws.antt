@@ -1,11 +1,11 @@
 -- A node's parent and sibling by its number: which child it is shows in the bit above its ones. Assumes nothing.
-use Rattle.std.proofs.Common.{◌≡◌, ℕ, ◌+◌, ◌-◌, ◌*◌, ◌/◌, ◌%◌, ◌^◌, ◌≤◌, sym, ap, ◌∙◌, arith, pow_pos}
+use Rattle.std.proofs.Common.{◌≡◌, ℕ, zero, suc, ◌+◌, ◌-◌, ◌*◌, ◌/◌, ◌%◌, ◌^◌, ◌≤◌, refl, sym, ap, ◌∙◌, arith, pow_pos}
 use lib.Arith.{digits_div}
 use lib.Pow.{shl-shr}
 use Rattle.tree.specs.Bin.{height, first, last}
 use Rattle.tree.specs.Node.{above}
 use Rattle.tree.specs.Steps.{parent, sibling}
-use Rattle.tree.proofs.BinLaws.{node_of, first-bin, bin_of}
+use Rattle.tree.proofs.BinLaws.{node_of, first-bin, bin_of, pow-height}
 use Rattle.tree.proofs.NodeLaws.{above-left, above-right, beside-left, beside-right, unique}
 
 first_of : (b : ℕ) → first b ≡ (node_of b).0 * 2 ^ height b
@@ -64,3 +64,18 @@ module _ (b h w : ℕ) (e : h ≡ height b) (g : w ≡ 2 ^ h) where
   unfolding sibling
   sibling-of-right t =
       omega (arith, width, beside-right (height b) (first b) (bit-right t), aligned b, bin_of b, pow_pos (height b))
+
+-- the parent lies halfway to the sibling
+pub halfway : (b : ℕ) → (b + sibling b ≡ 2 * parent b) × (sibling b ≤ 3 * b + 2)
+halfway b = go (b / (2 * 2 ^ height b) % 2) refl
+  where
+    go : (t : ℕ) → b / (2 * 2 ^ height b) % 2 ≡ t → (b + sibling b ≡ 2 * parent b) × (sibling b ≤ 3 * b + 2)
+    go zero e =
+        let s = sibling-of-left b (height b) (2 ^ height b) refl refl e in
+        let p = parent-of-left b (height b) (2 ^ height b) refl refl e in
+        (omega (arith, s, p), omega (arith, s, pow-height b))
+    go (suc t) e =
+        let d : b / (2 * 2 ^ height b) % 2 ≡ 0 → ⊥ = λ z. omega arith in
+        let s = sibling-of-right b (height b) (2 ^ height b) refl refl d in
+        let p = parent-of-right b (height b) (2 ^ height b) refl refl d in
+        (omega (arith, s, p), omega (arith, s))

@@ -16,8 +16,9 @@ use Rattle.tree.specs.Steps.{peak_bit, peak_at}
 use Rattle.tree.specs.Verdicts.{Came, is_there, is_missing, got, Each, peaks_trusted, counted_hash, reached, needed}
 use Rattle.tree.specs.Verdicts.{first_missing, rooted, met, verdict, named}
 use Rattle.tree.specs.Named.{FirstMissing, MissesRoot, MissesNode}
-use Rattle.tree.specs.declared.verdict.Verdict.{Verdict}
-use Rattle.tree.specs.declared.verdict.Verdict.TheVariants.{Fits, Missing, WrongPeaks, WrongClimb}
+use Rattle.tree.specs.Verdicts.{Verdict}
+use Rattle.std.specs.Prelude.{Ok, Err}
+use Rattle.tree.specs.declared.verdict.Fault.TheVariants.{Missing, WrongPeaks, WrongClimb}
 use Rattle.tree.proofs.Below.{peaks_below}
 use Rattle.tree.proofs.EachLaws.{each_map, each_append, each_in, each-sort, sort-each, siblings-each}
 use Rattle.tree.proofs.FirstLaws.{first-none, none_first, first-in, first_passes, first-least}
@@ -61,16 +62,16 @@ module _ (N : ℕ) (s : State) (c : ℕ) (m : Came) where
 -- ---- by the verdict
 
 module _ (H : List ℕ → List ℕ) (Z : List ℕ) (N : ℕ) (r : List ℕ) (s : State) (c : ℕ) (d : List ℕ) (m : Came) (b : ℕ) where
-  pub missing-named : verdict H Z N r s c d m ≡ Missing b → (n : Node) × (b ≡ num n) × FirstMissing N s c m n
+  pub missing-named : verdict H Z N r s c d m ≡ Err (Missing b) → (n : Node) × (b ≡ num n) × FirstMissing N s c m n
   missing-named e =
-      let k = verdict-means H Z N r s c d m (Missing b) e in
+      let k = verdict-means H Z N r s c d m (Err (Missing b)) e in
       (k.0, k.1, first-missing N s c m k.0 k.2)
 
-  pub peaks-named : verdict H Z N r s c d m ≡ WrongPeaks b
+  pub peaks-named : verdict H Z N r s c d m ≡ Err (WrongPeaks b)
       → (b ≡ root_node N) × Each (There N s c m) (needed N s c) × MissesRoot H Z N r s m
   unfolding rooted
   peaks-named e =
-      let k = verdict-means H Z N r s c d m (WrongPeaks b) e in
+      let k = verdict-means H Z N r s c d m (Err (WrongPeaks b)) e in
       (k.0, none-missing N s c m k.1, go (peaks_trusted N s) refl k.2)
     where
       go : (t : Bool) → peaks_trusted N s ≡ t → pick t true (same (combined H Z N (got Z m)) r) ≡ false → MissesRoot H Z N r s m
@@ -85,11 +86,11 @@ module _ (H : List ℕ → List ℕ) (Z : List ℕ) (N : ℕ) (r : List ℕ) (s 
   right true p q = inl p
   right false p q = inr (same_is (combined H Z N (got Z m)) r q)
 
-  pub climb-named : c < N → verdict H Z N r s c d m ≡ WrongClimb b
+  pub climb-named : c < N → verdict H Z N r s c d m ≡ Err (WrongClimb b)
       → (n : Node) × (b ≡ num n) × Each (There N s c m) (needed N s c) × MissesNode H Z N r s c d m n
   unfolding met rooted
   climb-named l e =
-      let k = verdict-means H Z N r s c d m (WrongClimb b) e in
+      let k = verdict-means H Z N r s c d m (Err (WrongClimb b)) e in
       let t = reached N s c in
       let R = reached_least N s c l in
       let v = counted_hash N s (got Z m) t (above t c) in
@@ -142,13 +143,13 @@ module _ (H : List ℕ → List ℕ) (Z : List ℕ) (N : ℕ) (r : List ℕ) (s 
       says x e u = let z : x ≡ b = cc in rw (← z) u
 
       go : (v : Verdict) → verdict H Z N r s c d m ≡ v → named v ≡ Some b → suc b < 2 * leaf_places N
-      go (Fits t) p e = absurd (let w : ◌≡◌ {A = ℕ} 0 1 = cc in omega arith)
-      go (Missing x) p e =
+      go (Ok t) p e = absurd (let w : ◌≡◌ {A = ℕ} 0 1 = cc in omega arith)
+      go (Err (Missing x)) p e =
           let k = missing-named H Z N r s c d m x p in
           says x e (rw k.1 (inner_number N k.0 (each_in (Inner N) (needed N s c) (needed_inner N s c l) k.0 k.2.needs)))
-      go (WrongPeaks x) p e =
+      go (Err (WrongPeaks x)) p e =
           says x e (rw (peaks-named H Z N r s c d m x p).0 (omega (arith, pow_pos (levels N))))
-      go (WrongClimb x) p e =
-          let k = verdict-means H Z N r s c d m (WrongClimb x) p in
+      go (Err (WrongClimb x)) p e =
+          let k = verdict-means H Z N r s c d m (Err (WrongClimb x)) p in
           let t = reached N s c in
           says x e (rw k.0 (inner_number N (node t (above t c)) (reached_inside N s c l)))

@@ -47,6 +47,14 @@ beside-right h c e =
     let f = above-right h c e in
     rw (le-ltb c (above (suc h) c + 2 ^ h) (omega (arith, above_in h c))) f
 
+-- it is not far away
+pub beside-near : (h c : ℕ) → sibling_from h c ≤ c + 2 ^ h
+beside-near h c = go (ltb c (above (suc h) c + 2 ^ h))
+  where
+    go : (t : Bool) → pick t (above (suc h) c + 2 ^ h) (above (suc h) c) ≤ c + 2 ^ h
+    go true = omega (arith, above_in (suc h) c)
+    go false = omega (arith, above_in (suc h) c)
+
 -- the sibling's first chunk by its index, as the code has it
 pub beside-even : (h c k : ℕ) → k ≡ c / 2 ^ h → k % 2 ≡ 0 → (k + 1) * 2 ^ h ≡ sibling_from h c
 beside-even h c k e f =

@@ -1,5 +1,5 @@
 -- The least tree with at least N leaves. Assumes nothing.
-use Rattle.std.proofs.Common.{◌≡◌, ℕ, ◌+◌, ◌-◌, ◌*◌, ◌^◌, ◌<◌, ◌≤◌, leb, ◌⊎◌, ◌∙◌, inl, inr, pow-suc, arith, pow_pos, pow_mono, le-leb, leb-false, leb-true}
+use Rattle.std.proofs.Common.{◌≡◌, ℕ, zero, suc, ◌+◌, ◌-◌, ◌*◌, ◌^◌, ◌<◌, ◌≤◌, leb, ◌⊎◌, ◌∙◌, inl, inr, pow-suc, arith, pow_pos, pow_mono, le-leb, leb-false, leb-true}
 use lib.Count.{count_leading_zeros, leading_length}
 use Rattle.tree.specs.Pack.{levels, leaf_places}
 use Rattle.tree.proofs.NodeLaws.{split}
@@ -36,18 +36,24 @@ levels_unique N h e l = go (split h (levels N)) (split (levels N) h)
     go (inr p) q = absurd (omega (arith, l (levels N) p, levels-holds N))
 
 -- One leaf, or none, needs no height,
-pub levels-none : (N : ℕ) → N < 2 → 0 ≡ levels N
+levels-none : (N : ℕ) → N < 2 → 0 ≡ levels N
 levels-none N h = levels_unique N 0 (omega arith) (λ k l. absurd (omega arith))
 
 -- and the height for more is the length of N - 1 in binary digits.
-pub levels_leading : (N : ℕ) → 2 ≤ N → N < 2 ^ 32 → 32 - count_leading_zeros 32 (N - 1) ≡ levels N
-levels_leading N l h =
+levels_over : (N : ℕ) → 2 ≤ N → N < 2 ^ 32 → 32 - count_leading_zeros 32 (N - 1) ≡ levels N
+levels_over N l h =
     let s = leading_length 32 (N - 1) (omega arith) in
     let e : 32 - count_leading_zeros 32 (N - 1) ≡ s.0 = omega (arith, s.1) in
     e ∙ levels_unique N s.0 (omega (arith, s.2)) (λ k b. lower s.0 k b s.3)
   where
     lower : (m k : ℕ) → k < m → 2 ^ m ≤ 2 * (N - 1) + 1 → 2 ^ k < N
     lower m k b t = let p = pow_mono b in omega (arith, p, t, pow-suc 2 k)
+
+pub levels_leading : (N : ℕ) → N < 2 ^ 32 → 32 - count_leading_zeros 32 (N - 1) ≡ levels N
+unfolding count_leading_zeros
+levels_leading zero h = levels-none zero (omega arith)
+levels_leading (suc zero) h = levels-none (suc zero) (omega arith)
+levels_leading (suc (suc n)) h = levels_over (suc (suc n)) (omega arith) h
 
 -- no whole node is higher than the tree
 pub high_bound : (N p : ℕ) → 2 ^ p ≤ N → p ≤ levels N

@@ -116,14 +116,3 @@ module _ (H : List ℕ → List ℕ) (Z : List ℕ) (N : ℕ) (held : ℕ → �
 
   pub folded_start : given H Z N held zero (above zero N) ≡ Z
   folded_start = given-empty H Z N held zero (above zero N) (omega (arith, above_in zero N))
-
--- the three ways of a step
-module _ (H : List ℕ → List ℕ) (Z : List ℕ) (N : ℕ) (held : ℕ → ℕ → List ℕ) (h : ℕ) (acc : List ℕ) where
-  pub folded-bit : N / 2 ^ h % 2 ≡ 1 → folded H Z N held h acc ≡ H (held h (above (suc h) N) ++ acc)
-  folded-bit b = rw (eq-eqb (N / 2 ^ h % 2) 1 b)
-
-  pub folded-none : N / 2 ^ h % 2 ≢ 1 → above h N ≡ N → folded H Z N held h acc ≡ acc
-  folded-none b e = rw (ne_eqb (N / 2 ^ h % 2) 1 b, eq-eqb (above h N) N e)
-
-  pub folded-some : N / 2 ^ h % 2 ≢ 1 → above h N ≢ N → folded H Z N held h acc ≡ H (acc ++ Z)
-  folded-some b e = rw (ne_eqb (N / 2 ^ h % 2) 1 b, ne_eqb (above h N) N e)

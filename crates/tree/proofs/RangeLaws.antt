@@ -1,9 +1,10 @@
 -- The node of a range of chunks: there is one exactly where a node covers the range. Assumes nothing.
-use Rattle.std.proofs.Common.{◌≡◌, ℕ, ◌+◌, ◌*◌, ◌^◌, Bool, true, false, eqb, refl, ap, ◌∙◌, arith, pow_pos, eq-eqb, ne_eqb, eqb-true}
+use Rattle.std.proofs.Common.{◌≡◌, ℕ, ◌+◌, ◌*◌, ◌^◌, Bool, true, false, eqb, refl, sym, ap, ◌∙◌, arith, pow_pos, eq-eqb, ne_eqb, eqb-true}
 use borrow.Author.Tests.{eqb-false}
 use Rattle.tree.specs.Bin.{height, first, last}
 use Rattle.tree.specs.Range.{node_of_range}
 use Rattle.std.specs.Prelude.{Some, None}
+use Rattle.std.specs.Bool.{then_some}
 use Rattle.tree.proofs.BinLaws.{first_plus_last, bin_of}
 
 -- ---- the first chunk of f + l settles it
@@ -32,11 +33,16 @@ module _ (f l h w : ℕ) (e : h ≡ height (f + l)) (g : w ≡ 2 ^ h) where
   width : w ≡ 2 ^ height (f + l)
   width = g ∙ ap (λ (x : ℕ). 2 ^ x) e
 
-  pub range-some : 2 * f + w ≡ f + l + 1 → node_of_range f l ≡ Some (f + l)
-  range-some t = node_if f l (sum_first (f + l) f (omega (arith, width)))
-
-  pub range_none : (2 * f + w ≡ f + l + 1 → ⊥) → node_of_range f l ≡ None
-  range_none t = none_if f l (λ q. t (omega (arith, width, first-sum (f + l) f q)))
+  pub range_by : then_some (eqb (2 * f + w) (f + l + 1)) (f + l) ≡ node_of_range f l
+  range_by = go (eqb (2 * f + w) (f + l + 1)) refl
+    where
+      go : (t : Bool) → eqb (2 * f + w) (f + l + 1) ≡ t → then_some t (f + l) ≡ node_of_range f l
+      go true t =
+          let q = eqb-true (2 * f + w) (f + l + 1) t in
+          sym (node_if f l (sum_first (f + l) f (omega (arith, width, q))))
+      go false t =
+          let q = eqb-false (2 * f + w) (f + l + 1) t in
+          sym (none_if f l (λ z. q (omega (arith, width, first-sum (f + l) f z))))
 
 -- ---- node_of_range f l is Some b exactly where node b covers f..l
 

@@ -7,8 +7,9 @@ use Rattle.tree.specs.Pack.{levels}
 use Rattle.tree.specs.Tree.{tree, combined, climb}
 use Rattle.tree.specs.State.{State, is_peak, AllPeaks}
 use Rattle.tree.specs.Verdicts.{Came, got, peaks_trusted, verdict}
-use Rattle.tree.specs.declared.verdict.Verdict.{Verdict}
-use Rattle.tree.specs.declared.verdict.Verdict.TheVariants.{Fits, Missing, WrongPeaks, WrongClimb}
+use Rattle.tree.specs.Verdicts.{Verdict}
+use Rattle.std.specs.Prelude.{Ok, Err}
+use Rattle.tree.specs.declared.verdict.Fault.TheVariants.{Missing, WrongPeaks, WrongClimb}
 
 -- (h, a) is the root.
 abbrev pub is_root : ℕ → ℕ → ℕ → Bool
@@ -63,10 +64,10 @@ module _ (H : List ℕ → List ℕ) (Z : List ℕ) (N : ℕ) (r : List ℕ) (s 
   -- The store after a chunk was judged: one that fits is hung, one that is already held changes nothing, and so does any
   -- other verdict.
   abbrev pub after_by : Verdict → State
-  after_by (Fits t) = pick (s.in_map c) s (hung H c t d (got Z m) counted)
-  after_by (Missing b) = s
-  after_by (WrongPeaks b) = s
-  after_by (WrongClimb b) = s
+  after_by (Ok t) = pick (s.in_map c) s (hung H c t d (got Z m) counted)
+  after_by (Err (Missing b)) = s
+  after_by (Err (WrongPeaks b)) = s
+  after_by (Err (WrongClimb b)) = s
 
   unfoldable pub after : State
   after = after_by (verdict H Z N r s c d m)

@@ -1,5 +1,8 @@
 -- What a turn of the code's loops gives: one node put or none, and what is left to list. Assumes nothing.
-use Rattle.std.proofs.Common.{◌≡◌, ℕ, zero, suc, ◌+◌, ◌-◌, ◌*◌, ◌/◌, ◌%◌, ◌^◌, ◌<◌, ◌≤◌, Bool, true, false, not, ltb, leb, List, [], ◌∷◌, ◌++◌, map, length, set, sym, refl, ap, ◌∙◌, add-one, arith, length-append, le-ltb, lt-ltb, eq-eqb, ne_eqb, leb-false, leb-true}
+use Rattle.std.proofs.Common.{◌≡◌, ℕ, zero, suc, ◌+◌, ◌-◌, ◌*◌, ◌^◌, ◌<◌, ◌≤◌, Bool, true, false, not, ltb, leb, List, [], ◌∷◌, ◌++◌, map, length, set, sym, refl, ap, ◌∙◌, add-one, arith, length-append, le-ltb, lt-ltb, leb-false, leb-true, Option, Some, None}
+use Rattle.std.proofs.lemmas.Bool.{lt-leb}
+use Rattle.std.specs.Bool.{then_some}
+use Rattle.std.specs.Option.{option_to_list}
 use mathlib.Core.List.{map-append}
 use lib.ListN.{length-map}
 use lib.Seq.{sets}
@@ -8,7 +11,7 @@ use Rattle.tree.specs.Node.{Node, num, above}
 use Rattle.tree.specs.State.{is_peak}
 use Rattle.tree.specs.Steps.{peak_bit, peak_at, sibling_at, peak_turn, sibling_turn, listed}
 use Rattle.tree.proofs.Below.{peaks_below, sent_below}
-use Rattle.tree.proofs.NodeLaws.{parent_above}
+use Rattle.tree.proofs.NodeLaws.{parent_above, above_in}
 
 -- ---- the test for a peak
 
@@ -19,43 +22,28 @@ not_leb a b = go (leb a b) refl
     go true e = sym (le-ltb b a (leb-true a b e))
     go false e = sym (lt-ltb b a (leb-false a b e))
 
-module _ (N c h : ℕ) (t : Bool) (e : t ≡ leb (above h c + 2 ^ h) N) where
-  pub peak-not : t ≡ false → false ≡ is_peak N h (above h c)
-  peak-not f = rw (sym e ∙ f)
-
-  pub peak-unless : (u : Bool) → t ≡ true → u ≡ leb (above (h + 1) c + 2 ^ (h + 1)) N → not u ≡ is_peak N h (above h c)
-  peak-unless u f g =
-      rw (sym e ∙ f, parent_above h c)
-      (ap not (rw add-one at g) ∙ not_leb (above (suc h) c + 2 ^ suc h) N)
+pub peak-unless : (N c h : ℕ) {t u : Bool} → t ≡ leb (above h c + 2 ^ h) N → t ≡ true → u ≡ leb (above (h + 1) c + 2 ^ (h + 1)) N → not u ≡ is_peak N h (above h c)
+peak-unless N c h e f g =
+    rw (sym e ∙ f, parent_above h c)
+    (ap not (rw add-one at g) ∙ not_leb (above (suc h) c + 2 ^ suc h) N)
 
 -- ---- one node put, or none
 
-module _ (n : Node) (k : ℕ) (room : List ℕ) where
-  none-put : (t : Bool) → t ≡ false → (k ≡ k + length (pick t (n ∷ []) [])) × (room ≡ listed room k (pick t (n ∷ []) []))
-  none-put t f = rw f (omega arith, refl)
+pub option-short : (o : Option ℕ) → length (option_to_list o) ≤ 1
+option-short (Some b) = omega arith
+option-short None = omega arith
 
-  one-put : (t : Bool) (b k' : ℕ) (room' : List ℕ) → t ≡ true → b ≡ num n → (k' ≡ k + 1) × (room' ≡ set room k b)
+turned : (t : Bool) (n : Node) → option_to_list (then_some t (num n)) ≡ map num (pick t (n ∷ []) [])
+turned true n = refl
+turned false n = refl
+
+module _ (t : Bool) (n : Node) (k : ℕ) (room : List ℕ) {o : Option ℕ} (e : o ≡ then_some t (num n)) where
+  one-put : {k' : ℕ} {room' : List ℕ} → (k' ≡ k + length (option_to_list o)) × (room' ≡ sets room k (option_to_list o))
       → (k' ≡ k + length (pick t (n ∷ []) [])) × (room' ≡ listed room k (pick t (n ∷ []) []))
-  one-put t b k' room' f e p = rw f (p.0, p.1 ∙ ap (set room k) e)
-
-module _ (N h s k : ℕ) (room : List ℕ) (e : s ≡ N / 2 ^ h % 2) where
-  pub peak-none : (s ≡ 1 → ⊥) → (k ≡ k + length (peak_turn N h)) × (room ≡ listed room k (peak_turn N h))
-  peak-none f = none-put (peak_at N h) k room _ (ne_eqb (N / 2 ^ h % 2) 1 (λ g. f (e ∙ g)))
-
-  pub peak-put : (b k' : ℕ) (room' : List ℕ) → s ≡ 1 → b ≡ num (peak_at N h) → (k' ≡ k + 1) × (room' ≡ set room k b)
-      → (k' ≡ k + length (peak_turn N h)) × (room' ≡ listed room k (peak_turn N h))
-  peak-put b k' room' f = one-put (peak_at N h) k room _ b k' room' (eq-eqb (N / 2 ^ h % 2) 1 (sym e ∙ f))
-
-module _ (N c h k : ℕ) (room : List ℕ) (t : Bool) (e : t ≡ leb (above (h + 1) c + 2 ^ (h + 1)) N) where
-  test : t ≡ leb (above (suc h) c + 2 ^ suc h) N
-  test = rw add-one at e
-
-  pub sibling-none : t ≡ false → (k ≡ k + length (sibling_turn N c h)) × (room ≡ listed room k (sibling_turn N c h))
-  sibling-none f = none-put (sibling_at c h) k room _ (sym test ∙ f)
-
-  pub sibling-put : (b k' : ℕ) (room' : List ℕ) → t ≡ true → b ≡ num (sibling_at c h) → (k' ≡ k + 1) × (room' ≡ set room k b)
-      → (k' ≡ k + length (sibling_turn N c h)) × (room' ≡ listed room k (sibling_turn N c h))
-  sibling-put b k' room' f = one-put (sibling_at c h) k room _ b k' room' (sym test ∙ f)
+  one-put p =
+      let ns = pick t (n ∷ []) [] in
+      let f : option_to_list o ≡ map num ns = ap option_to_list e ∙ turned t n in
+      (p.0 ∙ ap (λ (x : List ℕ). k + length x) f ∙ ap (λ (x : ℕ). k + x) (length-map ns num), p.1 ∙ ap (sets room k) f)
 
 -- ---- what is left to list
 
@@ -90,21 +78,9 @@ module _ (room₀ : List ℕ) (all : List Node) (room : List ℕ) (k : ℕ) wher
 
 -- ---- height by height
 
-one-short : (t : Bool) (n : Node) → length (pick t (n ∷ []) []) ≤ 1
-one-short true n = omega arith
-one-short false n = omega arith
-
-pub sibling-short : (N c h : ℕ) → length (sibling_turn N c h) ≤ 1
-sibling-short N c h = one-short (leb (above (suc h) c + 2 ^ suc h) N) (sibling_at c h)
-
 turn-short : (t : Bool) (n : Node) (ns : List Node) → length (pick t (n ∷ []) [] ++ ns) ≤ length ns + 1
 turn-short true n ns = omega arith
 turn-short false n ns = omega arith
-
-pub peaks-short : (N h : ℕ) → length (peaks_below N h) ≤ h
-unfolding peaks_below
-peaks-short N zero = omega arith
-peaks-short N (suc h) = omega (arith, turn-short (peak_bit N h) (peak_at N h) (peaks_below N h), peaks-short N h)
 
 pub sent-short : (N c h : ℕ) → length (sent_below N c h) ≤ 2 * h
 unfolding sent_below
@@ -114,18 +90,9 @@ sent-short N c (suc h) =
 
 -- ---- the loops over the heights: the beginning, a turn, the end
 
-pub peaks-none : (N : ℕ) → peaks_below N 0 ≡ []
-unfolding peaks_below
-peaks-none N = refl
-
 pub sent-none : (N c : ℕ) → sent_below N c 0 ≡ []
 unfolding sent_below
 sent-none N c = refl
-
-peaks-at : (N h : ℕ) → 0 < h → peaks_below N h ≡ peak_turn N (h - 1) ++ peaks_below N (h - 1)
-unfolding peaks_below
-peaks-at N zero l = absurd (omega arith)
-peaks-at N (suc h) l = let e : suc h - 1 ≡ h = omega arith in rw e
 
 pub sent-at : (N c h : ℕ) → 0 < h → sent_below N c h ≡ sibling_turn N c (h - 1) ++ (peak_turn N (h - 1) ++ sent_below N c (h - 1))
 unfolding sent_below
@@ -147,17 +114,24 @@ module _ (f : ℕ → List Node) (top : ℕ) (room₀ : List ℕ) where
     pub loop-end : (ns : List Node) → f 0 ≡ [] → ns ≡ f (suc top) → h ≡ 0 → LeftBelow room k h → (k ≡ length ns) × (room ≡ listed room₀ 0 ns)
     loop-end ns b e z g = rw e (left_end room₀ (f (suc top)) room k (rw (z, b) at g))
 
-module _ (N top : ℕ) (room₀ room : List ℕ) (k h : ℕ) (l : 0 < h) where
-  pub peaks-turn : (k' : ℕ) (room' : List ℕ) → LeftBelow (peaks_below N) top room₀ room k h
-      → (k' ≡ k + length (peak_turn N (h - 1))) × (room' ≡ listed room k (peak_turn N (h - 1)))
-      → LeftBelow (peaks_below N) top room₀ room' k' (h - 1)
-  peaks-turn k' room' e p =
-      left-turn room₀ _ room k (peak_turn N (h - 1)) (peaks_below N (h - 1)) k' room' (rw (peaks-at N h l) at e) p
+-- the sibling and then the peak of the height below h
+module _ (N c top : ℕ) (room₀ room : List ℕ) (k h : ℕ) (l : 0 < h) (e : LeftBelow (sent_below N c) top room₀ room k h) where
+  module _ {o o' : Option ℕ} {k' k'' : ℕ} {room' room'' : List ℕ} where
+    pub sent-turn : o ≡ then_some (leb (above (suc (h - 1)) c + 2 ^ suc (h - 1)) N) (num (sibling_at c (h - 1)))
+        → o' ≡ then_some (peak_bit N (h - 1)) (num (peak_at N (h - 1)))
+        → (k' ≡ k + length (option_to_list o)) × (room' ≡ sets room k (option_to_list o))
+        → (k'' ≡ k' + length (option_to_list o')) × (room'' ≡ sets room' k' (option_to_list o'))
+        → LeftBelow (sent_below N c) top room₀ room'' k'' (h - 1)
+    sent-turn eo eo' p q =
+        left-turn room₀ _ room' k' (peak_turn N (h - 1)) (sent_below N c (h - 1)) k'' room''
+        (left-turn room₀ _ room k (sibling_turn N c (h - 1)) (peak_turn N (h - 1) ++ sent_below N c (h - 1)) k' room' (rw (sent-at N c h l) at e) (one-put _ _ k room eo p))
+        (one-put _ _ k' room' eo' q)
 
-  pub sent-turn : (c k' : ℕ) (room' : List ℕ) (k'' : ℕ) (room'' : List ℕ) → LeftBelow (sent_below N c) top room₀ room k h
-      → (k' ≡ k + length (sibling_turn N c (h - 1))) × (room' ≡ listed room k (sibling_turn N c (h - 1)))
-      → (k'' ≡ k' + length (peak_turn N (h - 1))) × (room'' ≡ listed room' k' (peak_turn N (h - 1)))
-      → LeftBelow (sent_below N c) top room₀ room'' k'' (h - 1)
-  sent-turn c k' room' k'' room'' e p q =
-      left-turn room₀ _ room' k' (peak_turn N (h - 1)) (sent_below N c (h - 1)) k'' room''
-      (left-turn room₀ _ room k (sibling_turn N c (h - 1)) (peak_turn N (h - 1) ++ sent_below N c (h - 1)) k' room' (rw (sent-at N c h l) at e) p) q
+-- ---- chunk N lies past the pack, so no sibling goes out with it
+
+pub sent-past : (N h : ℕ) → sent_below N N h ≡ peaks_below N h
+unfolding sent_below peaks_below
+sent-past N zero = refl
+sent-past N (suc h) =
+    let f : leb (above (suc h) N + 2 ^ suc h) N ≡ false = lt-leb (above (suc h) N + 2 ^ suc h) N (omega (arith, above_in (suc h) N)) in
+    rw (f, sent-past N h)

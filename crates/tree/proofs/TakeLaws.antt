@@ -13,8 +13,9 @@ use Rattle.tree.specs.State.{State, is_peak, AllPeaks}
 use Rattle.tree.proofs.Sound.{adopted, hung, Sound, counted, after_by, after}
 use Rattle.tree.specs.Verdicts.{Came, got, every, peaks_trusted, counts, counted_hash, reached}
 use Rattle.tree.specs.Verdicts.{first_missing, unless_missing, rooted, met, verdict}
-use Rattle.tree.specs.declared.verdict.Verdict.{Verdict}
-use Rattle.tree.specs.declared.verdict.Verdict.TheVariants.{Fits, Missing, WrongPeaks, WrongClimb}
+use Rattle.tree.specs.Verdicts.{Verdict}
+use Rattle.std.specs.Prelude.{Ok, Err}
+use Rattle.tree.specs.declared.verdict.Fault.TheVariants.{Missing, WrongPeaks, WrongClimb}
 use Rattle.tree.proofs.NodeLaws.{whole_below, above_aligned}
 use Rattle.tree.proofs.LeastLaws.{Least, least_finds}
 use Rattle.tree.proofs.PackLaws.{high_bound}
@@ -65,10 +66,10 @@ module _ (H : List ℕ → List ℕ) (Z : List ℕ) (N : ℕ) (r : List ℕ) (s 
   u = reached N s c
 
   abbrev pub Means : Verdict → Type 0
-  Means (Fits t) = FitsMeans H Z N r s c d m t
-  Means (Missing b) = (n : Node) × (b ≡ num n) × (first_missing N s c m ≡ some n)
-  Means (WrongPeaks b) = (b ≡ root_node N) × (first_missing N s c m ≡ none) × (rooted H Z N r s c d m ≡ false)
-  Means (WrongClimb b) =
+  Means (Ok t) = FitsMeans H Z N r s c d m t
+  Means (Err (Missing b)) = (n : Node) × (b ≡ num n) × (first_missing N s c m ≡ some n)
+  Means (Err (WrongPeaks b)) = (b ≡ root_node N) × (first_missing N s c m ≡ none) × (rooted H Z N r s c d m ≡ false)
+  Means (Err (WrongClimb b)) =
       (b ≡ bin (reached N s c) (above (reached N s c) c)) × (first_missing N s c m ≡ none)
       × (rooted H Z N r s c d m ≡ true) × (met H Z N r s c d m ≡ false)
 
@@ -86,14 +87,14 @@ module _ (H : List ℕ → List ℕ) (Z : List ℕ) (N : ℕ) (r : List ℕ) (s 
       go (first_missing N s c m) (rooted H Z N r s c d m) (met H Z N r s c d m) refl refl refl
     where
       go : (o : Option Node) (y z : Bool) → first_missing N s c m ≡ o → rooted H Z N r s c d m ≡ y → met H Z N r s c d m ≡ z
-          → unless_missing o (pick y (pick z (Fits u) (WrongClimb (bin u (above u c)))) (WrongPeaks (root_node N))) ≡ v → Means v
+          → unless_missing o (pick y (pick z (Ok u) (Err (WrongClimb (bin u (above u c))))) (Err (WrongPeaks (root_node N)))) ≡ v → Means v
       go (some n) y z p q i e = rw (← e) (n, refl, p)
       go none false z p q i e = rw (← e) (refl, p, q)
       go none true false p q i e = rw (← e) (refl, p, q, i)
       go none true true p q i e = rw (← e) (fits-so q i)
 
-  pub fits-means : (t : ℕ) → verdict H Z N r s c d m ≡ Fits t → FitsMeans H Z N r s c d m t
-  fits-means t e = verdict-means (Fits t) e
+  pub fits-means : (t : ℕ) → verdict H Z N r s c d m ≡ Ok t → FitsMeans H Z N r s c d m t
+  fits-means t e = verdict-means (Ok t) e
 
 -- the node reached is the first above the chunk that counts as trusted
 pub reached_least : (N : ℕ) (s : State) (c : ℕ) → c < N → Least (λ h. counts N s h (above h c)) 0 (peak_height N c) (reached N s c)
@@ -147,7 +148,7 @@ module _ (H : List ℕ → List ℕ) (Z : List ℕ) (N : ℕ) (r : List ℕ) (s 
           )
 
   -- a chunk that fits hangs below the first trusted node
-  pub fits-hung : (t : ℕ) → verdict H Z N r s c d m ≡ Fits t → Sound H Z N r (hung H c t d (got Z m) (counted H Z N r s c d m))
+  pub fits-hung : (t : ℕ) → verdict H Z N r s c d m ≡ Ok t → Sound H Z N r (hung H c t d (got Z m) (counted H Z N r s c d m))
   fits-hung t e =
       let f = fits-means H Z N r s c d m t e in
       let k = counted-ok f.rooted_is in
@@ -157,12 +158,12 @@ module _ (H : List ℕ → List ℕ) (Z : List ℕ) (N : ℕ) (r : List ℕ) (s 
   unfolding after
   after-sound = go (verdict H Z N r s c d m) refl
     where
-      held-or-not : (b : Bool) (t : ℕ) → verdict H Z N r s c d m ≡ Fits t → Sound H Z N r (pick b s (hung H c t d (got Z m) (counted H Z N r s c d m)))
+      held-or-not : (b : Bool) (t : ℕ) → verdict H Z N r s c d m ≡ Ok t → Sound H Z N r (pick b s (hung H c t d (got Z m) (counted H Z N r s c d m)))
       held-or-not true t e = S
       held-or-not false t e = fits-hung t e
 
       go : (v : Verdict) → verdict H Z N r s c d m ≡ v → Sound H Z N r (after_by H Z N r s c d m v)
-      go (Fits t) e = held-or-not (s.in_map c) t e
-      go (Missing b) e = S
-      go (WrongPeaks b) e = S
-      go (WrongClimb b) e = S
+      go (Ok t) e = held-or-not (s.in_map c) t e
+      go (Err (Missing b)) e = S
+      go (Err (WrongPeaks b)) e = S
+      go (Err (WrongClimb b)) e = S

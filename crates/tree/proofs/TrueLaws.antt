@@ -13,7 +13,7 @@ use Rattle.tree.specs.State.{State, is_peak}
 use Rattle.tree.proofs.Sound.{on_path, adopted, hung, counted}
 use Rattle.tree.specs.Verdicts.{Came, is_there, got, every, Each, peaks_trusted, reached, needed, first_missing, rooted, met, verdict}
 use Rattle.tree.specs.Steps.{sibling_at}
-use Rattle.tree.specs.declared.verdict.Verdict.TheVariants.{Fits}
+use Rattle.std.specs.Prelude.{Ok}
 use Rattle.tree.proofs.NodeLaws.{above-left, above-right, beside-left, beside-right, whole_below, above_aligned, child_cases}
 use Rattle.tree.proofs.LeastLaws.{Least, least_finds}
 use Rattle.tree.proofs.PackLaws.{high_bound}
@@ -147,7 +147,7 @@ module _ (H : List ℕ → List ℕ) (Z : List ℕ) (N : ℕ) (chunk : ℕ → L
         ap₂ same (climbs t (omega arith)) (counted-hash H Z N r s c d m t (above t c) ∙ holds) ∙ same_refl (tree H Z N chunk t (above t c))
 
     -- The verdict on a true chunk with the true hashes that go out with it: it fits.
-    pub true-fits : verdict H Z N r s c d m ≡ Fits (reached N s c)
+    pub true-fits : verdict H Z N r s c d m ≡ Ok (reached N s c)
     unfolding verdict
     true-fits = rw (completes, roots, meets)
 

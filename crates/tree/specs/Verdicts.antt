@@ -1,18 +1,24 @@
 -- Taking a chunk: what is asked of the hashes that came with it, and the verdict (01, "Taking a chunk", and the
 -- numbers 9 and 10; 02, No. 3). Assumes nothing.
-use Rattle.std.specs.Prelude.{ℕ, suc, Bool, true, false, not, List, [], ◌∷◌, ◌++◌, Some, None}
+use Rattle.std.specs.Prelude.{ℕ, suc, Bool, true, false, not, List, [], ◌∷◌, ◌++◌, Some, None, Result, Ok, Err}
 use Rattle.std.proofs.Math.Option.{Option, none, some, get_or}
 use Rattle.base.specs.Same.{same}
 use Rattle.base.specs.Pick.{pick}
 use Rattle.base.specs.Out.{Named}
+use Rattle.base.specs.declared.Refusal.{Refusal}
+use Rattle.base.specs.declared.Refusal.TheVariants.{HashMissing, HashWrong}
 use Rattle.tree.specs.Bin.{bin}
 use Rattle.tree.specs.Node.{Node, num, above}
 use Rattle.tree.specs.Pack.{least_from, levels, root_node}
 use Rattle.tree.specs.Peaks.{peaks, siblings, sort}
 use Rattle.tree.specs.Tree.{combined, climb}
 use Rattle.tree.specs.State.{State, is_peak}
-use Rattle.tree.specs.declared.verdict.Verdict.{Verdict}
-use Rattle.tree.specs.declared.verdict.Verdict.TheVariants.{Fits, Missing, WrongPeaks, WrongClimb}
+use Rattle.tree.specs.declared.verdict.Fault.{Fault}
+use Rattle.tree.specs.declared.verdict.Fault.TheVariants.{Missing, WrongPeaks, WrongClimb}
+
+-- The height of the node that the chunk hangs from, or why it doesn't fit.
+abbrev pub Verdict : Type 0
+Verdict = Result ℕ Fault
 
 -- The hashes that came, by a node's height and first chunk.
 abbrev pub Came : Type 0
@@ -75,7 +81,7 @@ first_missing N s c m = first_of (is_missing m) (sort (needed N s c))
 -- Every needed hash must be there before any value is judged.
 abbrev pub unless_missing : Option Node → Verdict → Verdict
 unless_missing none v = v
-unless_missing (some n) v = Missing (num n)
+unless_missing (some n) v = Err (Missing (num n))
 
 module _ (H : List ℕ → List ℕ) (Z : List ℕ) (N : ℕ) (r : List ℕ) (s : State) (c : ℕ) (d : List ℕ) (m : Came) where
   -- The peaks combine, with fillers, to the root.
@@ -91,18 +97,24 @@ module _ (H : List ℕ → List ℕ) (Z : List ℕ) (N : ℕ) (r : List ℕ) (s 
   verdict =
       unless_missing (first_missing N s c m)
       (pick rooted
-      (pick met (Fits (reached N s c)) (WrongClimb (bin (reached N s c) (above (reached N s c) c))))
-      (WrongPeaks (root_node N)))
+      (pick met (Ok (reached N s c)) (Err (WrongClimb (bin (reached N s c) (above (reached N s c) c)))))
+      (Err (WrongPeaks (root_node N))))
 
 -- A verdict's number in 01's table, once 12, 11, 7 and 8 are ruled out, and the node that it names.
 abbrev pub number : Verdict → ℕ
-number (Fits t) = 0
-number (Missing b) = 9
-number (WrongPeaks b) = 10
-number (WrongClimb b) = 10
+number (Ok t) = 0
+number (Err (Missing b)) = 9
+number (Err (WrongPeaks b)) = 10
+number (Err (WrongClimb b)) = 10
 
 abbrev pub named : Verdict → Named
-named (Fits t) = None
-named (Missing b) = Some b
-named (WrongPeaks b) = Some b
-named (WrongClimb b) = Some b
+named (Ok t) = None
+named (Err (Missing b)) = Some b
+named (Err (WrongPeaks b)) = Some b
+named (Err (WrongClimb b)) = Some b
+
+-- Why the chunk is refused, then.
+abbrev pub refusal_of : Fault → Refusal
+refusal_of (Missing b) = HashMissing b
+refusal_of (WrongPeaks b) = HashWrong b
+refusal_of (WrongClimb b) = HashWrong b

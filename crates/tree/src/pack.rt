@@ -12,35 +12,22 @@ pub const MAX_LENGTH: u32 = 524_288;
 pub fn chunk_count(length: u32) -> u32
     ensures { result ≡ chunks chunk_size length }
 {
-    let n = length / CHUNK_SIZE;
-    if length % CHUNK_SIZE == 0 {
-        return n;
-    }
-    n + 1
+    length.div_ceil(CHUNK_SIZE)
 }
 
 // The size of chunk i: 0 past the end.
 pub fn chunk_size(length: u32, i: u32) -> u32
     ensures { result ≡ size chunk_size length i }
 {
-    let n = length / CHUNK_SIZE;
-    if i < n {
-        return CHUNK_SIZE;
-    }
-    if i == n {
-        return length % CHUNK_SIZE;
-    }
-    0
+    let before = i.saturating_mul(CHUNK_SIZE);
+    CHUNK_SIZE.min(length.saturating_sub(before))
 }
 
 // The height of the least tree with at least n leaves.
 pub fn levels(n: u32) -> u32
     ensures { (result ≡ levels n) × (result ≤ 32) }
 {
-    if n < 2 {
-        return 0;
-    }
-    32 - u32::leading_zeros(n - 1)
+    32 - n.saturating_sub(1).leading_zeros()
 }
 
 // Its leaf places.
@@ -54,5 +41,5 @@ pub fn leaf_places(n: u32) -> u64
 pub fn root_node(n: u32) -> u64
     ensures { result ≡ root_node n }
 {
-    bin::pow2(levels(n)) - 1
+    leaf_places(n) - 1
 }

@@ -1,11 +1,14 @@
 // What becomes of a chunk that came.
 ghost use Rattle.std.specs.Prelude.{◌≡◌};
-ghost use Rattle.tree.specs.Verdicts.{number, named};
+ghost use Rattle.tree.specs.Verdicts.{refusal_of};
+
+use base::Refusal;
+
+// The height of the trusted node that the chunk hangs from, which may be its own leaf; or why it doesn't fit.
+pub type Verdict = Result<u32, Fault>;
 
 #[derive(Clone, Copy)]
-pub enum Verdict {
-    // It hangs from the trusted node of this height, which may be its own leaf.
-    Fits(u32),
+pub enum Fault {
     // This node's hash is needed and isn't there.
     Missing(u64),
     // The peaks don't give the root, this node.
@@ -14,26 +17,13 @@ pub enum Verdict {
     WrongClimb(u64),
 }
 
-// The verdict's number in 01's table.
-pub fn number(v: Verdict) -> u32
-    ensures { result ≡ number v }
-{
-    match v {
-        Verdict::Fits(_) => 0,
-        Verdict::Missing(_) => 9,
-        Verdict::WrongPeaks(_) => 10,
-        Verdict::WrongClimb(_) => 10,
-    }
-}
+impl From<Fault> for Refusal {
+    ghost from_gives = { λ fault refusal. refusal ≡ refusal_of fault };
 
-// The node that it names.
-pub fn named(v: Verdict) -> Option<u64>
-    ensures { result ≡ named v }
-{
-    match v {
-        Verdict::Fits(_) => None,
-        Verdict::Missing(b) => Some(b),
-        Verdict::WrongPeaks(b) => Some(b),
-        Verdict::WrongClimb(b) => Some(b),
+    fn from(fault: Fault) -> Refusal {
+        match fault {
+            Fault::Missing(b) => Refusal::HashMissing(b),
+            Fault::WrongPeaks(b) | Fault::WrongClimb(b) => Refusal::HashWrong(b),
+        }
     }
 }

@@ -7,8 +7,8 @@ use native.Mathlib.Omega.{arith}
 use lib.ListN.{length}
 use Rattle.hash.proofs.Promise.{sha256}
 use Rattle.tree.specs.Tree.{climb}
-use Rattle.tree.specs.declared.verdict.Verdict.{Verdict}
-use Rattle.tree.specs.declared.verdict.Verdict.TheVariants.{Fits}
+use Rattle.tree.specs.Verdicts.{Verdict}
+use Rattle.std.specs.Prelude.{Ok}
 use Rattle.verdict.specs.Room.{Digest, hash_in, put_hash}
 use Rattle.verdict.specs.Integrity.{Integrity}
 use Rattle.verdict.specs.Steps.{got_by, room_reached, kept, Judged, judged_of, scratch_by, judge_spec, room_verdict}
@@ -59,10 +59,10 @@ module _ (s : List ℕ) (N : ℕ) (r hashes trusted : List ℕ) (c : ℕ) (d : L
     judged-verdict = ap (λ (x : Judged). x.told) j
 
     -- where the chunk fits, the scratch keeps its climb
-    pub judged-climb : (t : ℕ) → v ≡ Fits t → 8 * t ≤ length s → (h : ℕ) → h < t → hash_in s' h ≡ climb sha256 (got_by o) (sha256 d) c h
+    pub judged-climb : (t : ℕ) → v ≡ Ok t → 8 * t ≤ length s → (h : ℕ) → h < t → hash_in s' h ≡ climb sha256 (got_by o) (sha256 d) c h
     unfolding judge_spec
     judged-climb t e u h l =
-        let f : room_verdict N r hashes trusted c d o ≡ Fits t = sym judged-verdict ∙ e in
+        let f : room_verdict N r hashes trusted c d o ≡ Ok t = sym judged-verdict ∙ e in
         let g : t ≡ room_reached N trusted c = fits_reached N r hashes trusted c d o t f in
         ap (λ (x : Judged). hash_in x.scratch h) j
         ∙ ap (λ (x : Verdict). hash_in (scratch_by x s (kept s (got_by o) (sha256 d) c (room_reached N trusted c))) h) f

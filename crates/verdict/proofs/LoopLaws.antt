@@ -10,7 +10,8 @@ use native.Mathlib.Omega.{arith}
 use native.Mathlib.Decide.{le_ind}
 use lib.Dec.{ltb}
 use Rattle.base.specs.Pick.{pick}
-use Rattle.std.specs.Prelude.{Some, None}
+use Rattle.std.specs.Prelude.{Option, Some, None}
+use Rattle.std.specs.Bool.{then_some}
 use Rattle.tree.specs.Node.{Node, num, above}
 use Rattle.tree.specs.Pack.{levels, least_from}
 use Rattle.tree.specs.Peaks.{peaks, siblings, sort}
@@ -73,15 +74,23 @@ module _ (f : Node → Bool) (N : ℕ) where
 
 -- ---- the first that is missing, height by height from the top
 
+some-then : (t : Bool) (n : ℕ) {b : ℕ} → then_some t n ≡ Some b → (t ≡ true) × (n ≡ b)
+some-then true n e = (refl, cc)
+some-then false n e = absurd (let w : ◌≡◌ {A = ℕ} 0 1 = cc in omega arith)
+
+pub none-then : (t : Bool) (n : ℕ) → then_some t n ≡ None → t ≡ false
+none-then true n e = absurd (let w : ◌≡◌ {A = ℕ} 0 1 = cc in omega arith)
+none-then false n e = refl
+
 module _ (f : Node → Bool) (opened : Bool) (N c t : ℕ) where
   abbrev left : ℕ → List Node
   left h = needed_below opened N c t h
 
-  pub missing-begin : {top h : ℕ} → top ≡ levels N → h ≡ top + 1 → above t c + 2 ^ t ≤ N
+  pub missing-begin : (h : ℕ) → h ≡ levels N + 1 → above t c + 2 ^ t ≤ N
       → first_of f (sort (pick opened [] (peaks N) ++ siblings c t)) ≡ first_of f (left h)
-  missing-begin {top} e q w =
+  missing-begin h q w =
       ap (first_of f) (needed_is opened N c t (inside-below N c t w) (omega (arith, high_bound N t (omega arith))))
-      ∙ ap (λ (x : ℕ). first_of f (left x)) (sym (q ∙ ap (λ (x : ℕ). x + 1) e ∙ add-one (levels N)))
+      ∙ ap (λ (x : ℕ). first_of f (left x)) (sym (q ∙ add-one (levels N)))
 
   pub missing-end : (h : ℕ) → h ≤ 0 → None ≡ named_node (first_of f (left h))
   unfolding needed_below first_of
@@ -115,16 +124,18 @@ module _ (f : Node → Bool) (opened : Bool) (N c t : ℕ) where
         ≡ pick (sib (h - 1)) (some (sibling_at c (h - 1))) (pick (top-peak (h - 1)) (some (peak_at N (h - 1))) (first_of f (left (h - 1))))
     here = ap (λ (x : ℕ). first_of f (left x)) (let e : h ≡ suc (h - 1) = omega arith in e) ∙ turn (h - 1)
 
-    pub missing-sibling : {x : Bool} → x ≡ sib (h - 1) → x ≡ true → {b : ℕ} → b ≡ num (sibling_at c (h - 1))
-        → Some b ≡ named_node (first_of f (left h))
-    missing-sibling e g q = rw (q, here, sym e ∙ g)
+    module _ {x : Option ℕ} (xe : x ≡ then_some (sib (h - 1)) (num (sibling_at c (h - 1)))) where
+      pub missing-sibling : {b : ℕ} → x ≡ Some b → Some b ≡ named_node (first_of f (left h))
+      missing-sibling e = let p = some-then (sib (h - 1)) _ (sym xe ∙ e) in rw (here, p.0) (ap Some (sym p.1))
 
-    module _ {x y : Bool} (xe : x ≡ sib (h - 1)) (xf : x ≡ false) (ye : y ≡ top-peak (h - 1)) where
-      pub missing-peak : y ≡ true → {b : ℕ} → b ≡ num (peak_at N (h - 1)) → Some b ≡ named_node (first_of f (left h))
-      missing-peak g q = rw (q, here, sym xe ∙ xf, sym ye ∙ g)
+      module _ (xn : x ≡ None) {y : Option ℕ} (ye : y ≡ then_some (top-peak (h - 1)) (num (peak_at N (h - 1)))) where
+        pub missing-peak : {b : ℕ} → y ≡ Some b → Some b ≡ named_node (first_of f (left h))
+        missing-peak e =
+            let p = some-then (top-peak (h - 1)) _ (sym ye ∙ e) in
+            rw (here, none-then (sib (h - 1)) _ (sym xe ∙ xn), p.0) (ap Some (sym p.1))
 
-      pub missing-none : y ≡ false → first_of f (left h) ≡ first_of f (left (h - 1))
-      missing-none g = here ∙ rw (sym xe ∙ xf, sym ye ∙ g)
+        pub missing-none : y ≡ None → first_of f (left h) ≡ first_of f (left (h - 1))
+        missing-none e = here ∙ rw (none-then (sib (h - 1)) _ (sym xe ∙ xn), none-then (top-peak (h - 1)) _ (sym ye ∙ e))
 
 -- ---- the least height that passes
 
@@ -147,34 +158,3 @@ reach_end f (suc n) h l = absurd (omega arith)
 
 pub given-one : (H : List ℕ → List ℕ) (Z : List ℕ) (N : ℕ) (held : ℕ → ℕ → List ℕ) (t : ℕ) → N ≡ 2 ^ t → given H Z N held t 0 ≡ held t 0
 given-one H Z N held t e = given-whole H Z N held t 0 (omega arith)
-
--- ---- what counts as trusted, by cases
-
-module _ (o p b : Bool) where
-  pub counted-yes : b ≡ true → true ≡ pick o b (pick p true b)
-  counted-yes e = sym (ap (λ (x : Bool). pick o x (pick p true x)) e ∙ go o p)
-    where
-      go : (u v : Bool) → pick u true (pick v true true) ≡ true
-      go true v = refl
-      go false true = refl
-      go false false = refl
-
-  pub counted-open : o ≡ true → b ≡ false → false ≡ pick o b (pick p true b)
-  counted-open e f = rw (e, f)
-
-  pub counted-peak : o ≡ false → b ≡ false → p ≡ pick o b (pick p true b)
-  counted-peak e f = rw (e, f) (go p)
-    where
-      go : (v : Bool) → v ≡ pick v true false
-      go true = refl
-      go false = refl
-
-module _ (o p : Bool) (x y : List ℕ) where
-  pub counted-got : o ≡ false → p ≡ true → x ≡ pick o y (pick p x y)
-  counted-got e f = rw (e, f)
-
-  pub counted-old : o ≡ false → p ≡ false → y ≡ pick o y (pick p x y)
-  counted-old e f = rw (e, f)
-
-pub right : (q : ℕ) → q % 2 ≢ 0 → q % 2 ≡ 1
-right q d = omega arith

@@ -3,14 +3,20 @@ use mathlib.Core.Path.{◌≡◌, refl, sym, ap, ap₂, ◌∙◌}
 use mathlib.Core.Logic.{◌⊎◌, inl, inr, ◌≢◌}
 use mathlib.Core.Bool.{Bool, true, false}
 use mathlib.Core.List.{List, [], ◌∷◌, ◌++◌}
-use Prim.Native.Nat.{ℕ, zero, suc, ◌+◌, ◌*◌, ◌/◌, ◌≤◌, ◌<◌}
+use Prim.Native.Nat.{ℕ, zero, suc, ◌+◌, ◌-◌, ◌*◌, ◌/◌, ◌≤◌, ◌<◌}
 use native.Mathlib.Nat.{add-zero}
-use native.Mathlib.Numerals.{add-one, towards_suc}
 use native.Mathlib.Omega.{arith}
 use borrow.Author.Tests.{lt-ltb, le-ltb}
 use lib.Dec.{ltb}
-use lib.ListN.{length, take, get_or, set, length-set, replicate, length-append}
-use lib.Seq.{sets, length-sets, get_or-set_same, get_or-set_other, take-length, append_snoc, get_or-append_seam}
+use lib.ListN.{length, take, drop, get_or, set, length-set, replicate}
+use lib.Seq.{sets, length-sets, get_or-set_same, get_or-set_other, take-length}
+use Rattle.std.proofs.Common.{append_assoc, length-drop, get_or-drop, Option as Found, Some, None, Bor, MatchOption, ltb-true}
+use Rattle.std.proofs.lemmas.Bool.{ltb-false}
+use Rattle.std.specs.Option.{is_some, IfSome}
+use Rattle.std.specs.Simd.{first_chunks}
+use Rattle.std.proofs.lemmas.List.Edits.{sets-eq, paste_all}
+use Rattle.std.proofs.lemmas.Slice.{put_mid-paste}
+use borrow.Rule.Slice.PartMut.{put_mid}
 use Rattle.hash.proofs.Promise.{sha256, bytes_of, words, Words, sha256-length, sha256-bytes, bytes-length, bytes_zeros, bytes_below, words-length, words-bytes, bytes-words}
 use Rattle.base.specs.Pick.{pick}
 use Rattle.verdict.specs.Room.{filler, Digest, words_at, holds, hash_in, put_hash}
@@ -22,12 +28,6 @@ pub length-words_at : (n : ℕ) (l : List ℕ) (i : ℕ) → length (words_at n 
 unfolding words_at
 length-words_at zero l i = refl
 length-words_at (suc n) l i = ap suc (length-words_at n l (suc i))
-
-get_or-words_at : (n : ℕ) (l : List ℕ) (i j : ℕ) → j < n → get_or (words_at n l i) j 0 ≡ get_or l (i + j) 0
-unfolding words_at
-get_or-words_at zero l i j h = absurd (omega arith)
-get_or-words_at (suc n) l i zero h = rw (add-zero i)
-get_or-words_at (suc n) l i (suc j) h = get_or-words_at n l (suc i) j (omega arith) ∙ ap (λ (k : ℕ). get_or l k 0) (omega arith)
 
 words_at_fit : (n : ℕ) (l : List ℕ) (i : ℕ) → Words l → Words (words_at n l i)
 unfolding words_at
@@ -144,17 +144,42 @@ hash-other l b b' v d = go (holds l b)
 
 -- ---- as the code has them
 
-eight : (l : List ℕ) (i : ℕ)
-    → words_at 8 l i
-    ≡ get_or l i 0 ∷ get_or l (i + 1) 0 ∷ get_or l (i + 2) 0 ∷ get_or l (i + 3) 0 ∷ get_or l (i + 4) 0 ∷ get_or l (i + 5) 0 ∷ get_or l (i + 6) 0 ∷ get_or l (i + 7) 0 ∷ []
+words_tail : (n x : ℕ) (l : List ℕ) (i : ℕ) → words_at n (x ∷ l) (suc i) ≡ words_at n l i
 unfolding words_at
-eight l i = simp towards_suc
+words_tail zero x l i = refl
+words_tail (suc n) x l i = ap (λ (ws : List ℕ). get_or l i 0 ∷ ws) (words_tail n x l (suc i))
 
-pub read_eight : (l : List ℕ) (b : ℕ) → b < length l / 8
-    → bytes_of (get_or l (8 * b) 0 ∷ get_or l (8 * b + 1) 0 ∷ get_or l (8 * b + 2) 0 ∷ get_or l (8 * b + 3) 0 ∷ get_or l (8 * b + 4) 0 ∷ get_or l (8 * b + 5) 0 ∷ get_or l (8 * b + 6) 0 ∷ get_or l (8 * b + 7) 0 ∷ [])
-    ≡ hash_in l b
+words_first : (n : ℕ) (l : List ℕ) → n ≤ length l → take n l ≡ words_at n l 0
+unfolding words_at
+words_first zero l h = refl
+words_first (suc n) [] h = absurd (omega arith)
+words_first (suc n) (x ∷ l) h = ap (λ (ws : List ℕ). x ∷ ws) (words_first n l (omega arith) ∙ sym (words_tail n x l 0))
+
+words_behind : (n k : ℕ) (l : List ℕ) (i : ℕ) → words_at n (drop k l) i ≡ words_at n l (k + i)
+unfolding words_at
+words_behind zero k l i = refl
+words_behind (suc n) k l i =
+    ap₂ {C = List ℕ} ◌∷◌ (get_or-drop k l i 0) (words_behind n k l (suc i) ∙ ap (words_at n l) (omega arith))
+
+chunk-at : (k : ℕ) (l : List ℕ) (b : ℕ) (d : List ℕ) → b < k → 8 * k ≤ length l → get_or (first_chunks 8 k l) b d ≡ words_at 8 l (8 * b)
+chunk-at zero l b d h u = absurd (omega arith)
+chunk-at (suc k) l zero d h u = words_first 8 l (omega arith)
+chunk-at (suc k) l (suc b) d h u =
+    chunk-at k (drop 8 l) b d (omega arith) (omega (arith, length-drop 8 l))
+    ∙ words_behind 8 8 l (8 * b) ∙ ap (words_at 8 l) (omega arith)
+
+-- of the parts of eight words, the one of node b
+pub place_of : (l : List ℕ) (b : ℕ) {front : List (List ℕ)} (r : Found (Bor (List ℕ))) → front ≡ first_chunks 8 (length l / 8) l → length front ≡ length l / 8
+    → is_some r ≡ ltb b (length front) → IfSome r (λ x. x.now ≡ get_or front b x.now)
+    → MatchOption r (length l / 8 ≤ b) (λ w. (b < length l / 8) × (w.now ≡ words_at 8 l (8 * b)))
+place_of l b {front} None e n s g = let m = ltb-false b (length front) (sym s) in omega (arith, m, n)
+place_of l b {front} (Some x) e n s g =
+    let m : b < length l / 8 = omega (arith, ltb-true b (length front) (sym s), n) in
+    (m, g ∙ ap (λ (y : List (List ℕ)). get_or y b x.now) e ∙ chunk-at (length l / 8) l b x.now m (omega arith))
+
+pub hash-there : (l : List ℕ) (b : ℕ) → b < length l / 8 → hash_in l b ≡ bytes_of (words_at 8 l (8 * b))
 unfolding hash_in
-read_eight l b h = rw (lt-ltb b (length l / 8) h) (ap bytes_of (sym (eight l (8 * b))))
+hash-there l b h = rw (lt-ltb b (length l / 8) h)
 
 pub read_past : (l : List ℕ) (b : ℕ) → length l / 8 ≤ b → hash_in l b ≡ filler
 unfolding hash_in
@@ -164,11 +189,11 @@ read_past l b h = rw (le-ltb b (length l / 8) h)
 words_back : (w : List ℕ) → Words w → length w ≡ 8 → words 8 (bytes_of w) ≡ w
 words_back w h e = ap (λ (n : ℕ). words n (bytes_of w)) (sym e) ∙ words-bytes w h
 
-pub word_at : (l : List ℕ) (b j : ℕ) → Words l → b < length l / 8 → j < 8 → get_or l (8 * b + j) 0 ≡ get_or (words 8 (hash_in l b)) j 0
+pub word-there : (l : List ℕ) (b j : ℕ) → Words l → b < length l / 8 → get_or (words_at 8 l (8 * b)) j 0 ≡ get_or (words 8 (hash_in l b)) j 0
 unfolding hash_in
-word_at l b j h i k =
+word-there l b j h i =
     rw (lt-ltb b (length l / 8) i, words_back (words_at 8 l (8 * b)) (words_at_fit 8 l (8 * b) h) (length-words_at 8 l (8 * b)))
-    (sym (get_or-words_at 8 l (8 * b) j k))
+    refl
 
 zeros : (n i : ℕ) → get_or {A = ℕ} (replicate n 0) i 0 ≡ 0
 zeros zero i = refl
@@ -181,38 +206,16 @@ word-past l b j h =
     rw (read_past l b h, ← (bytes_zeros 8), words_back (replicate 8 0) (λ i. omega (arith, zeros 8 i)) refl)
     (sym (zeros 8 j))
 
-words_self : (n : ℕ) (p l : List ℕ) → length l ≡ n → words_at n (p ++ l) (length p) ≡ l
-unfolding words_at
-words_self zero p [] e = refl
-words_self zero p (x ∷ l) e = absurd (omega arith)
-words_self (suc n) p [] e = absurd (omega arith)
-words_self (suc n) p (x ∷ l) e =
-    ap₂ {C = List ℕ} ◌∷◌ (get_or-append_seam p x l 0)
-    (ap₂ (λ (q : List ℕ) (i : ℕ). words_at n q i) (sym (append_snoc p x l)) (sym (length-append p (x ∷ []) ∙ add-one (length p)))
-    ∙ words_self n (p ++ (x ∷ [])) l (omega arith))
-
--- the first k + 1 of them written from place i on
-abbrev written : ℕ → List ℕ → ℕ → List ℕ → List ℕ
-written zero l i v = set l i (get_or v 0 0)
-written (suc k) l i v = set (written k l i v) (i + suc k) (get_or v (suc k) 0)
-
-pub length-written : (k : ℕ) (l : List ℕ) (i : ℕ) (v : List ℕ) → length (written k l i v) ≡ length l
-length-written zero l i v = length-set l i (get_or v 0 0)
-length-written (suc k) l i v = length-set (written k l i v) (i + suc k) (get_or v (suc k) 0) ∙ length-written k l i v
-
--- the next one has its place
-pub inside : (k : ℕ) (l : List ℕ) (b : ℕ) (v : List ℕ) → k < 7 → b < length l / 8 → 8 * b + suc k < length (written k l (8 * b) v)
-inside k l b v h q = rw (length-written k l (8 * b) v) (omega arith)
-
-eight_stores : (l : List ℕ) (i : ℕ) (v : List ℕ) → length v ≡ 8 → written 7 l i v ≡ sets l i v
-unfolding words_at
-eight_stores l i v e = rw (← (words_self 8 [] v e)) (simp towards_suc)
-
-pub write_eight : (l : List ℕ) (b : ℕ) (v : List ℕ) → b < length l / 8 → length v ≡ 8 → Words v → written 7 l (8 * b) v ≡ put_hash l b (bytes_of v)
+-- after a write to the eight words of the place, which then hold v
+pub write_there : (l : List ℕ) (b : ℕ) (v : List ℕ) {part : List ℕ} → b < length l / 8 → length v ≡ 8 → Words v → part ≡ v
+    → put_mid (8 * b) (8 * b + 8 - 8 * b) l part ≡ put_hash l b (bytes_of v)
 unfolding put_hash
-write_eight l b v i e h =
-    rw (lt-ltb b (length l / 8) i)
-    (eight_stores l (8 * b) v e ∙ ap (sets l (8 * b)) (sym (words_back v h e)))
+write_there l b v i e h p =
+    let k : 8 ≡ 8 * b + 8 - 8 * b = omega arith in
+    rw (lt-ltb b (length l / 8) i, words_back v h e)
+    (put_mid-paste (8 * b) (8 * b + 8 - 8 * b) l _ v 8 p k (sym e) ∙ paste_all l (8 * b) v 8 (sym e)
+    ∙ ap (λ (n : ℕ). take (8 * b) l ++ (v ++ drop (8 * b + n) l)) (sym e)
+    ∙ sym (sets-eq v l (8 * b) (omega (arith, e)) ∙ append_assoc (take (8 * b) l) v _))
 
 pub write-past : (l : List ℕ) (b : ℕ) (v : List ℕ) → length l / 8 ≤ b → l ≡ put_hash l b v
 unfolding put_hash

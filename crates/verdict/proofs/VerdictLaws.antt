@@ -15,8 +15,9 @@ use Rattle.tree.specs.Pack.{levels, least_from, root_node}
 use Rattle.tree.specs.Peaks.{peaks, peak_height, siblings, sort}
 use Rattle.tree.specs.Tree.{given, combined, climb}
 use Rattle.tree.specs.Verdicts.{every, is_missing, first_of, peaks_trusted, reached, needed, first_missing, unless_missing, rooted, met, verdict}
-use Rattle.tree.specs.declared.verdict.Verdict.{Verdict}
-use Rattle.tree.specs.declared.verdict.Verdict.TheVariants.{Fits, Missing, WrongPeaks, WrongClimb}
+use Rattle.tree.specs.Verdicts.{Verdict}
+use Rattle.std.specs.Prelude.{Ok, Err}
+use Rattle.tree.specs.declared.verdict.Fault.TheVariants.{Missing, WrongPeaks, WrongClimb}
 use Rattle.verdict.specs.Room.{filler}
 use Rattle.verdict.specs.Integrity.{Integrity, came_from}
 use Rattle.verdict.specs.Rooms.{rooms_of, state_of}
@@ -71,12 +72,12 @@ verdict_sees N r hashes trusted c d o L bytes map =
     sym (is-verdict 0 [] [] N r hashes trusted c d o b t refl refl) ∙ is-verdict L bytes map N r hashes trusted c d o b t refl refl
 
 -- a chunk that fits hangs below the node reached, a node of the tree
-pub fits_reached : (N : ℕ) (r hashes trusted : List ℕ) (c : ℕ) (d : List ℕ) (o : Integrity) (t : ℕ) → room_verdict N r hashes trusted c d o ≡ Fits t → t ≡ room_reached N trusted c
+pub fits_reached : (N : ℕ) (r hashes trusted : List ℕ) (c : ℕ) (d : List ℕ) (o : Integrity) (t : ℕ) → room_verdict N r hashes trusted c d o ≡ Ok t → t ≡ room_reached N trusted c
 unfolding room_reached reached peaks_trusted
 fits_reached N r hashes trusted c d o t e =
     (fits-means sha256 filler N r (state_of 0 (rooms_of [] [] hashes trusted)) c d (came_from o) t (sym (verdict_sees N r hashes trusted c d o 0 [] []) ∙ e)).reached_is
 
-pub fits-within : (N : ℕ) (r hashes trusted : List ℕ) (c : ℕ) (d : List ℕ) (o : Integrity) (t : ℕ) → c < N → room_verdict N r hashes trusted c d o ≡ Fits t → t ≤ levels N
+pub fits-within : (N : ℕ) (r hashes trusted : List ℕ) (c : ℕ) (d : List ℕ) (o : Integrity) (t : ℕ) → c < N → room_verdict N r hashes trusted c d o ≡ Ok t → t ≤ levels N
 unfolding room_reached reached peaks_trusted
 fits-within N r hashes trusted c d o t l e =
     (reach-in N trusted c l (every (trusted_in trusted) (peaks N)) refl t (fits_reached N r hashes trusted c d o t e)).0
@@ -84,9 +85,9 @@ fits-within N r hashes trusted c d o t l e =
 -- ---- test by test, as the code has them
 
 -- a node is named, or none
-named_some : (f : Option Node) (v : Verdict) {b : ℕ} → Some b ≡ named_node f → Missing b ≡ unless_missing f v
+named_some : (f : Option Node) (v : Verdict) {b : ℕ} → Some b ≡ named_node f → Err (Missing b) ≡ unless_missing f v
 named_some none v e = absurd (let w : ◌≡◌ {A = ℕ} 0 1 = cc in omega arith)
-named_some (some n) v {b} e = let q : b ≡ num n = cc in ap Missing q
+named_some (some n) v {b} e = let q : b ≡ num n = cc in ap (λ (x : ℕ). Err (Missing x)) q
 
 named_none : (f : Option Node) (v : Verdict) → None ≡ named_node f → v ≡ unless_missing f v
 named_none none v e = refl
@@ -99,14 +100,11 @@ unfolding judge_spec
 judge_by s N r hashes trusted c d o v e f =
     ap₂ judged_of e (f ∙ ap (λ (x : Verdict). scratch_by x s (kept s (got_by o) (sha256 d) c (room_reached N trusted c))) e)
 
-module _ (s : List ℕ) (N : ℕ) (r hashes trusted : List ℕ) (c : ℕ) (d : List ℕ) (o : Integrity) (b : Bool) (t top : ℕ) (te : top ≡ levels N)
-    (bo : b ≡ every (trusted_in trusted) (peaks N)) (tr : t ≡ least_from (λ h. room_counts b N trusted h (above h c)) (suc top) 0) where
-  at-levels : t ≡ least_from (λ h. room_counts b N trusted h (above h c)) (suc (levels N)) 0
-  at-levels = tr ∙ ap (λ (x : ℕ). least_from (λ h. room_counts b N trusted h (above h c)) (suc x) 0) te
-
+module _ (s : List ℕ) (N : ℕ) (r hashes trusted : List ℕ) (c : ℕ) (d : List ℕ) (o : Integrity) (b : Bool) (t : ℕ)
+    (bo : b ≡ every (trusted_in trusted) (peaks N)) (tr : t ≡ least_from (λ h. room_counts b N trusted h (above h c)) (suc (levels N)) 0) where
   room-reached : t ≡ room_reached N trusted c
   unfolding room_reached
-  room-reached = is-reached 0 [] [] N r [] trusted c d o b t bo at-levels
+  room-reached = is-reached 0 [] [] N r [] trusted c d o b t bo tr
 
   -- the node reached lies within the pack
   pub judge-inside : c < N → above t c + 2 ^ t ≤ N
@@ -119,11 +117,11 @@ module _ (s : List ℕ) (N : ℕ) (r hashes trusted : List ℕ) (c : ℕ) (d : L
 
     by-verdict : {v : Verdict} → v ≡ unless_missing first (weighing N r hashes b c t d o) → v ≡ room_verdict N r hashes trusted c d o
     unfolding room_verdict
-    by-verdict e = e ∙ is-verdict 0 [] [] N r hashes trusted c d o b t bo at-levels
+    by-verdict e = e ∙ is-verdict 0 [] [] N r hashes trusted c d o b t bo tr
 
-    pub judge-missing : {n : ℕ} → x ≡ Some n → judged_of (Missing n) s ≡ judge_spec s N r hashes trusted c d o
+    pub judge-missing : {n : ℕ} → x ≡ Some n → judged_of (Err (Missing n)) s ≡ judge_spec s N r hashes trusted c d o
     judge-missing {n} e =
-        judge_by s N r hashes trusted c d o (Missing n) (by-verdict (named_some first (weighing N r hashes b c t d o) (sym e ∙ xe))) refl
+        judge_by s N r hashes trusted c d o (Err (Missing n)) (by-verdict (named_some first (weighing N r hashes b c t d o) (sym e ∙ xe))) refl
 
     pub judge-weighed : x ≡ None → {v : Verdict} {s' : List ℕ} → judged_of v s' ≡ weighed s N r hashes b c t d o
         → judged_of v s' ≡ judge_spec s N r hashes trusted c d o
@@ -135,14 +133,11 @@ module _ (s : List ℕ) (N : ℕ) (r hashes trusted : List ℕ) (c : ℕ) (d : L
         ∙ ap₂ (λ (y : Verdict) (h : ℕ). scratch_by y s (kept s (got_by o) (sha256 d) c h)) (sym p) room-reached)
 
 -- once no hash is missing
-module _ (s : List ℕ) (N : ℕ) (r hashes : List ℕ) (b : Bool) (c t : ℕ) (d : List ℕ) (o : Integrity) {top : ℕ} (te : top ≡ levels N)
-    {v : Bool} (vo : v ≡ pick b true (same (given sha256 filler N (got_by o) top 0) r)) where
-  roots : v ≡ pick b true (same (given sha256 filler N (got_by o) (levels N) 0) r)
-  roots = vo ∙ ap (λ (x : ℕ). pick b true (same (given sha256 filler N (got_by o) x 0) r)) te
-
-  pub weigh-peaks : v ≡ false → {n : ℕ} → n ≡ root_node N → judged_of (WrongPeaks n) s ≡ weighed s N r hashes b c t d o
+module _ (s : List ℕ) (N : ℕ) (r hashes : List ℕ) (b : Bool) (c t : ℕ) (d : List ℕ) (o : Integrity) {v : Bool}
+    (vo : v ≡ pick b true (same (given sha256 filler N (got_by o) (levels N) 0) r)) where
+  pub weigh-peaks : v ≡ false → {n : ℕ} → n ≡ root_node N → judged_of (Err (WrongPeaks n)) s ≡ weighed s N r hashes b c t d o
   unfolding weighed
-  weigh-peaks e q = rw (q, sym roots ∙ e)
+  weigh-peaks e q = rw (q, sym vo ∙ e)
 
   module _ (vt : v ≡ true) {x : List ℕ} (xe : x ≡ sha256 d) {w : Bool} {s' : List ℕ}
       (wo : (w ≡ same (climb sha256 (got_by o) x c t) (room_counted b N hashes o t (above t c))) × (s' ≡ kept s (got_by o) x c t)) where
@@ -152,10 +147,10 @@ module _ (s : List ℕ) (N : ℕ) (r hashes : List ℕ) (b : Bool) (c t : ℕ) (
     keeps : s' ≡ kept s (got_by o) (sha256 d) c t
     keeps = wo.1 ∙ ap (λ (y : List ℕ). kept s (got_by o) y c t) xe
 
-    pub weigh-climb : w ≡ false → {n : ℕ} → n ≡ bin t (above t c) → judged_of (WrongClimb n) s' ≡ weighed s N r hashes b c t d o
+    pub weigh-climb : w ≡ false → {n : ℕ} → n ≡ bin t (above t c) → judged_of (Err (WrongClimb n)) s' ≡ weighed s N r hashes b c t d o
     unfolding weighed
-    weigh-climb e q = rw (q, sym roots ∙ vt, meets ∙ e, keeps)
+    weigh-climb e q = rw (q, sym vo ∙ vt, meets ∙ e, keeps)
 
-    pub weigh-fits : w ≡ true → judged_of (Fits t) s' ≡ weighed s N r hashes b c t d o
+    pub weigh-fits : w ≡ true → judged_of (Ok t) s' ≡ weighed s N r hashes b c t d o
     unfolding weighed
-    weigh-fits e = rw (sym roots ∙ vt, meets ∙ e, keeps)
+    weigh-fits e = rw (sym vo ∙ vt, meets ∙ e, keeps)

@@ -11,8 +11,9 @@ use Rattle.tree.specs.Pack.{levels, root_node}
 use Rattle.tree.specs.State.{is_peak}
 use Rattle.tree.specs.Tree.{given, climb}
 use Rattle.tree.specs.Verdicts.{is_there, got, reached, verdict}
-use Rattle.tree.specs.declared.verdict.Verdict.{Verdict}
-use Rattle.tree.specs.declared.verdict.Verdict.TheVariants.{Fits, Missing, WrongPeaks, WrongClimb}
+use Rattle.tree.specs.Verdicts.{Verdict}
+use Rattle.std.specs.Prelude.{Ok, Err}
+use Rattle.tree.specs.declared.verdict.Fault.TheVariants.{Missing, WrongPeaks, WrongClimb}
 use Rattle.verdict.specs.Room.{filler, hash_in, put_hash}
 use Rattle.verdict.specs.Integrity.{Integrity, hash_for, came_from}
 use Rattle.verdict.specs.Rooms.{rooms_of, state_of}
@@ -77,19 +78,19 @@ judged_of v s = record { told = v; scratch = s }
 
 -- Where a hash is missing or the peaks are wrong there is no climb, and the scratch stays.
 abbrev pub scratch_by : Verdict → List ℕ → List ℕ → List ℕ
-scratch_by (Fits t) old new = new
-scratch_by (Missing b) old new = old
-scratch_by (WrongPeaks b) old new = old
-scratch_by (WrongClimb b) old new = new
+scratch_by (Ok t) old new = new
+scratch_by (Err (Missing b)) old new = old
+scratch_by (Err (WrongPeaks b)) old new = old
+scratch_by (Err (WrongClimb b)) old new = new
 
 -- Once no hash is missing: by what is known of the peaks, and by the height of the node reached.
 abbrev pub weighing : ℕ → List ℕ → List ℕ → Bool → ℕ → ℕ → List ℕ → Integrity → Verdict
 weighing N r hashes peaks_trusted c t d o =
     pick (pick peaks_trusted true (same (given sha256 filler N (got_by o) (levels N) 0) r))
     (pick (same (climb sha256 (got_by o) (sha256 d) c t) (room_counted peaks_trusted N hashes o t (above t c)))
-    (Fits t)
-    (WrongClimb (bin t (above t c))))
-    (WrongPeaks (root_node N))
+    (Ok t)
+    (Err (WrongClimb (bin t (above t c)))))
+    (Err (WrongPeaks (root_node N)))
 
 unfoldable pub weighed : List ℕ → ℕ → List ℕ → List ℕ → Bool → ℕ → ℕ → List ℕ → Integrity → Judged
 weighed scratch N r hashes peaks_trusted c t d o =

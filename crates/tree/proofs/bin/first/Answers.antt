@@ -1,5 +1,5 @@
-use Rattle.std.proofs.Common.{ℕ, ◌+◌, ◌-◌, ◌/◌, ◌^◌, ap, ◌∙◌, arith}
-use Rattle.tree.specs.Bin.{first}
+use Rattle.std.proofs.Common.{ℕ, ◌+◌, ◌-◌, ◌/◌, ◌^◌, ap, ap₂, ◌∙◌, arith}
+use Rattle.tree.specs.Bin.{height, first}
 use Rattle.tree.proofs.BinLaws.{exponent_lt}
 use Rattle.tree.proofs.bin.first.Goals as goal
 
@@ -8,5 +8,5 @@ pow2-requires c = exponent_lt c.height.result 64 (omega arith)
 
 pub returns : goal.returns
 unfolding first
-returns c = let w = c.pow2.ensures.0 ∙ ap (λ (h : ℕ). 2 ^ h) c.height.ensures.0 in
-    ap (λ (x : ℕ). (c.args.b + 1 - x) / 2) w
+returns c = let w = c.pow2.ensures.0 ∙ ap (λ (h : ℕ). 2 ^ h) (c.height.ensures.0 ∙ ap height c.from-x.ensures) in
+    ap₂ (λ (x w : ℕ). (x + 1 - w) / 2) c.from-x.ensures w

@@ -1,13 +1,11 @@
-use Rattle.std.proofs.Common.{sym, arith}
+use Rattle.std.proofs.Common.{ap₂, arith, ◌∙◌}
 use Rattle.tree.proofs.BinLaws.{exponent_lt}
-use Rattle.tree.proofs.RangeLaws.{range-some, range_none}
+use Rattle.tree.proofs.RangeLaws.{range_by}
+use Rattle.tree.specs.Range.{node_of_range}
 use Rattle.tree.proofs.bin.node_of_range.Goals as goal
 
 pub pow2-requires : goal.pow2-requires
 pow2-requires c = exponent_lt c.height.result 64 (omega arith)
 
-pub returns-then-f-pow2 : goal.returns-then-f-pow2
-returns-then-f-pow2 c = sym (range-some _ _ _ _ c.height.ensures.0 c.pow2.ensures.0 (omega arith))
-
-pub returns-else-f-pow2 : goal.returns-else-f-pow2
-returns-else-f-pow2 c = sym (range_none _ _ _ _ c.height.ensures.0 c.pow2.ensures.0 (λ e. omega arith))
+pub returns : goal.returns
+returns c = c.then_some.ensures ∙ range_by c.from-f.result c.from.result c.height.result c.pow2.result c.height.ensures.0 c.pow2.ensures.0 ∙ ap₂ node_of_range c.from-f.ensures c.from.ensures
