@@ -5,7 +5,6 @@ use mathlib.Core.Bool.{Bool, true, false}
 use mathlib.Core.List.{List, ◌++◌, map}
 use Prim.Native.Nat.{ℕ, zero, suc, ◌+◌, ◌-◌, ◌*◌, ◌/◌, ◌^◌, ◌≤◌, ◌<◌}
 use native.Mathlib.Nat.{pow-suc, mul-le-mul_right, mul-le-mul_left, le-div_iff_mul-le}
-use native.Mathlib.Numerals.{add-one}
 use native.Mathlib.Omega.{arith}
 use native.Mathlib.Decide.{ℕ_discrete}
 use borrow.Author.Tests.{leb-true}
@@ -61,29 +60,9 @@ pub tree_join : (s : List ℕ) (h a : ℕ) → a < count_of (length s) → sha25
 unfolding tree_of
 tree_join s h a l = sym (tree-step sha256 filler (count_of (length s)) (chunk_in (length s) s) h a l)
 
--- ---- turns
+-- ---- lengths
 
 module _ (put : Put) (got : ℕ → ℕ → List ℕ) where
-  pub level-none : (h : ℕ) (l : List ℕ) → l ≡ put_level put got h 0 l
-  unfolding put_level
-  level-none h l = refl
-
-  pub level-more : (h k : ℕ) (l : List ℕ) {m m' v : List ℕ} {b : ℕ} → m' ≡ put m b v → b ≡ bin h (k * 2 ^ h) → v ≡ got h (k * 2 ^ h) → m ≡ put_level put got h k l
-      → m' ≡ put_level put got h (k + 1) l
-  unfolding put_level
-  level-more h k l e f g i = rw (add-one k) (e ∙ cong f g i)
-    where
-      cong : {m n v w : List ℕ} {b c : ℕ} → b ≡ c → v ≡ w → m ≡ n → put m b v ≡ put n c w
-      cong x y z = cc
-
-  pub levels-none : (N : ℕ) (l : List ℕ) → l ≡ put_levels put got N 0 l
-  unfolding put_levels
-  levels-none N l = refl
-
-  pub levels-more : (N h : ℕ) (l : List ℕ) {m m' : List ℕ} → m' ≡ put_level put got h (N / 2 ^ h) m → m ≡ put_levels put got N h l → m' ≡ put_levels put got N (h + 1) l
-  unfolding put_levels
-  levels-more N h l e f = rw (add-one h) (e ∙ ap (put_level put got h (N / 2 ^ h)) f)
-
   module _ (len : (l : List ℕ) (b : ℕ) (v : List ℕ) → length (put l b v) ≡ length l) where
     pub length-level : (h k : ℕ) (l : List ℕ) → length (put_level put got h k l) ≡ length l
     unfolding put_level

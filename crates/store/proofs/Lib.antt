@@ -3,6 +3,7 @@ pub mod Running
 pub mod CopyLaws
 pub mod WrittenLaws
 pub mod PutLaws
+pub mod NodesLaws
 pub mod StoringLaws
 pub mod AgreeLaws
 pub mod BuildingLaws

@@ -1,12 +1,10 @@
 -- The loops of storing a chunk, turn by turn. Assumes nothing.
-use mathlib.Core.Path.{◌≡◌, refl, sym, ap, ap₂, ◌∙◌}
-use mathlib.Core.Logic.{◌≢◌}
+use mathlib.Core.Path.{◌≡◌, refl, sym, ap₂, ◌∙◌}
 use mathlib.Core.Bool.{Bool, true, false}
 use mathlib.Core.List.{List, map}
-use Prim.Native.Nat.{ℕ, zero, suc, ◌+◌, ◌*◌, ◌/◌, ◌%◌, ◌^◌, ◌≤◌, ◌<◌}
-use native.Mathlib.Numerals.{add-one}
+use Prim.Native.Nat.{ℕ, zero, suc, ◌*◌, ◌/◌, ◌%◌, ◌^◌, ◌≤◌, ◌<◌}
 use native.Mathlib.Omega.{arith}
-use borrow.Author.Tests.{eq-eqb, ne_eqb, eqb-true}
+use borrow.Author.Tests.{eqb-true}
 use lib.Dec.{eqb}
 use lib.Pow.{pow_pos}
 use lib.ListN.{length}
@@ -24,38 +22,11 @@ use Rattle.verdict.specs.Integrity.{Integrity}
 use Rattle.verdict.specs.Rooms.{Rooms, rooms_of}
 use Rattle.verdict.specs.Steps.{trusted_in, got_by}
 use Rattle.store.specs.Steps.{Climbed, put_if, put_peaks, put_path}
+use Rattle.store.specs.Nodes.{Puts}
+use Rattle.store.specs.declared.nodes.Nodes.{Nodes}
 use Rattle.store.specs.Storing.{Put, mark, put_all, copied, stored, store_spec}
 use Rattle.store.proofs.PutLaws.{all-is}
 use Rattle.tree.proofs.NodeLaws.{above_in, above-right, above-inside}
-
--- one peak
-pub put_one : (put : Put) (l : List ℕ) {l' : List ℕ} {b b' : ℕ} {v v' : List ℕ} (x : ℕ) → l' ≡ put l b v → b ≡ b' → v ≡ v' → x ≡ 1 → l' ≡ put_if put (eqb x 1) l b' v'
-put_one put l x e f g h = rw (eq-eqb x 1 h, ← f, ← g) e
-
-pub put-none : (put : Put) (l : List ℕ) (b : ℕ) (v : List ℕ) (x : ℕ) → x ≢ 1 → l ≡ put_if put (eqb x 1) l b v
-put-none put l b v x d = rw (ne_eqb x 1 d)
-
-module _ (put : Put) (got : ℕ → ℕ → List ℕ) (N : ℕ) (l : List ℕ) where
-  pub peaks-none : l ≡ put_peaks put got N 0 l
-  unfolding put_peaks
-  peaks-none = refl
-
-  pub peaks-more : (h : ℕ) {m m' : List ℕ} → m' ≡ put_if put (eqb (N / 2 ^ h % 2) 1) m (bin h (above (suc h) N)) (got h (above (suc h) N)) → m ≡ put_peaks put got N h l
-      → m' ≡ put_peaks put got N (h + 1) l
-  unfolding put_peaks
-  peaks-more h e f = rw (add-one h) (e ∙ ap (λ (x : List ℕ). put_if put (eqb (N / 2 ^ h % 2) 1) x (bin h (above (suc h) N)) (got h (above (suc h) N))) f)
-
-module _ (put : Put) (own : ℕ → List ℕ) (got : ℕ → ℕ → List ℕ) (c : ℕ) (l : List ℕ) where
-  pub path-none : l ≡ put_path put own got c 0 l
-  unfolding put_path
-  path-none = refl
-
-  pub path-more : (h : ℕ) {m m' v : List ℕ} → m' ≡ put (put m (bin h (above h c)) v) (bin h (sibling_from h c)) (got h (sibling_from h c))
-      → v ≡ own h → m ≡ put_path put own got c h l → m' ≡ put_path put own got c (h + 1) l
-  unfolding put_path
-  path-more h e g f =
-      rw (add-one h)
-      (e ∙ ap₂ (λ (x y : List ℕ). put (put x (bin h (above h c)) y) (bin h (sibling_from h c)) (got h (sibling_from h c))) f g)
 
 -- lengths
 module _ (put : Put) (len : (l : List ℕ) (b : ℕ) (v : List ℕ) → length (put l b v) ≡ length l) where
@@ -91,17 +62,6 @@ own_inside k h c l u = omega (arith, above-inside k h c l u, pow_pos h)
 pub peak-within : (k h N : ℕ) → N ≤ 2 ^ k → N / 2 ^ h % 2 ≡ 1 → bin h (above (suc h) N) < 2 ^ suc k
 peak-within k h N u b = omega (arith, above-right h N b, above_in h N, pow_pos h)
 
--- two writes, one after the other
-pub writes : (put : Put) {l m : List ℕ} {b b' s s' : ℕ} (u : List ℕ) {v v' : List ℕ} → m ≡ put l b u → b ≡ b' → s ≡ s' → v ≡ v' → put m s v ≡ put (put l b' u) s' v'
-writes put u e f g h = rw (e, f, g, h)
-
--- the peaks where they weren't trusted
-pub open_no : (l : List ℕ) {q b : Bool} {m x : List ℕ} → q ≡ b → q ≡ false → m ≡ x → m ≡ pick b l x
-open_no l e f g = rw (← e, f) g
-
-pub open_yes : (l x : List ℕ) {q b : Bool} → q ≡ b → q ≡ true → l ≡ pick b l x
-open_yes l x e f = rw (← e, f)
-
 -- what is written, from hashes that agree on it
 module _ (put : Put) (x y : ℕ → ℕ → List ℕ) where
   pub peaks-alike : (N k : ℕ) (l : List ℕ) → ((h : ℕ) → N / 2 ^ h % 2 ≡ 1 → x h (above (suc h) N) ≡ y h (above (suc h) N))
@@ -131,23 +91,22 @@ module _ (put : Put) (x y : ℕ → ℕ → List ℕ) where
 rooms_eq : {c c' m m' h h' t t' : List ℕ} → c ≡ c' → m ≡ m' → h ≡ h' → t ≡ t' → rooms_of c m h t ≡ rooms_of c' m' h' t'
 rooms_eq e f g i = cc
 
-pub stored_is : (chunks map hashes trusted : List ℕ) (N c t : ℕ) (d : List ℕ) (o : Integrity) {chunks' map' h1 h2 t1 t2 : List ℕ} (s : List ℕ) {top : ℕ}
-    → chunks' ≡ copied chunks (chunk_size * c) d → map' ≡ set_bit map c → top ≡ levels N → Climbed s (got_by o) (sha256 d) c t
-    → (h1 ≡ pick (every (trusted_in trusted) (peaks N)) hashes (put_peaks put_hash (got_by o) N (suc top) hashes))
-    × (t1 ≡ pick (every (trusted_in trusted) (peaks N)) trusted (put_peaks mark (got_by o) N (suc top) trusted))
-    → (h2 ≡ put_path put_hash (hash_in s) (got_by o) c t h1) × (t2 ≡ put_path mark (hash_in s) (got_by o) c t t1)
-    → rooms_of chunks' map' h2 t2 ≡ stored (rooms_of chunks map hashes trusted) N c t d o
+-- what the code puts into the two rooms
+abbrev pub hung : Bool → ℕ → ℕ → ℕ → ℕ → List ℕ → Integrity → Put → List ℕ → List ℕ
+hung opened N top c t scratch o put l = put_path put (hash_in scratch) (got_by o) c t (pick opened l (put_peaks put (got_by o) N (suc top) l))
+
+pub stored_is : (chunks map : List ℕ) (r s : Nodes) (N c t : ℕ) (d : List ℕ) (o : Integrity) {chunks' map' : List ℕ} (scratch : List ℕ) {top : ℕ} {opened : Bool}
+    → chunks' ≡ copied chunks (chunk_size * c) d → map' ≡ set_bit map c → top ≡ levels N → opened ≡ every (trusted_in r.trusted.now) (peaks N)
+    → Climbed scratch (got_by o) (sha256 d) c t → Puts (hung opened N top c t scratch o) r s
+    → rooms_of chunks' map' s.hashes.now s.trusted.now ≡ stored (rooms_of chunks map r.hashes.now r.trusted.now) N c t d o
 unfolding stored Climbed peaks_trusted
-stored_is chunks map hashes trusted N c t d o s e f g K p q =
-    let b = every (trusted_in trusted) (peaks N) in
-    rooms_eq e f (q.0 ∙ climbed put_hash hashes b p.0 g) (q.1 ∙ climbed mark trusted b p.1 g)
+stored_is chunks map r s N c t d o scratch {top} {opened} e f g b K p =
+    rooms_eq e f (p.hashes ∙ climbed put_hash r.hashes.now) (p.trusted ∙ climbed mark r.trusted.now)
   where
-    climbed : (put : Put) (l : List ℕ) (b : Bool) {m : List ℕ} {top : ℕ} → m ≡ pick b l (put_peaks put (got_by o) N (suc top) l) → top ≡ levels N
-        → put_path put (hash_in s) (got_by o) c t m
-        ≡ put_all put b N c t d (got_by o) l
-    climbed put l b i j =
-        path-alike put (got_by o) (got_by o) (hash_in s) _ c t (i ∙ ap (λ (x : ℕ). pick b l (put_peaks put (got_by o) N (suc x) l)) j) K (λ h u. refl)
-        ∙ sym (all-is put b N c t d (got_by o) l)
+    climbed : (put : Put) (l : List ℕ) → hung opened N top c t scratch o put l ≡ put_all put (every (trusted_in r.trusted.now) (peaks N)) N c t d (got_by o) l
+    climbed put l =
+        path-alike put (got_by o) (got_by o) (hash_in scratch) _ c t (rw (b, g) refl) K (λ h u. refl)
+        ∙ sym (all-is put (every (trusted_in r.trusted.now) (peaks N)) N c t d (got_by o) l)
 
 module _ (w : Rooms) (N c t : ℕ) (d : List ℕ) (o : Integrity) where
   pub store-new : {x : Rooms} {q : Bool} → q ≡ bit_at w.map c → q ≡ false → x ≡ stored w N c t d o → x ≡ store_spec w N c t d o

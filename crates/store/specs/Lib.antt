@@ -1,4 +1,5 @@
 pub mod Storing
+pub mod Nodes
 pub mod Steps
 pub mod Building
 pub mod Answers

@@ -4,12 +4,12 @@ ghost use Rattle.bits.proofs.Promise.{set_range};
 ghost use Rattle.hash.proofs.Promise.{bytes_of, sha256};
 ghost use Rattle.tree.specs.Bin.{bin};
 ghost use Rattle.tree.specs.Pack.{chunk_size, levels, leaf_places};
-ghost use Rattle.verdict.specs.Room.{put_hash};
 ghost use Rattle.verdict.specs.Rooms.{rooms_of, count_of, chunk_in};
+ghost use Rattle.store.specs.Nodes.{Kept, Puts};
 ghost use Rattle.store.specs.Steps.{Filled, put_level, put_levels};
-ghost use Rattle.store.specs.Storing.{mark};
 ghost use Rattle.store.specs.Building.{clear_row, start_rooms, tree_of, root_of, build_rooms};
 
+use crate::nodes::Nodes;
 use crate::storing;
 use hash::value::HashValue;
 use hash::{message, node};
@@ -24,15 +24,16 @@ fn clear_row(ws: &mut [u32], n: u64)
 }
 
 // Clears the rows, and writes and trusts the root's hash.
-pub fn start(map: &mut [u32], hashes: &mut [u32], trusted: &mut [u32], root: HashValue, n: u32)
-    ensures { rooms_of [] map.new hashes.new trusted.new
-        ≡ start_rooms (rooms_of [] map.old hashes.old trusted.old) n
+pub fn start(map: &mut [u32], nodes: &mut Nodes<'_>, root: HashValue, n: u32)
+    ensures kept { Kept nodes.old nodes.new }
+    ensures rooms { rooms_of [] map.new nodes.new.hashes.now nodes.new.trusted.now
+        ≡ start_rooms (rooms_of [] map.old nodes.old.hashes.now nodes.old.trusted.now) n
         (bytes_of root.words) }
 {
     let w = tree::pack::leaf_places(n);
     clear_row(map, u64::from(n));
-    clear_row(trusted, 2 * w);
-    storing::trust(hashes, trusted, w - 1, root);
+    clear_row(nodes.trusted, 2 * w);
+    nodes.trust(w - 1, root);
 }
 
 // The hash of chunk i of a content.
@@ -72,46 +73,51 @@ fn hash_of(hashes: &[u32], content: &[u8], n: u32, h: u32, k: u32) -> HashValue
     node::parent(left, right)
 }
 
-// Writes and trusts it.
-fn put_node(hashes: &mut [u32], trusted: &mut [u32], content: &[u8], n: u32, h: u32, k: u32)
-    requires h_bound { (h ≤ 32)
-        × (k < n / 2 ^ h)
-        × (n ≡ count_of (length content.now))
-        × (16 * n ≤ length hashes.old + 8) }
-    requires filled { Filled hashes.old (tree_of content.now) n h }
-    ensures { (hashes.new
-        ≡ put_hash hashes.old (bin h (k * 2 ^ h)) (tree_of content.now h (k * 2 ^ h)))
-        × (trusted.new
-        ≡ mark trusted.old (bin h (k * 2 ^ h)) (tree_of content.now h (k * 2 ^ h))) }
-{
-    let b = nth(h, k);
-    let v = hash_of(hashes, content, n, h, k);
-    storing::trust(hashes, trusted, b, v);
-}
-
-// Every node of height h inside the pack.
-fn put_level(hashes: &mut [u32], trusted: &mut [u32], content: &[u8], n: u32, h: u32)
-    requires h_bound { (h ≤ 32) × (n ≡ count_of (length content.now)) × (16 * n ≤ length hashes.old + 8) }
-    requires filled { Filled hashes.old (tree_of content.now) n h }
-    ensures { (hashes.new
-        ≡ put_level put_hash (tree_of content.now) h (n / 2 ^ h) hashes.old)
-        × (trusted.new ≡ put_level mark (tree_of content.now) h (n / 2 ^ h) trusted.old) }
-{
-    let count = (u64::from(n) / tree::bin::pow2(h)) as u32;
-    for k in 0..count {
-        put_node(hashes, trusted, content, n, h, k);
+impl Nodes<'_> {
+    // Writes and trusts it.
+    fn put_node(&mut self, content: &[u8], n: u32, h: u32, k: u32)
+        requires h_bound { (h ≤ 32)
+            × (k < n / 2 ^ h)
+            × (n ≡ count_of (length content.now))
+            × (16 * n ≤ length self.old.hashes.now + 8) }
+        requires filled { Filled self.old.hashes.now (tree_of content.now) n h }
+        ensures kept { Kept self.old self.new }
+        ensures puts { Puts (λ put l. put l (bin h (k * 2 ^ h)) (tree_of content.now h (k * 2 ^ h)))
+            self.old self.new }
+    {
+        let hashes = &mut *self.hashes;
+        let v = hash_of(hashes, content, n, h, k);
+        self.trust(nth(h, k), v);
     }
-}
 
-// Every node inside the pack, of a tree of `top` levels.
-fn put_levels(hashes: &mut [u32], trusted: &mut [u32], content: &[u8], n: u32, top: u32)
-    requires { (top ≤ 32) × (n ≡ count_of (length content.now)) × (16 * n ≤ length hashes.old + 8) }
-    ensures { (hashes.new
-        ≡ put_levels put_hash (tree_of content.now) n (suc top) hashes.old)
-        × (trusted.new ≡ put_levels mark (tree_of content.now) n (suc top) trusted.old) }
-{
-    for h in 0..=top {
-        put_level(hashes, trusted, content, n, h);
+    // Every node of height h inside the pack.
+    fn put_level(&mut self, content: &[u8], n: u32, h: u32)
+        requires h_bound { (h ≤ 32)
+            × (n ≡ count_of (length content.now))
+            × (16 * n ≤ length self.old.hashes.now + 8) }
+        requires filled { Filled self.old.hashes.now (tree_of content.now) n h }
+        ensures kept { Kept self.old self.new }
+        ensures puts { Puts (λ put. put_level put (tree_of content.now) h (n / 2 ^ h))
+            self.old self.new }
+    {
+        let count = (u64::from(n) / tree::bin::pow2(h)) as u32;
+        for k in 0..count {
+            self.put_node(content, n, h, k);
+        }
+    }
+
+    // Every node inside the pack, of a tree of `top` levels.
+    fn put_levels(&mut self, content: &[u8], n: u32, top: u32)
+        requires { (top ≤ 32)
+            × (n ≡ count_of (length content.now))
+            × (16 * n ≤ length self.old.hashes.now + 8) }
+        ensures kept { Kept self.old self.new }
+        ensures puts { Puts (λ put. put_levels put (tree_of content.now) n (suc top))
+            self.old self.new }
+    {
+        for h in 0..=top {
+            self.put_level(content, n, h);
+        }
     }
 }
 
@@ -130,26 +136,27 @@ fn mark_all(map: &mut [u32], trusted: &mut [u32], n: u32, w: u64)
 pub fn build(
     chunks: &mut [u8],
     map: &mut [u32],
-    hashes: &mut [u32],
-    trusted: &mut [u32],
+    nodes: &mut Nodes<'_>,
     n: u32,
     content: &[u8],
 ) -> HashValue
     requires { (n ≡ count_of (length content.now))
-        × (16 * leaf_places n ≤ length hashes.old)
+        × (16 * leaf_places n ≤ length nodes.old.hashes.now)
         × (length content.now ≤ length chunks.old) }
-    ensures { (bytes_of result.words ≡ root_of content.now)
-        × (rooms_of chunks.new map.new hashes.new trusted.new
-        ≡ build_rooms (rooms_of chunks.old map.old hashes.old trusted.old)
-        (count_of (length content.now)) content.now) }
+    ensures kept { Kept nodes.old nodes.new }
+    ensures root { bytes_of result.words ≡ root_of content.now }
+    ensures rooms { rooms_of chunks.new map.new nodes.new.hashes.now nodes.new.trusted.now
+        ≡ build_rooms (rooms_of chunks.old map.old nodes.old.hashes.now nodes.old.trusted.now)
+        (count_of (length content.now)) content.now }
 {
     let top = tree::pack::levels(n);
     let w = tree::bin::pow2(top);
     storing::copy_in(chunks, 0, content);
-    mark_all(map, trusted, n, w);
-    put_levels(hashes, trusted, content, n, top);
+    mark_all(map, nodes.trusted, n, w);
+    nodes.put_levels(content, n, top);
+    let hashes = &mut *nodes.hashes;
     let held: &[u32] = hashes;
     let root = peaks::root_of_peaks(&held, n, top);
-    storing::trust(hashes, trusted, w - 1, root);
+    nodes.trust(w - 1, root);
     root
 }

@@ -3,7 +3,7 @@
 ghost use Rattle.std.specs.Prelude.{◌≡◌, ◌+◌, ◌*◌, ◌<◌, ◌≤◌, length, IfOk};
 ghost use Rattle.hash.proofs.Promise.{bytes_of};
 ghost use Rattle.tree.specs.Pack.{chunk_size, max_length};
-ghost use Rattle.verdict.specs.Integrity.{integrity_of};
+ghost use Rattle.verdict.specs.Integrity.{integrity_in};
 ghost use Rattle.verdict.specs.Rooms.{rooms_of, count_of};
 ghost use Rattle.store.specs.Building.{root_of};
 ghost use Rattle.store.specs.Calls.{start_spec, build_spec, take_spec};
@@ -11,6 +11,7 @@ ghost use Rattle.store.specs.Steps.{store_if_fits};
 ghost use Rattle.base.specs.Out.{out_by};
 
 use crate::answers::Sizes;
+use crate::nodes::Nodes;
 use crate::{building, storing};
 use base::Refusal;
 use hash::value::HashValue;
@@ -35,7 +36,7 @@ pub fn start(
 {
     Sizes::of(chunks, map, hashes, trusted).order_answer(order.length)?;
     let n = pack::chunk_count(order.length);
-    building::start(map, hashes, trusted, order.root, n);
+    building::start(map, &mut Nodes { hashes, trusted }, order.root, n);
     Ok(())
 }
 
@@ -56,7 +57,8 @@ pub fn build(
 {
     Sizes::of(chunks, map, hashes, trusted).build_answer(length, content.len())?;
     let n = pack::chunk_count(length);
-    Ok(building::build(chunks, map, hashes, trusted, n, content))
+    let nodes = &mut Nodes { hashes, trusted };
+    Ok(building::build(chunks, map, nodes, n, content))
 }
 
 // Stores the chunk where it fits, and otherwise gives what the verdict says.
@@ -69,15 +71,14 @@ fn store_if_fits(
     n: u32,
     c: u32,
     chunk: &[u8],
-    entries: &[u64],
-    bytes: &[u8],
+    integrity: Integrity,
 ) -> Result<(), Refusal>
     requires { (c < n) × (n ≤ count_of max_length)
         × (chunk_size * c + length chunk.now ≤ length chunks.old) }
     ensures { out_by result 0
         (rooms_of chunks.new map.new hashes.new trusted.new)
         ≡ store_if_fits (rooms_of chunks.old map.old hashes.old trusted.old)
-        (bytes_of root.words) n c chunk.now (integrity_of entries.now bytes.now) }
+        (bytes_of root.words) n c chunk.now (integrity_in integrity.entry) }
 {
     let top = pack::levels(n);
     let opened = peaks::all_trusted(trusted, n, top);
@@ -92,12 +93,22 @@ fn store_if_fits(
         top,
         c,
         chunk,
-        Integrity { entries, bytes },
+        integrity,
     );
     match v {
         Verdict::Fits(t) => {
             storing::store(
-                chunks, map, hashes, trusted, opened, n, top, c, t, &scratch, chunk, entries, bytes,
+                chunks,
+                map,
+                &mut Nodes { hashes, trusted },
+                opened,
+                n,
+                top,
+                c,
+                t,
+                &scratch,
+                chunk,
+                integrity,
             );
             Ok(())
         }
@@ -115,19 +126,18 @@ pub fn take(
     trusted: &mut [u32],
     c: u32,
     chunk: &[u8],
-    entries: &[u64],
-    bytes: &[u8],
+    integrity: Integrity,
 ) -> Result<(), Refusal>
     ensures { out_by result 0
         (rooms_of chunks.new map.new hashes.new trusted.new)
         ≡ take_spec (rooms_of chunks.old map.old hashes.old trusted.old)
         (bytes_of order.root.words) order.length c chunk.now
-        (integrity_of entries.now bytes.now) }
+        (integrity_in integrity.entry) }
 {
     let length = order.length;
     Sizes::of(chunks, map, hashes, trusted).take_answer(length, c, chunk.len())?;
     let n = pack::chunk_count(length);
     store_if_fits(
-        chunks, map, hashes, trusted, order.root, n, c, chunk, entries, bytes,
+        chunks, map, hashes, trusted, order.root, n, c, chunk, integrity,
     )
 }

@@ -4,4 +4,5 @@
 pub mod answers;
 mod building;
 pub mod calls;
+mod nodes;
 mod storing;

@@ -1,6 +1,6 @@
 use Rattle.std.proofs.Common.{rules}
 use Rattle.hash.proofs.Promise.{bytes_of}
-use Rattle.verdict.specs.Integrity.{integrity_of}
+use Rattle.verdict.specs.Integrity.{integrity_in}
 use Rattle.verdict.specs.Rooms.{rooms_of}
 use Rattle.store.specs.Calls.{take_spec}
 use Rattle.store.proofs.CallLaws.{take-judged, take-facts}
@@ -11,7 +11,7 @@ unfolding take_spec
 returns-in_err-take_answer c = search rules
 
 pub store_if_fits-requires : goal.store_if_fits-requires
-store_if_fits-requires c = take-facts (rooms_of c.args.chunks.now c.args.map.now c.args.hashes.now c.args.trusted.now) (bytes_of c.args.order.root.words) c.args.order.length c.args.c c.args.chunk.now (integrity_of c.args.entries.now c.args.bytes.now) (rw c.of.ensures at c.in_ok-take_answer.ensures).0 c.chunk_count-n.result c.chunk_count-n.ensures
+store_if_fits-requires c = take-facts (rooms_of c.args.chunks.now c.args.map.now c.args.hashes.now c.args.trusted.now) (bytes_of c.args.order.root.words) c.args.order.length c.args.c c.args.chunk.now (integrity_in c.args.integrity) (rw c.of.ensures at c.in_ok-take_answer.ensures).0 c.chunk_count-n.result c.chunk_count-n.ensures
 
 pub returns : goal.returns
-returns c = take-judged (rooms_of c.args.chunks.now c.args.map.now c.args.hashes.now c.args.trusted.now) (bytes_of c.args.order.root.words) c.args.order.length c.args.c c.args.chunk.now (integrity_of c.args.entries.now c.args.bytes.now) (rw c.of.ensures at c.in_ok-take_answer.ensures).0 c.chunk_count-n.result c.chunk_count-n.ensures c.store_if_fits.ensures
+returns c = take-judged (rooms_of c.args.chunks.now c.args.map.now c.args.hashes.now c.args.trusted.now) (bytes_of c.args.order.root.words) c.args.order.length c.args.c c.args.chunk.now (integrity_in c.args.integrity) (rw c.of.ensures at c.in_ok-take_answer.ensures).0 c.chunk_count-n.result c.chunk_count-n.ensures c.store_if_fits.ensures
