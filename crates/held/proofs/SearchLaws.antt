@@ -7,8 +7,6 @@ use mathlib.Core.Path.{◌≡◌, sym, ◌∙◌}
 use mathlib.Core.Logic.{◌⊎◌, inl, inr}
 use mathlib.Core.Bool.{false, true≢false}
 use mathlib.Core.List.{List}
-use borrow.Author.Tests.{le-leb, lt-leb}
-use lib.Dec.{leb}
 use lib.Pow.{pow_pos}
 use Rattle.bits.proofs.Promise.{held_below, held_from, held-from_le}
 use Rattle.format.specs.declared.Addressing.TheVariants.{Bins, Ranges}
@@ -29,17 +27,6 @@ module _ (map : List ℕ) (n c : ℕ) {f : ℕ} (fe : f ≡ held_from map (n - (
   run_is be = rw (be, fe, add-one c)
 
 -- ---- a height
-
-module _ (h c : ℕ) (i : Range) {from : ℕ} (e : from ≡ above h c) where
-  -- The node begins before the interval.
-  pub within-no : from < i.first → false ≡ is_within h c i
-  within-no l = rw (lt-leb i.first (above h c) (omega arith))
-
-  -- It does not.
-  pub within_by : {w : ℕ} → w ≡ 2 ^ h → i.first ≤ from → leb (from + (w - 1)) i.last ≡ is_within h c i
-  within_by {w} we l =
-      let s : from + (w - 1) ≡ above h c + 2 ^ h - 1 = omega (arith, e, we, pow_pos h) in
-      rw (le-leb i.first (above h c) (omega arith), s)
 
 -- The leaf lies within chunks around c.
 pub leaf_in : (c : ℕ) (i : Range) → (i.first ≤ c) × (c ≤ i.last) → Within 0 c i
