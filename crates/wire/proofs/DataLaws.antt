@@ -1,7 +1,7 @@
 -- What the checks tell of a datagram: where its DATA's chunk stands, and its entries in the room. Assumes nothing.
 use Prim.Native.Nat.{ℕ, zero, suc, ◌+◌, ◌≤◌}
 use native.Mathlib.Omega.{arith}
-use mathlib.Core.Path.{◌≡◌, refl, ap, ◌∙◌}
+use mathlib.Core.Path.{◌≡◌, refl, sym, ap, subst, ◌∙◌}
 use mathlib.Core.List.{List, [], ◌∷◌, ◌++◌}
 use mathlib.Core.Bool.{Bool, true, false}
 use lib.ListN.{length, take, drop, length-drop}
@@ -18,12 +18,19 @@ use Rattle.wire.specs.Steps.{entry_words, check_spec}
 use Rattle.wire.specs.declared.message.Options.{Options}
 use Rattle.wire.specs.declared.message.Step.{Step}
 use Rattle.wire.specs.declared.message.Step.TheVariants.{End, Refused}
-use Rattle.wire.specs.declared.layout.Layout.{Layout}
-use Rattle.wire.specs.declared.layout.Layout.TheVariants.{Fault, HandshakeAlone, Messages, MessagesAndData}
+use Rattle.wire.specs.Layout.{Layout}
+use Rattle.wire.specs.Layout.{Fault, HandshakeAlone, Messages, MessagesAndData}
 use Rattle.wire.proofs.PlacedLaws.{placed-length, placed-front}
 use Rattle.wire.proofs.CountLaws.{entries_fit}
 use Rattle.wire.proofs.ViewLaws.{View, the_end, refused, a_handshake, a_data, an_ack, a_have, an_integrity, a_request, a_cancel, a_choke, an_unchoke, view, an_empty}
 use Rattle.format.specs.declared.Format.{Format}
+use Rattle.std.specs.Prelude.{None}
+use Rattle.base.specs.Refusal.{number, node}
+use Rattle.base.specs.declared.Refusal.{Refusal}
+use Rattle.base.specs.declared.Refusal.TheVariants as refusal
+use Rattle.base.specs.declared.Refusal.TheVariants.{DatagramSize, NoChannel, TableFull, PastPack, ChunkSize, HashMissing, HashWrong}
+use Rattle.base.specs.declared.Refusal.TheVariants.{RoomTooSmall, Order, NotHeld, ChannelId}
+use Rattle.wire.proofs.FaultLaws.{Numbered, numbered}
 
 -- DATA's chunk reaches to the end of a datagram of n bytes.
 abbrev pub ToEnd : Layout → ℕ → Type 0
@@ -98,3 +105,25 @@ module _ (F : Format) (room s : List ℕ) {l : Layout} {after : List ℕ} (e : c
       let g = (entries_fit F s).1 in
       let z : 0 + length (layout_of F s).entries ≡ length (layout_of F s).entries = omega arith in
       ap (λ (c : Checked). take (length (layout_of F s).entries) c.entries) e ∙ (rw z at (placed-front room 0 (layout_of F s).entries (omega arith)))
+
+-- A refusal of the checks names no node.
+low-nameless : (e : Refusal) → number e ≤ 3 → node e ≡ None
+low-nameless DatagramSize h = refl
+low-nameless refusal.Layout h = refl
+low-nameless refusal.Handshake h = refl
+low-nameless refusal.Options h = refl
+low-nameless NoChannel h = refl
+low-nameless TableFull h = refl
+low-nameless PastPack h = refl
+low-nameless ChunkSize h = refl
+low-nameless (HashMissing b) h = absurd (omega arith)
+low-nameless (HashWrong b) h = absurd (omega arith)
+low-nameless RoomTooSmall h = refl
+low-nameless Order h = refl
+low-nameless NotHeld h = refl
+low-nameless ChannelId h = refl
+
+pub refusal-told : (F : Format) (room s : List ℕ) (e : Refusal) {after : List ℕ} → checked_of (Fault (number e)) after ≡ check_spec F room s → node e ≡ None
+refusal-told F room s e h =
+    let n : (1 ≤ number e) × (number e ≤ 3) = subst Numbered (sym (layout-told F room s h)) (numbered F s) in
+    low-nameless e n.1

@@ -19,8 +19,8 @@ use Rattle.wire.specs.Layout.{Checked, checked_of, number_of, seen, handshake_fa
 use Rattle.wire.specs.declared.message.Options.{Options}
 use Rattle.wire.specs.declared.message.Step.{Step}
 use Rattle.wire.specs.declared.message.Step.TheVariants.{End, Refused}
-use Rattle.wire.specs.declared.layout.Layout.{Layout}
-use Rattle.wire.specs.declared.layout.Layout.TheVariants.{Fault, HandshakeAlone, Messages, MessagesAndData}
+use Rattle.wire.specs.Layout.{Layout}
+use Rattle.wire.specs.Layout.{Fault, HandshakeAlone, Messages, MessagesAndData}
 use Rattle.wire.proofs.ViewLaws.{end_is, handshake-is, data_is, View, the_end, refused, a_handshake, a_data, an_ack, a_have, an_integrity, a_request, a_cancel, a_choke, an_unchoke, view, an_empty}
 use Rattle.wire.proofs.LocalLaws.{Plain, step_local, byte-local, first-local, last-local, special-local}
 use Rattle.wire.proofs.BehindLaws.{options_local, options_fit}

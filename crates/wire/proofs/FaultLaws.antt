@@ -16,8 +16,8 @@ use Rattle.wire.specs.declared.message.Options.{Options}
 use Rattle.wire.specs.declared.message.Message.TheVariants.{Handshake, Data, Ack, Have, Integrity, Request, Cancel, Choke, Unchoke, Empty}
 use Rattle.wire.specs.declared.message.Step.{Step}
 use Rattle.wire.specs.declared.message.Step.TheVariants.{Read, End, Refused}
-use Rattle.wire.specs.declared.layout.Layout.{Layout}
-use Rattle.wire.specs.declared.layout.Layout.TheVariants.{Fault, HandshakeAlone, Messages, MessagesAndData}
+use Rattle.wire.specs.Layout.{Layout}
+use Rattle.wire.specs.Layout.{Fault, HandshakeAlone, Messages, MessagesAndData}
 use Rattle.format.specs.declared.Format.{Format}
 
 -- Not refused.

@@ -7,17 +7,17 @@ use mathlib.Core.List.{List, [], ◌∷◌}
 use mathlib.Core.Bool.{Bool, true, false, true≢false}
 use lib.ListN.{length, get_or, take, drop, set, length-drop}
 use lib.Seq.{drop-drop, get_or-drop}
-use lib.Dec.{ltb, eqb}
-use borrow.Author.Tests.{le-ltb, eq-eqb, ne_eqb, ltb-false, eqb-true}
+use lib.Dec.{ltb, leb, eqb}
+use borrow.Author.Tests.{le-ltb, lt-leb, le-leb, eq-eqb, ne_eqb, ltb-true, ltb-false, eqb-true}
 use Rattle.base.specs.Pick.{pick}
 use Rattle.wire.specs.Bytes.{be32, placed}
 use Rattle.wire.specs.Limits.{min_size, max_size}
 use Rattle.wire.specs.Layout.{checked_of, seen, is_end_only, handshake_fault, or_fault, number_of, handshake_layout, layout_from, layout_of}
 use Rattle.wire.specs.Steps.{has_size, no_survey, turned_of, over, noted, check_spec}
 use Rattle.wire.specs.declared.message.Options.{Options}
-use Rattle.wire.specs.declared.layout.Layout.TheVariants.{Fault, HandshakeAlone}
+use Rattle.wire.specs.Layout.{Fault, HandshakeAlone}
 use Rattle.wire.specs.declared.survey.Survey.{Survey}
-use Rattle.wire.specs.declared.pass.Turn.TheVariants.{On}
+use Rattle.wire.specs.Steps.{On}
 use Rattle.format.specs.declared.Format.{Format}
 
 -- ---- whether a node is among the entries: one turn of the search, and its end
@@ -165,6 +165,15 @@ sized n = by (ltb n min_size) (ltb max_size n) refl refl
     by true b p q e = absurd (true≢false (sym e))
     by false true p q e = absurd (true≢false (sym e))
     by false false p q e = (ltb-false n min_size p, ltb-false max_size n q)
+
+-- the code's test of the other bound
+pub size-test : (n : ℕ) → min_size ≤ n → leb n max_size ≡ has_size n
+unfolding has_size
+size-test n h = simp (le-ltb n min_size h) (by (ltb max_size n) refl)
+  where
+    by : (b : Bool) → ltb max_size n ≡ b → leb n max_size ≡ pick b false true
+    by true e = lt-leb n max_size (ltb-true max_size n e)
+    by false e = le-leb n max_size (ltb-false max_size n e)
 
 -- the messages decide
 pub layout_sized : (F : Format) (s : List ℕ) → min_size ≤ length s → length s ≤ max_size → layout_of F s ≡ layout_from F (length s) s [] min_size

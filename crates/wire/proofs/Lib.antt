@@ -11,7 +11,6 @@ pub mod PlainLaws
 pub mod SurveyLaws
 pub mod TurnLaws
 pub mod PassLaws
-pub mod TagLaws
 pub mod ViewLaws
 pub mod LocalLaws
 pub mod BehindLaws

@@ -5,8 +5,8 @@ use mathlib.Core.Path.{refl}
 use mathlib.Core.List.{List, [], ◌∷◌}
 use Rattle.base.specs.Among.{among, OneOf}
 use Rattle.wire.specs.Layout.{number_of, layout_of}
-use Rattle.wire.specs.declared.layout.Layout.{Layout}
-use Rattle.wire.specs.declared.layout.Layout.TheVariants.{Fault, HandshakeAlone, Messages, MessagesAndData}
+use Rattle.wire.specs.Layout.{Layout}
+use Rattle.wire.specs.Layout.{Fault, HandshakeAlone, Messages, MessagesAndData}
 use Rattle.wire.proofs.FaultLaws.{Numbered, numbered}
 use Rattle.format.specs.declared.Format.{Format}
 

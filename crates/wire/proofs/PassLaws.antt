@@ -23,13 +23,13 @@ use Rattle.wire.specs.declared.message.Message.TheVariants.{Handshake, Data, Ack
 use Rattle.wire.specs.declared.message.Cursor.{Cursor}
 use Rattle.wire.specs.declared.message.Step.{Step}
 use Rattle.wire.specs.declared.message.Step.TheVariants.{Read, End, Refused}
-use Rattle.wire.specs.declared.layout.Layout.{Layout}
-use Rattle.wire.specs.declared.layout.Layout.TheVariants.{Fault, Messages}
+use Rattle.wire.specs.Layout.{Layout}
+use Rattle.wire.specs.Layout.{Fault, Messages}
 use Rattle.wire.specs.declared.survey.Survey.{Survey}
-use Rattle.wire.specs.declared.pass.Pass.{Pass}
+use Rattle.wire.specs.Steps.{Pass}
 use Rattle.wire.specs.declared.pass.Front.{Front}
-use Rattle.wire.specs.declared.pass.Turn.{Turn}
-use Rattle.wire.specs.declared.pass.Turn.TheVariants.{On, Over}
+use Rattle.wire.specs.Steps.{Turn}
+use Rattle.wire.specs.Steps.{On, Over}
 use Rattle.wire.proofs.PlacedLaws.{placed-length, placed-none, placed-then, placed-front}
 use Rattle.wire.proofs.ViewLaws.{View, the_end, refused, a_handshake, a_data, an_ack, a_have, an_integrity, a_request, a_cancel, a_choke, an_unchoke, view, an_empty}
 use Rattle.wire.proofs.SpanLaws.{step_reaches}
@@ -136,10 +136,6 @@ module _ (F : Format) (old s room : List ℕ) (left at used : ℕ) (v : Survey) 
   -- as many entries as the code counts
   entries-length : length (take used room) ≡ used
   entries-length = length-take-le used room (omega (arith, P.standing.within, P.standing.roomy))
-
-  -- the room keeps its length
-  pub pass-length : length room ≡ length old
-  pass-length = placed-length old 0 (take used room) P.front
 
   -- a turn that goes on
   pub pass_on : 0 < left → {t : Turn} {next n : ℕ} {w : Survey} {after : List ℕ} → turned_of t after ≡ turn_at F s room used at v (step_at F s at) → t ≡ On next n w

@@ -14,19 +14,21 @@ use Rattle.wire.proofs.DataLaws as data-laws
 use Rattle.wire.proofs.LayoutLaws as layouts
 use Rattle.wire.proofs.PlainLaws as plains
 use Rattle.wire.proofs.SizeLaws as sizes
+use Rattle.base.specs.Refusal.{number, node}
+use Rattle.base.specs.declared.Refusal.{Refusal}
 use Rattle.wire.proofs.SurveyLaws as surveys
 use Rattle.std.specs.Prelude.{Some, None}
 use Rattle.wire.specs.declared.message.Step.TheVariants.{Read}
-use Rattle.wire.specs.declared.layout.Layout.{Layout}
-use Rattle.wire.specs.declared.layout.Layout.TheVariants.{Fault, Messages}
+use Rattle.wire.specs.Layout.{Layout}
+use Rattle.wire.specs.Layout.{Fault, Messages}
 use Rattle.wire.specs.declared.pass.Front.{Front}
 pub use Rattle.wire.specs.Bytes.{be32, be64, placed}
 pub use Rattle.wire.specs.Limits.{min_size, max_size}
 pub use Rattle.wire.specs.Place.{named_size, timed_size, integrity_size, empty_bin, everything_bin, first_of, last_of, is_empty, reach}
 pub use Rattle.wire.specs.Options.{fixed_head, fixed_tail, fixed_size}
 pub use Rattle.wire.specs.Read.{step_number, cursor, named, step_at}
-pub use Rattle.wire.specs.Layout.{Checked, checked_of, number_of, is_end_only, layout_of}
-pub use Rattle.wire.specs.Steps.{entry_words, has_size, check_spec, Fronted, survey_of, no_survey, surveyed, survey_step, survey_all, survey_spec, range_of, plain_size, some_size}
+pub use Rattle.wire.specs.Layout.{Checked, checked_of, number_of, is_end_only, layout_of, layout_said}
+pub use Rattle.wire.specs.Steps.{entry_words, has_size, check_spec, Fronted, survey_of, no_survey, surveyed, survey_step, survey_all, survey_spec, range_of, plain_size, some_size, pass_said}
 unfoldable pub use Rattle.wire.specs.Layout.{seen, handshake_fault}
 unfoldable pub use Rattle.wire.specs.Steps.{naming, survey_from, plain_message}
 pub use Rattle.wire.proofs.FaultLaws.{Passed, Numbered}
@@ -100,6 +102,10 @@ plain-range = plains.size-range
 -- The checks with a room for the entries: the layout is the datagram's.
 pub layout-told : (F : Format) (room s : List ℕ) {l : Layout} {after : List ℕ} → checked_of l after ≡ check_spec F room s → l ≡ (layout_of F s).layout
 layout-told = data-laws.layout-told
+
+-- A refusal names no node.
+pub refusal-told : (F : Format) (room s : List ℕ) (e : Refusal) {after : List ℕ} → checked_of (Fault (number e)) after ≡ check_spec F room s → node e ≡ None
+refusal-told = data-laws.refusal-told
 
 -- The room keeps its length.
 pub length-told : (F : Format) (room s : List ℕ) {l : Layout} {after : List ℕ} → checked_of l after ≡ check_spec F room s → length after ≡ length room

@@ -1,7 +1,7 @@
 -- Laws of a size as an option, in which 0 is none. Assumes nothing.
 use Prim.Native.Nat.{ℕ, zero, suc}
-use mathlib.Core.Path.{◌≡◌, refl, sym, ap, ◌∙◌}
-use Rattle.std.specs.Prelude.{Option, Some, None}
+use mathlib.Core.Path.{◌≡◌, refl, ap}
+use Rattle.std.specs.Prelude.{Some, None}
 use Rattle.wire.specs.Steps.{some_size}
 
 -- 0 is none

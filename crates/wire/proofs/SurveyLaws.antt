@@ -12,7 +12,7 @@ use Rattle.wire.specs.Layout.{Checked, checked_of, number_of, layout_step, layou
 use Rattle.wire.specs.Steps.{plain_size, survey_of, no_survey, higher, acting, survey_step, survey_from, survey_all, survey_spec, Fronted, surveyed}
 use Rattle.wire.specs.declared.message.Step.{Step}
 use Rattle.wire.specs.declared.message.Step.TheVariants.{End, Read}
-use Rattle.wire.specs.declared.layout.Layout.TheVariants.{Messages}
+use Rattle.wire.specs.Layout.{Messages}
 use Rattle.wire.specs.declared.survey.Survey.{Survey}
 use Rattle.wire.specs.declared.pass.Front.{Front}
 use Rattle.wire.proofs.PlaceLaws.{place-least, not_none, none-reach}

@@ -13,19 +13,16 @@ use Rattle.wire.specs.Place.{first_of, last_of, integrity_size, named_size}
 use Rattle.wire.specs.Read.{step_at, whole}
 use Rattle.wire.specs.Layout.{Checked, checked_of, seen, handshake_layout, layout_step}
 use Rattle.wire.specs.Steps.{plain_size, is_node, no_survey, naming, acting, surveyed, least_integrity}
-use Rattle.wire.specs.Steps.{entry_words, Turned, turned_of, pass_of, over, noted, turn_at, last_on, last_at, Standing}
-use Rattle.wire.specs.declared.message.Options.{Options}
-use Rattle.wire.specs.declared.message.Message.{Message}
+use Rattle.wire.specs.Steps.{entry_words, Turned, turned_of, over, noted, turn_at, Standing}
 use Rattle.wire.specs.declared.message.Message.TheVariants.{Handshake, Data, Ack, Have, Integrity, Request, Cancel, Choke, Unchoke, Empty}
-use Rattle.wire.specs.declared.message.Cursor.{Cursor}
 use Rattle.wire.specs.declared.message.Step.{Step}
 use Rattle.wire.specs.declared.message.Step.TheVariants.{Read, End, Refused}
-use Rattle.wire.specs.declared.layout.Layout.{Layout}
-use Rattle.wire.specs.declared.layout.Layout.TheVariants.{Fault, Messages, MessagesAndData}
+use Rattle.wire.specs.Layout.{Layout}
+use Rattle.wire.specs.Layout.{Fault, Messages, MessagesAndData}
 use Rattle.wire.specs.declared.survey.Survey.{Survey}
-use Rattle.wire.specs.declared.pass.Pass.{Pass}
-use Rattle.wire.specs.declared.pass.Turn.{Turn}
-use Rattle.wire.specs.declared.pass.Turn.TheVariants.{On, Over}
+use Rattle.wire.specs.Steps.{Pass}
+use Rattle.wire.specs.Steps.{Turn}
+use Rattle.wire.specs.Steps.{On, Over}
 use Rattle.wire.proofs.BytesLaws.{part}
 use Rattle.wire.proofs.ViewLaws.{View, the_end, refused, a_handshake, a_data, an_ack, a_have, an_integrity, a_request, a_cancel, a_choke, an_unchoke, view, an_empty}
 use Rattle.wire.proofs.SpanLaws.{Reaches}
@@ -67,20 +64,6 @@ module _ (F : Format) (s room : List ℕ) (used at : ℕ) (v : Survey) {t : List
   by-node (an_empty k g e l o) h = absurd (true≢false (sym h))
 
 module _ (F : Format) (s room : List ℕ) (used at : ℕ) (v : Survey) where
-  by_last : (st : Step) → plain_size F st ≡ 0 → is_node st ≡ false → turned_of (Over (last_at s used at v st)) room ≡ turn_at F s room used at v st
-  by_last End h g = refl
-  by_last Refused h g = refl
-  by_last (Read (Handshake a o) c) h g = refl
-  by_last (Read (Data f l x b n) c) h g = refl
-  by_last (Read (Ack f l d) c) h g = absurd (omega (arith, h))
-  by_last (Read (Have f l) c) h g = absurd (omega (arith, h))
-  by_last (Read (Integrity f l d) c) h g = absurd (true≢false g)
-  by_last (Read (Request f l) c) h g = absurd (omega (arith, h))
-  by_last (Read (Cancel f l) c) h g = absurd (omega (arith, h))
-  by_last (Read Choke c) h g = absurd (omega (arith, h))
-  by_last (Read Unchoke c) h g = absurd (omega (arith, h))
-  by_last (Read (Empty k) c) h g = absurd (omega (arith, h))
-
   -- a plain message
   pub turn-plain : {n : ℕ} → n ≡ plain_size F (step_at F s at) → (n ≡ 0 → ⊥) → {w : Survey} → w ≡ acting F n (drop at s) v
       → turned_of (On (at + n) used w) room ≡ turn_at F s room used at v (step_at F s at)
@@ -94,30 +77,6 @@ module _ (F : Format) (s room : List ℕ) (used at : ℕ) (v : Survey) where
       let p : l ≡ last_of F (drop at s) = rw part at le in
       let q : x ≡ first_of F (drop at s) + last_of F (drop at s) = rw part at xe in
       et ∙ rw (ne, ew, p, q) (by-node F s room used at v (view F at (drop at s)) (sym e ∙ h))
-
-  -- anything else
-  pub turn_last : {n : ℕ} → n ≡ plain_size F (step_at F s at) → n ≡ 0 → {b : Bool} → b ≡ is_node (step_at F s at) → b ≡ false → {p : Pass} → p ≡ last_at s used at v (step_at F s at)
-      → turned_of (Over p) room ≡ turn_at F s room used at v (step_at F s at)
-  turn_last e h g k p = rw p (by_last (step_at F s at) (sym e ∙ h) (sym g ∙ k))
-
--- ---- what stands there where the pass is over, as the code has it
-
-module _ (s : List ℕ) (used at : ℕ) (v : Survey) {st : Step} where
-  pub last-read : {m : Message} {c : Cursor} → st ≡ Read m c → {p : Pass} → p ≡ last_on s used at v c.at m → p ≡ last_at s used at v st
-  last-read e p = p ∙ rw e
-
-  pub last_end : st ≡ End → pass_of (Messages used) v ≡ last_at s used at v st
-  last_end e = rw e
-
-  pub last-refused : st ≡ Refused → {w : Survey} → w ≡ no_survey → pass_of (Fault 2) w ≡ last_at s used at v st
-  last-refused e h = rw (e, h)
-
-module _ (s : List ℕ) (used at : ℕ) (v : Survey) (next : ℕ) {m : Message} where
-  pub last-handshake : {a : ℕ} {o : Options} → m ≡ Handshake a o → {l : Layout} → l ≡ handshake_layout s at next a o → {w : Survey} → w ≡ no_survey → pass_of l w ≡ last_on s used at v next m
-  last-handshake e p h = rw (e, p, h)
-
-  pub last-data : {f l x b n : ℕ} → m ≡ Data f l x b n → {w : Survey} → w ≡ naming l v → pass_of (MessagesAndData f x b n used) w ≡ last_on s used at v next m
-  last-data e h = rw (e, h)
 
 -- ---- two turns that are equal
 

@@ -12,8 +12,26 @@ use Rattle.wire.specs.declared.message.Message.{Message}
 use Rattle.wire.specs.declared.message.Message.TheVariants.{Handshake, Data, Ack, Have, Integrity, Request, Cancel, Choke, Unchoke, Empty}
 use Rattle.wire.specs.declared.message.Step.{Step}
 use Rattle.wire.specs.declared.message.Step.TheVariants.{Read, End, Refused}
-use Rattle.wire.specs.declared.layout.Layout.{Layout}
-use Rattle.wire.specs.declared.layout.Layout.TheVariants.{Fault, HandshakeAlone, Messages, MessagesAndData}
+use Rattle.std.specs.Prelude.{Result, Ok, Err}
+use Rattle.base.specs.declared.Refusal.{Refusal}
+use Rattle.base.specs.Refusal.{number}
+use Rattle.wire.specs.declared.layout.Layout as src
+use Rattle.wire.specs.declared.layout.Layout.TheVariants as sound
+
+-- What a datagram is: refused with a number, a HANDSHAKE alone, messages without DATA, or messages with DATA at their end.
+-- `entries` is how many words their nodes take.
+pub data Layout : Type 0 where
+  Fault : (n : ℕ) → Layout
+  HandshakeAlone : (source : ℕ) (options : Options) → Layout
+  Messages : (entries : ℕ) → Layout
+  MessagesAndData : (chunk timestamp start len entries : ℕ) → Layout
+
+-- What the result of a check says.
+abbrev pub layout_said : Result src.Layout Refusal → Layout
+layout_said (Ok (sound.HandshakeAlone a o)) = HandshakeAlone a o
+layout_said (Ok (sound.Messages k)) = Messages k
+layout_said (Ok (sound.MessagesAndData c x b n k)) = MessagesAndData c x b n k
+layout_said (Err e) = Fault (number e)
 
 -- The number that refuses a datagram, or 0.
 abbrev pub number_of : Layout → ℕ

@@ -7,20 +7,22 @@ use Rattle.wire.specs.Limits.{min_size, max_size}
 use Rattle.wire.specs.Place.{named_size, timed_size, first_of, last_of, is_empty, is_special, reach}
 use Rattle.format.specs.declared.Format.{Format}
 use Rattle.wire.specs.Read.{step_number, named, step_at}
-use Rattle.wire.specs.Layout.{Checked, checked_of, number_of, seen, handshake_layout, layout_from, layout_of}
+use Rattle.wire.specs.Layout.{Layout, Fault, Messages, MessagesAndData, layout_said, Checked, checked_of, number_of, seen, handshake_layout, layout_from, layout_of}
 use Rattle.wire.specs.declared.range.Range.{Range}
 use Rattle.wire.specs.declared.message.Message.{Message}
 use Rattle.wire.specs.declared.message.Message.TheVariants.{Handshake, Data, Ack, Have, Integrity, Request, Cancel, Choke, Unchoke, Empty}
 use Rattle.wire.specs.declared.message.Cursor.{Cursor}
 use Rattle.wire.specs.declared.message.Step.{Step}
 use Rattle.wire.specs.declared.message.Step.TheVariants.{Read, End, Refused}
-use Rattle.wire.specs.declared.layout.Layout.{Layout}
-use Rattle.wire.specs.declared.layout.Layout.TheVariants.{Fault, Messages, MessagesAndData}
 use Rattle.wire.specs.declared.survey.Survey.{Survey}
-use Rattle.wire.specs.declared.pass.Pass.{Pass}
+use Rattle.wire.specs.declared.pass.Pass as src
+use Rattle.wire.specs.declared.pass.Reached.{Reached}
 use Rattle.wire.specs.declared.pass.Front.{Front}
-use Rattle.wire.specs.declared.pass.Turn.{Turn}
-use Rattle.wire.specs.declared.pass.Turn.TheVariants.{On, Over}
+use Rattle.std.specs.Prelude.{Result, Ok, Err}
+use Rattle.std.specs.declared.ops.ControlFlow.{ControlFlow}
+use Rattle.std.specs.declared.ops.ControlFlow.TheVariants.{Continue, Break}
+use Rattle.base.specs.declared.Refusal.{Refusal}
+use Rattle.base.specs.Refusal.{number}
 
 -- A size as an option: 0 stands for none.
 abbrev pub some_size : ℕ → Option ℕ
@@ -170,8 +172,29 @@ check_spec F room s = checked_of (layout_of F s).layout (placed room 0 (layout_o
 unfoldable pub survey_spec : Format → List ℕ → Survey
 survey_spec F s = pick (eqb (number_of (layout_of F s).layout) 0) (survey_all F s) no_survey
 
+-- What a pass gives.
+pub record Pass : Type 0 where
+  pub layout : Layout
+  pub survey : Survey
+
 abbrev pub pass_of : Layout → Survey → Pass
 pass_of l v = record { layout = l; survey = v }
+
+-- What the result of a pass says: none of its survey is left after a refusal.
+abbrev pub pass_said : Result src.Pass Refusal → Pass
+pass_said (Ok p) = pass_of (layout_said (Ok p.layout)) p.survey
+pass_said (Err e) = pass_of (Fault (number e)) no_survey
+
+-- Where the pass stands after a message, with how many words of entries; or what it gives, if it is over.
+pub data Turn : Type 0 where
+  On : (at entries : ℕ) (survey : Survey) → Turn
+  Over : (pass : Pass) → Turn
+
+-- What the result of a turn says.
+abbrev pub turn_said : Result (ControlFlow src.Pass Reached) Refusal → Turn
+turn_said (Ok (Continue r)) = On r.at r.entries r.survey
+turn_said (Ok (Break p)) = Over (pass_said (Ok p))
+turn_said (Err e) = Over (pass_said (Err e))
 
 -- What a turn of the layout pass gives, and the room for the entries that it leaves.
 pub record Turned : Type 0 where

@@ -1,19 +1,17 @@
 // What a datagram is, and the rules of the layout for a HANDSHAKE and for nodes that came before.
 ghost use Rattle.std.specs.Prelude.{◌≡◌, ◌≤◌, length};
+ghost use Rattle.base.specs.Out.{Answers};
 ghost use Rattle.wire.specs.Limits.{min_size};
-ghost use Rattle.wire.specs.Layout.{number_of, seen, is_end_only, handshake_fault, handshake_layout};
+ghost use Rattle.wire.specs.Layout.{seen, is_end_only, handshake_fault, handshake_layout, layout_said};
 
 use crate::bytes;
 use crate::limits::MIN_SIZE;
 use crate::message::Options;
+use base::Refusal;
 
-// What a datagram is. `entries` says how many words of the room for nodes are written.
+// What a datagram is, unless it is refused with 1, 2 or 3. `entries` says how many words of the room for nodes are written.
 #[derive(Clone, Copy)]
 pub enum Layout {
-    // Refused with 1, 2 or 3.
-    Fault {
-        number: u32,
-    },
     HandshakeAlone {
         source: u32,
         options: Options,
@@ -29,16 +27,6 @@ pub enum Layout {
         len: usize,
         entries: usize,
     },
-}
-
-// The number that refuses it, or 0.
-pub fn number(layout: Layout) -> u32
-    ensures { result ≡ number_of layout }
-{
-    match layout {
-        Layout::Fault { number } => number,
-        _ => 0,
-    }
 }
 
 // Whether a node is among the entries, one after another.
@@ -84,20 +72,17 @@ fn is_end_only(options: Options) -> bool
     matches!(options, Options::EndOnly)
 }
 
-// 3 for a HANDSHAKE with both channel numbers 0, and for one that closes with other options than End.
-pub fn handshake_fault(destination: u32, source: u32, options: Options) -> u32
-    ensures { result ≡ handshake_fault destination source options }
+// A HANDSHAKE with both channel numbers 0 is refused, and one that closes with other options than End.
+pub fn handshake_fault(destination: u32, source: u32, options: Options) -> Result<(), Refusal>
+    ensures { Answers result (handshake_fault destination source options) }
 {
     if source != 0 {
-        return 0;
+        return Ok(());
     }
-    if destination == 0 {
-        return 3;
+    if destination == 0 || !is_end_only(options) {
+        return Err(Refusal::Handshake);
     }
-    if is_end_only(options) {
-        return 0;
-    }
-    3
+    Ok(())
 }
 
 // A HANDSHAKE from `at` to `next`: it is to be alone.
@@ -107,19 +92,13 @@ pub(crate) fn handshake(
     next: usize,
     source: u32,
     options: Options,
-) -> Layout
+) -> Result<Layout, Refusal>
     requires { min_size ≤ length datagram.now }
-    ensures { result ≡ handshake_layout datagram.now at next source options }
+    ensures { layout_said result ≡ handshake_layout datagram.now at next source options }
 {
-    if at != MIN_SIZE {
-        return Layout::Fault { number: 3 };
+    if at != MIN_SIZE || next != datagram.len() {
+        return Err(Refusal::Handshake);
     }
-    if next != datagram.len() {
-        return Layout::Fault { number: 3 };
-    }
-    let fault = handshake_fault(bytes::load32(datagram, 0), source, options);
-    if fault != 0 {
-        return Layout::Fault { number: fault };
-    }
-    Layout::HandshakeAlone { source, options }
+    handshake_fault(bytes::load32(datagram, 0), source, options)?;
+    Ok(Layout::HandshakeAlone { source, options })
 }

@@ -2,8 +2,8 @@
 ghost use Rattle.std.specs.Prelude.{◌≡◌, ◌+◌, ◌≤◌, length};
 ghost use Rattle.wire.specs.Limits.{min_size, max_size};
 ghost use Rattle.wire.specs.Read.{step_at};
-ghost use Rattle.wire.specs.Layout.{checked_of};
-ghost use Rattle.wire.specs.Steps.{Fronted, entry_words, has_size, check_spec, survey_spec};
+ghost use Rattle.wire.specs.Layout.{checked_of, layout_said};
+ghost use Rattle.wire.specs.Steps.{Fronted, entry_words, has_size, check_spec, survey_spec, pass_said, turn_said};
 ghost use Rattle.wire.specs.Steps.{turned_of, noted, turn_at, last_on, last_at, Standing};
 
 use crate::layout::Layout;
@@ -11,7 +11,9 @@ use crate::limits::{ENTRIES, MAX_SIZE, MIN_SIZE};
 use crate::message::{Cursor, Message, Step};
 use crate::survey::Survey;
 use crate::{layout, plain, range, read};
+use base::Refusal;
 use format::Format;
+use std::ops::ControlFlow;
 
 // What a pass gives.
 #[derive(Clone, Copy)]
@@ -36,209 +38,183 @@ pub fn plain_front(format: Format, datagram: &[u8]) -> Front
     requires datagram_len_bound { length datagram.now ≤ max_size }
     ensures { Fronted format datagram.now result }
 {
-    let mut at: usize = MIN_SIZE;
-    let mut left: usize = datagram.len();
+    let mut at = MIN_SIZE;
     let mut survey = Survey::none();
-    while 0 < left {
+    for done in 0..datagram.len() {
         let Some(size) = plain::size(format, datagram, at) else {
-            break;
+            return Front {
+                at,
+                left: datagram.len() - done,
+                survey,
+            };
         };
         survey = survey.acting(format, &datagram[at..], size);
         at += size;
-        left -= 1;
     }
-    Front { at, left, survey }
-}
-
-// Where the pass stands after a message.
-#[derive(Clone, Copy)]
-pub enum Turn {
-    On {
-        at: usize,
-        entries: usize,
-        survey: Survey,
-    },
-    Over {
-        pass: Pass,
-    },
-}
-
-// Notes the node of an INTEGRITY message, unless it came before.
-fn note(
-    entries: &mut [u64],
-    used: usize,
-    survey: Survey,
-    node: u64,
-    hash: usize,
-    next: usize,
-) -> Turn
-    requires { used + 2 ≤ length entries.old }
-    ensures { turned_of result entries.new
-        ≡ noted entries.old used survey node hash next }
-{
-    if layout::seen(&entries[0..used], node) {
-        return Turn::Over {
-            pass: Pass {
-                layout: Layout::Fault { number: 2 },
-                survey: Survey::none(),
-            },
-        };
-    }
-    entries[used] = node;
-    entries[used + 1] = hash as u64;
-    Turn::On {
-        at: next,
-        entries: used + 2,
+    Front {
+        at,
+        left: 0,
         survey,
     }
 }
 
-// A message from `at` to `next` that is neither plain nor INTEGRITY.
+// Where the pass stands: the place, how many words of the entries are written, and the survey so far.
+#[derive(Clone, Copy)]
+pub struct Reached {
+    pub at: usize,
+    pub entries: usize,
+    pub survey: Survey,
+}
+
+// Where the pass stands after a message, or what it gives if it is over.
+type Turn = Result<ControlFlow<Pass, Reached>, Refusal>;
+
+// Notes the node of an INTEGRITY message, unless it came before; `behind` is where the pass stands after it.
+fn note(entries: &mut [u64], behind: Reached, node: u64, hash: usize) -> Turn
+    requires { behind.entries + 2 ≤ length entries.old }
+    ensures { turned_of (turn_said result) entries.new
+        ≡ noted entries.old behind.entries behind.survey node hash behind.at }
+{
+    let used = behind.entries;
+    if layout::seen(&entries[0..used], node) {
+        return Err(Refusal::Layout);
+    }
+    entries[used] = node;
+    entries[used + 1] = hash as u64;
+    Ok(ControlFlow::Continue(Reached {
+        at: behind.at,
+        entries: used + 2,
+        survey: behind.survey,
+    }))
+}
+
+// A message from where the pass stands to `next` that is neither plain nor INTEGRITY.
 fn last_message(
     datagram: &[u8],
-    at: usize,
-    used: usize,
-    survey: Survey,
+    reached: Reached,
     next: usize,
     message: Message,
-) -> Pass
+) -> Result<Pass, Refusal>
     requires { min_size ≤ length datagram.now }
-    ensures { result ≡ last_on datagram.now used at survey next message }
+    ensures { pass_said result
+        ≡ last_on datagram.now reached.entries reached.at reached.survey next message }
 {
     match message {
-        Message::Handshake { source, options } => Pass {
-            layout: layout::handshake(datagram, at, next, source, options),
+        Message::Handshake { source, options } => Ok(Pass {
+            layout: layout::handshake(datagram, reached.at, next, source, options)?,
             survey: Survey::none(),
-        },
+        }),
         Message::Data {
             first,
             last,
             timestamp,
             start,
             len,
-        } => Pass {
+        } => Ok(Pass {
             layout: Layout::MessagesAndData {
                 chunk: first,
                 timestamp,
                 start,
                 len,
-                entries: used,
+                entries: reached.entries,
             },
-            survey: survey.naming(last),
-        },
-        _ => Pass {
-            layout: Layout::Fault { number: 2 },
-            survey: Survey::none(),
-        },
+            survey: reached.survey.naming(last),
+        }),
+        _ => Err(Refusal::Layout),
     }
 }
 
-// What stands at `at`, where it is neither a plain message nor INTEGRITY.
-fn last_turn(format: Format, datagram: &[u8], at: usize, used: usize, survey: Survey) -> Pass
+// What stands where the pass does, where it is neither a plain message nor INTEGRITY.
+fn last_turn(format: Format, datagram: &[u8], reached: Reached) -> Result<Pass, Refusal>
     requires { min_size ≤ length datagram.now }
-    ensures { result ≡ last_at datagram.now used at survey (step_at format datagram.now at) }
+    ensures { pass_said result ≡ last_at datagram.now reached.entries reached.at reached.survey
+        (step_at format datagram.now reached.at) }
 {
-    if datagram.len() <= at {
-        return Pass {
-            layout: Layout::Messages { entries: used },
-            survey,
-        };
-    }
-    match read::read(format, datagram, Cursor { at }) {
-        Step::Read { message, next } => {
-            last_message(datagram, at, used, survey, next.at, message)
-        }
-        Step::End => Pass {
-            layout: Layout::Messages { entries: used },
-            survey,
-        },
-        Step::Refused => Pass {
-            layout: Layout::Fault { number: 2 },
-            survey: Survey::none(),
-        },
+    match read::read(format, datagram, Cursor { at: reached.at }) {
+        Step::Read { message, next } => last_message(datagram, reached, next.at, message),
+        Step::End => Ok(Pass {
+            layout: Layout::Messages {
+                entries: reached.entries,
+            },
+            survey: reached.survey,
+        }),
+        Step::Refused => Err(Refusal::Layout),
     }
 }
 
-// What stands at `at`.
-fn take_turn(
-    format: Format,
-    datagram: &[u8],
-    entries: &mut [u64],
-    at: usize,
-    used: usize,
-    survey: Survey,
-) -> Turn
-    requires { Standing datagram.now (length entries.old) at used }
-    ensures { turned_of result entries.new
-        ≡ turn_at format datagram.now entries.old used at survey
-        (step_at format datagram.now at) }
+// What stands where the pass does.
+fn take_turn(format: Format, datagram: &[u8], entries: &mut [u64], reached: Reached) -> Turn
+    requires { Standing datagram.now (length entries.old) reached.at reached.entries }
+    ensures { turned_of (turn_said result) entries.new
+        ≡ turn_at format datagram.now entries.old reached.entries reached.at reached.survey
+        (step_at format datagram.now reached.at) }
 {
+    let at = reached.at;
     if let Some(size) = plain::any_size(format, datagram, at) {
-        return Turn::On {
+        return Ok(ControlFlow::Continue(Reached {
             at: at + size,
-            entries: used,
-            survey: survey.acting(format, &datagram[at..], size),
-        };
+            entries: reached.entries,
+            survey: reached.survey.acting(format, &datagram[at..], size),
+        }));
     }
     if plain::is_node(format, datagram, at) {
         let named = range::named_size(format);
         let rest = &datagram[at..];
-        return note(
-            entries,
-            used,
-            survey.naming(range::last(format, rest)),
-            range::node(format, rest),
-            at + named,
-            at + (named + 32),
-        );
+        let behind = Reached {
+            at: at + (named + 32),
+            entries: reached.entries,
+            survey: reached.survey.naming(range::last(format, rest)),
+        };
+        return note(entries, behind, range::node(format, rest), at + named);
     }
-    Turn::Over {
-        pass: last_turn(format, datagram, at, used, survey),
-    }
+    let pass = last_turn(format, datagram, reached)?;
+    Ok(ControlFlow::Break(pass))
 }
 
 // The messages behind the front.
-fn pass_behind(format: Format, datagram: &[u8], entries: &mut [u64], front: Front) -> Pass
+fn pass_behind(
+    format: Format,
+    datagram: &[u8],
+    entries: &mut [u64],
+    front: Front,
+) -> Result<Pass, Refusal>
     requires fronted { Fronted format datagram.now front }
     requires entry_words_in_bounds { entry_words ≤ length entries.old }
-    ensures { (checked_of result.layout entries.new
+    ensures { (checked_of (pass_said result).layout entries.new
         ≡ check_spec format entries.old datagram.now)
-        × (result.survey ≡ survey_spec format datagram.now) }
+        × ((pass_said result).survey ≡ survey_spec format datagram.now) }
 {
-    let mut at: usize = front.at;
-    let mut used: usize = 0;
-    let mut left: usize = front.left;
-    let mut survey = front.survey;
-    while 0 < left {
-        left = left - 1;
-        match take_turn(format, datagram, entries, at, used, survey) {
-            Turn::On {
-                at: next,
-                entries: n,
-                survey: more,
-            } => {
-                at = next;
-                used = n;
-                survey = more;
-            }
-            Turn::Over { pass } => {
-                return pass;
-            }
+    let mut reached = Reached {
+        at: front.at,
+        entries: 0,
+        survey: front.survey,
+    };
+    for _ in 0..front.left {
+        match take_turn(format, datagram, entries, reached)? {
+            ControlFlow::Continue(next) => reached = next,
+            ControlFlow::Break(pass) => return Ok(pass),
         }
     }
-    Pass {
-        layout: Layout::Messages { entries: used },
-        survey,
-    }
+    Ok(Pass {
+        layout: Layout::Messages {
+            entries: reached.entries,
+        },
+        survey: reached.survey,
+    })
 }
 
 // Goes on behind the front. The nodes of INTEGRITY messages and the places of their hashes are written to `entries`,
 // scratch of the caller, from its front, as far as the messages were read.
-pub fn rest(format: Format, datagram: &[u8], entries: &mut [u64; ENTRIES], front: Front) -> Pass
+pub fn rest(
+    format: Format,
+    datagram: &[u8],
+    entries: &mut [u64; ENTRIES],
+    front: Front,
+) -> Result<Pass, Refusal>
     requires { Fronted format datagram.now front }
-    ensures { (checked_of result.layout entries.new
+    ensures { (checked_of (pass_said result).layout entries.new
         ≡ check_spec format entries.old datagram.now)
-        × (result.survey ≡ survey_spec format datagram.now) }
+        × ((pass_said result).survey ≡ survey_spec format datagram.now) }
 {
     pass_behind(format, datagram, entries, front)
 }
@@ -247,23 +223,17 @@ pub fn rest(format: Format, datagram: &[u8], entries: &mut [u64; ENTRIES], front
 pub fn has_size(datagram: &[u8]) -> bool
     ensures { result ≡ has_size (length datagram.now) }
 {
-    if datagram.len() < MIN_SIZE {
-        return false;
-    }
-    if MAX_SIZE < datagram.len() {
-        return false;
-    }
-    true
+    MIN_SIZE <= datagram.len() && datagram.len() <= MAX_SIZE
 }
 
 // The checks of size and layout, for whoever has a slice for the entries.
-pub fn check(format: Format, datagram: &[u8], entries: &mut [u64]) -> Layout
+pub fn check(format: Format, datagram: &[u8], entries: &mut [u64]) -> Result<Layout, Refusal>
     requires { entry_words ≤ length entries.old }
-    ensures { checked_of result entries.new ≡ check_spec format entries.old datagram.now }
+    ensures { checked_of (layout_said result) entries.new ≡ check_spec format entries.old datagram.now }
 {
     if !has_size(datagram) {
-        return Layout::Fault { number: 1 };
+        return Err(Refusal::DatagramSize);
     }
-    let found = pass_behind(format, datagram, entries, plain_front(format, datagram));
-    found.layout
+    let pass = pass_behind(format, datagram, entries, plain_front(format, datagram))?;
+    Ok(pass.layout)
 }

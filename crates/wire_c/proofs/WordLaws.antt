@@ -1,34 +1,21 @@
--- Laws of words: six stores, and the words of a layout. Assumes nothing.
-use Prim.Native.Nat.{ℕ}
+-- Laws of words: six at the front, and the words of a layout. Assumes nothing.
+use Prim.Native.Nat.{ℕ, ◌+◌, ◌≤◌}
 use native.Mathlib.Omega.{arith}
-use mathlib.Core.Path.{◌≡◌, refl, ap, ◌∙◌}
-use mathlib.Core.List.{List, [], ◌∷◌}
-use lib.ListN.{length, get_or, set}
+use mathlib.Core.Path.{◌≡◌, refl, sym, ◌∙◌}
+use mathlib.Core.List.{List, [], ◌∷◌, ◌++◌}
+use lib.ListN.{length, drop}
 use lib.Seq.{sets}
+use Rattle.std.proofs.lemmas.List.Edits.{sets-eq}
 use Rattle.wire.specs.declared.message.Options.{Options}
 use Rattle.wire.specs.declared.message.Options.TheVariants.{Fixed, EndOnly, Other}
-use Rattle.wire.specs.declared.layout.Layout.{Layout}
-use Rattle.wire.specs.declared.layout.Layout.TheVariants.{HandshakeAlone, Messages, MessagesAndData}
+use Rattle.wire.specs.Layout.{Layout}
+use Rattle.wire.specs.Layout.{HandshakeAlone, Messages, MessagesAndData}
 use Rattle.wire_c.specs.Words.{layout_words}
 use Rattle.wire_c.specs.Steps.{kind_of, root_of}
 
--- ---- six words
-
--- a list of six, written out
-six_cells : (w : List ℕ) → length w ≡ 6 → get_or w 0 0 ∷ get_or w 1 0 ∷ get_or w 2 0 ∷ get_or w 3 0 ∷ get_or w 4 0 ∷ get_or w 5 0 ∷ [] ≡ w
-six_cells [] h = absurd (omega arith)
-six_cells (a ∷ []) h = absurd (omega arith)
-six_cells (a ∷ b ∷ []) h = absurd (omega arith)
-six_cells (a ∷ b ∷ c ∷ []) h = absurd (omega arith)
-six_cells (a ∷ b ∷ c ∷ d ∷ []) h = absurd (omega arith)
-six_cells (a ∷ b ∷ c ∷ d ∷ e ∷ []) h = absurd (omega arith)
-six_cells (a ∷ b ∷ c ∷ d ∷ e ∷ f ∷ []) h = refl
-six_cells (a ∷ b ∷ c ∷ d ∷ e ∷ f ∷ g ∷ w) h = absurd (omega arith)
-
--- six stores
-pub six_stored : (l w : List ℕ) → length w ≡ 6
-    → set (set (set (set (set (set l 0 (get_or w 0 0)) 1 (get_or w 1 0)) 2 (get_or w 2 0)) 3 (get_or w 3 0)) 4 (get_or w 4 0)) 5 (get_or w 5 0) ≡ sets l 0 w
-six_stored l w h = ap (sets l 0) (six_cells w h)
+-- six words at the front
+pub six_stored : (l w : List ℕ) → length w ≡ 6 → 6 ≤ length l → w ++ drop 6 l ≡ sets l 0 w
+six_stored l w h k = let q : 0 + length w ≡ 6 = omega arith in sym (sets-eq w l 0 (omega arith) ∙ rw q)
 
 -- ---- the words of a layout
 

@@ -15,7 +15,7 @@ ghost use Rattle.format.specs.Format.{format_of};
 ghost use Rattle.wire_c.specs.Calls.{laid_of, layout_told};
 
 use wire::limits::ENTRIES;
-use wire::{layout, pass};
+use wire::pass;
 
 // The number of a datagram's layout under a method of addressing; any number but that of bins counts as ranges. Unless
 // it is refused, `out` gets six words: 1 for a HANDSHAKE alone, 2 for messages without DATA, 3 for messages with DATA;
@@ -37,7 +37,11 @@ pub extern "C" fn wire_layout(
     if entries.len() < ENTRIES {
         return 11;
     }
-    let found = pass::check(format::of_method(addressing), datagram, entries);
-    words::put_layout(out, found);
-    layout::number(found)
+    match pass::check(format::of_method(addressing), datagram, entries) {
+        Ok(layout) => {
+            words::put_layout(out, layout);
+            0
+        }
+        Err(refusal) => refusal.number(),
+    }
 }

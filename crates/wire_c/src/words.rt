@@ -1,5 +1,6 @@
 // The words of a layout.
 ghost use Rattle.std.specs.Prelude.{◌≡◌, ◌≤◌, length};
+ghost use Rattle.wire.proofs.Promise.{layout_said};
 ghost use Rattle.std.proofs.lemmas.List.Edits.{sets};
 ghost use Rattle.wire_c.specs.Words.{layout_words};
 ghost use Rattle.wire_c.specs.Steps.{kind_of, root_of};
@@ -22,8 +23,7 @@ fn root(options: Options) -> u64
 {
     match options {
         Options::Fixed { root } => root as u64,
-        Options::EndOnly => 0,
-        Options::Other => 0,
+        _ => 0,
     }
 }
 
@@ -31,21 +31,14 @@ fn put(out: &mut [u64], words: [u64; 6])
     requires { 6 ≤ length out.old }
     ensures { out.new ≡ sets out.old 0 words }
 {
-    out[0] = words[0];
-    out[1] = words[1];
-    out[2] = words[2];
-    out[3] = words[3];
-    out[4] = words[4];
-    out[5] = words[5];
+    out[..6].copy_from_slice(&words);
 }
 
-// Nothing of a layout that is refused.
 pub(crate) fn put_layout(out: &mut [u64], layout: Layout)
     requires { 6 ≤ length out.old }
-    ensures { out.new ≡ sets out.old 0 (layout_words layout) }
+    ensures { out.new ≡ sets out.old 0 (layout_words (layout_said (Ok layout))) }
 {
     match layout {
-        Layout::Fault { number: _ } => {}
         Layout::HandshakeAlone { source, options } => {
             put(out, [1, source as u64, kind(options), root(options), 0, 0]);
         }

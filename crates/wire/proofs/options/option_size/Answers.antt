@@ -1,6 +1,5 @@
 use lib.ListN.{get_or}
 use native.Mathlib.Omega.{arith}
-use mathlib.Core.Path.{sym, ◌∙◌}
 use Rattle.wire.specs.Options.{option_size}
 use Rattle.wire.proofs.OptionsLaws.{tests, option-short, option-cut, option-whole, head_least}
 use Rattle.wire.proofs.SizeLaws.{size-none, size-there}

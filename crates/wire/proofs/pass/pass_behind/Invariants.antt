@@ -1,8 +1,6 @@
+use Prim.Native.Nat.{◌-◌}
 use Rattle.wire.proofs.PassLaws.{Passing}
 use Rattle.wire.proofs.pass.pass_behind.Given as goal
 
-abbrev pub invariant-loop-left : goal.invariant-loop-left
-invariant-loop-left l = Passing l.format l.initial.entries l.datagram l.entries l.left l.at l.used l.survey
-
-abbrev pub decreases-loop-left : goal.decreases-loop-left
-decreases-loop-left l = l.left
+abbrev pub invariant-loop : goal.invariant-loop
+invariant-loop l = Passing l.format l.initial.entries l.datagram l.entries (l.end - l.counter) l.reached.at l.reached.entries l.reached.survey

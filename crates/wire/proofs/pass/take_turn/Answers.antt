@@ -2,10 +2,9 @@ use native.Mathlib.Omega.{arith}
 use lib.ListN.{length-drop}
 use Rattle.wire.proofs.BytesLaws.{part}
 use Rattle.wire.proofs.PlainLaws.{size-inside-said, node-inside}
-use mathlib.Core.Path.{refl}
 use Rattle.wire.proofs.PlaceLaws.{place-least}
-use Rattle.wire.proofs.SizeLaws.{size-said, size-unsaid}
-use Rattle.wire.proofs.TurnLaws.{turn-plain, turn-node, turn_last, note-room}
+use Rattle.wire.proofs.SizeLaws.{size-said}
+use Rattle.wire.proofs.TurnLaws.{turn-plain, turn-node, note-room}
 use Rattle.wire.proofs.pass.take_turn.Goals as goal
 
 pub overflow_add-result : goal.overflow_add-result
@@ -38,17 +37,14 @@ node-requires c = simp (part, length-drop) (omega (arith, node-inside _ _ _ c.is
 pub overflow_add-at : goal.overflow_add-at
 overflow_add-at c = omega (arith, c.requires.high, c.named_size-named.ensures.0, node-inside _ _ _ c.is_node.ensures c.if-is_node.true)
 
-pub overflow_add-named : goal.overflow_add-named
-overflow_add-named c = omega (arith, c.requires.high, c.named_size-named.ensures.0, node-inside _ _ _ c.is_node.ensures c.if-is_node.true)
+pub overflow_add-behind : goal.overflow_add-behind
+overflow_add-behind c = omega (arith, c.requires.high, c.named_size-named.ensures.0, node-inside _ _ _ c.is_node.ensures c.if-is_node.true)
 
-pub overflow_add-at-then-is_node : goal.overflow_add-at-then-is_node
-overflow_add-at-then-is_node c = omega (arith, c.requires.high, c.named_size-named.ensures.0, node-inside _ _ _ c.is_node.ensures c.if-is_node.true)
+pub overflow_add-behind-then-is_node : goal.overflow_add-behind-then-is_node
+overflow_add-behind-then-is_node c = omega (arith, c.requires.high, c.named_size-named.ensures.0, node-inside _ _ _ c.is_node.ensures c.if-is_node.true)
 
 pub note-requires : goal.note-requires
 note-requires c = note-room _ _ _ _ c.requires (simp length-drop (omega (arith, place-least c.args.format, node-inside _ _ _ c.is_node.ensures c.if-is_node.true)))
 
 pub returns-then-is_node : goal.returns-then-is_node
 returns-then-is_node c = turn-node _ _ _ _ _ _ c.is_node.ensures c.if-is_node.true c.last.ensures c.node.ensures c.naming.ensures c.named_size-named.ensures.0 c.note.ensures
-
-pub returns : goal.returns
-returns c = turn_last _ _ _ _ _ _ refl (size-unsaid _ c.in_default.ensures) c.is_node.ensures c.if-is_node.false c.last_turn.ensures

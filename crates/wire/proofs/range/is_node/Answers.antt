@@ -1,4 +1,3 @@
-use Rattle.std.proofs.Common.{◌≡◌}
 use mathlib.Core.Path.{◌∙◌, ap}
 use Rattle.std.specs.Prelude.{is_some}
 use Rattle.wire.proofs.PlaceLaws.{node-found}

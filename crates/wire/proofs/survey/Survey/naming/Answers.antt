@@ -1,4 +1,3 @@
-use mathlib.Core.Path.{◌∙◌}
 use Rattle.wire.specs.Steps.{naming}
 use Rattle.wire.proofs.SurveyLaws.{higher-max}
 use Rattle.wire.proofs.survey.Survey.naming.Goals as goal
