@@ -8,9 +8,9 @@ use Rattle.wire.proofs.layout.handshake.Goals.{then-at-ne-MIN_SIZE-via-then-at-n
 
 pub returns-then-at-ne-MIN_SIZE : goal.returns-then-at-ne-MIN_SIZE
 returns-then-at-ne-MIN_SIZE c =
-    elim c.then-at-ne-MIN_SIZE.branch
-    [ then-at-ne-MIN_SIZE-via-then-at-ne-MIN_SIZE w ↦ alone-before _ _ _ _ _ w.if-at-ne-MIN_SIZE.true
-    | then-at-ne-MIN_SIZE-via-else-at-ne-MIN_SIZE+then-next-datagram w ↦ alone-behind _ _ _ _ _ w.if-at-ne-MIN_SIZE.false (λ e. omega (arith, w.if-next-datagram.true))
+    elim c.then-at-ne-MIN_SIZE.branch [
+      | then-at-ne-MIN_SIZE-via-then-at-ne-MIN_SIZE w ↦ alone-before _ _ _ _ _ w.if-at-ne-MIN_SIZE.true
+      | then-at-ne-MIN_SIZE-via-else-at-ne-MIN_SIZE+then-next-datagram w ↦ alone-behind _ _ _ _ _ w.if-at-ne-MIN_SIZE.false (λ e. omega (arith, w.if-next-datagram.true))
     ]
 
 pub returns-in_err-handshake_fault : goal.returns-in_err-handshake_fault
