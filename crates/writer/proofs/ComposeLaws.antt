@@ -12,7 +12,7 @@ use Rattle.wire.specs.Layout.{Checked, checked_of, number_of, layout_step, layou
 use Rattle.wire.specs.declared.message.Message.{Message}
 use Rattle.wire.specs.declared.message.Message.TheVariants.{Handshake, Data, Ack, Have, Integrity, Request, Cancel, Choke, Unchoke, Empty}
 use Rattle.wire.specs.declared.message.Step.TheVariants.{Read}
-use Rattle.wire.specs.declared.layout.Layout.TheVariants.{Messages}
+use Rattle.wire.specs.Layout.{Messages}
 use Rattle.wire.proofs.LocalLaws.{be32-local}
 use Rattle.writer.specs.Bytes.{bytes32}
 use Rattle.writer.specs.Message.{bytes_of, writable}

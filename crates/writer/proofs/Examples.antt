@@ -14,7 +14,7 @@ use Rattle.wire.specs.declared.message.Options.TheVariants.{Fixed, EndOnly}
 use Rattle.wire.specs.declared.message.Message.{Message}
 use Rattle.wire.specs.declared.message.Message.TheVariants.{Handshake, Data, Ack, Have, Integrity, Request, Cancel, Choke, Unchoke, Empty}
 use Rattle.wire.specs.declared.message.Step.TheVariants.{Read, Refused}
-use Rattle.wire.specs.declared.layout.Layout.TheVariants.{HandshakeAlone}
+use Rattle.wire.specs.Layout.{HandshakeAlone}
 use Rattle.writer.specs.Bytes.{bytes32, bytes64, name_bytes, empty_bytes, nameable}
 use Rattle.writer.specs.Message.{option_bytes, bytes_of, writable}
 use Rattle.writer.specs.Steps.{option_span, size_of}

@@ -19,7 +19,7 @@ use Rattle.wire.specs.declared.message.Message.{Message}
 use Rattle.wire.specs.declared.message.Message.TheVariants.{Handshake, Data, Ack, Have, Integrity, Request, Cancel, Choke, Unchoke, Empty}
 use Rattle.wire.specs.declared.message.Step.{Step}
 use Rattle.wire.specs.declared.message.Step.TheVariants.{Read, End}
-use Rattle.wire.specs.declared.layout.Layout.TheVariants.{Messages}
+use Rattle.wire.specs.Layout.{Messages}
 use Rattle.wire.proofs.PlacedLaws.{placed-none, placed-then, placed-front}
 use Rattle.wire.proofs.ViewLaws.{end_is}
 use Rattle.writer.specs.Bytes.{bytes32, bytes64, name_bytes}

@@ -14,8 +14,8 @@ use Rattle.wire.specs.Bytes.{be32, placed}
 use Rattle.wire.specs.Limits.{min_size, max_size}
 use Rattle.wire.specs.Layout.{Checked, checked_of, number_of, layout_of}
 use Rattle.wire.specs.declared.message.Options.TheVariants.{Fixed, EndOnly, Other}
-use Rattle.wire.specs.declared.layout.Layout.{Layout}
-use Rattle.wire.specs.declared.layout.Layout.TheVariants.{Fault, HandshakeAlone, Messages, MessagesAndData}
+use Rattle.wire.specs.Layout.{Layout}
+use Rattle.wire.specs.Layout.{Fault, HandshakeAlone, Messages, MessagesAndData}
 use Rattle.wire.proofs.PlacedLaws.{placed-then, placed-front, placed-length}
 use Rattle.wire.proofs.ExtendLaws.{layout_is, over}
 use Rattle.wire.proofs.FaultLaws.{passed}

@@ -20,7 +20,7 @@ use Rattle.wire.specs.declared.message.Message.{Message}
 use Rattle.wire.specs.declared.message.Message.TheVariants.{Handshake, Data, Ack, Have, Integrity, Request, Cancel, Choke, Unchoke, Empty}
 use Rattle.wire.specs.declared.message.Step.{Step}
 use Rattle.wire.specs.declared.message.Step.TheVariants.{Read, End, Refused}
-use Rattle.wire.specs.declared.layout.Layout.TheVariants.{Fault, HandshakeAlone, Messages}
+use Rattle.wire.specs.Layout.{Fault, HandshakeAlone, Messages}
 use Rattle.writer.specs.Message.{bytes_of}
 use Rattle.writer.specs.Add.{add_answer, add_spec}
 use Rattle.writer.specs.Lists.{Item, item_of, AreBytes, on_step, read_from, Rewritable, add_all}

@@ -8,8 +8,8 @@ use Rattle.wire.specs.Bytes.{placed}
 use Rattle.wire.specs.Limits.{min_size, max_size}
 use Rattle.wire.specs.Layout.{number_of, layout_of}
 use Rattle.wire.specs.declared.message.Message.{Message}
-use Rattle.wire.specs.declared.layout.Layout.{Layout}
-use Rattle.wire.specs.declared.layout.Layout.TheVariants.{Fault, HandshakeAlone, Messages, MessagesAndData}
+use Rattle.wire.specs.Layout.{Layout}
+use Rattle.wire.specs.Layout.{Fault, HandshakeAlone, Messages, MessagesAndData}
 use Rattle.writer.specs.Bytes.{bytes32}
 use Rattle.writer.specs.Message.{bytes_of, writable}
 

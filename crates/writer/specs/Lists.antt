@@ -13,8 +13,8 @@ use Rattle.wire.specs.declared.message.Message.{Message}
 use Rattle.wire.specs.declared.message.Message.TheVariants.{Handshake, Data, Ack, Have, Integrity, Request, Cancel, Choke, Unchoke, Empty}
 use Rattle.wire.specs.declared.message.Step.{Step}
 use Rattle.wire.specs.declared.message.Step.TheVariants.{Read, End, Refused}
-use Rattle.wire.specs.declared.layout.Layout.{Layout}
-use Rattle.wire.specs.declared.layout.Layout.TheVariants.{HandshakeAlone}
+use Rattle.wire.specs.Layout.{Layout}
+use Rattle.wire.specs.Layout.{HandshakeAlone}
 use Rattle.writer.specs.Message.{within, bytes_of}
 use Rattle.writer.specs.Add.{begin_spec, add_spec}
 

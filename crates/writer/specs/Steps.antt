@@ -11,8 +11,8 @@ use Rattle.wire.specs.declared.message.Options.{Options}
 use Rattle.wire.specs.declared.message.Options.TheVariants.{Fixed, EndOnly, Other}
 use Rattle.wire.specs.declared.message.Message.{Message}
 use Rattle.wire.specs.declared.message.Message.TheVariants.{Handshake, Data, Ack, Have, Integrity, Request, Cancel, Choke, Unchoke, Empty}
-use Rattle.wire.specs.declared.layout.Layout.{Layout}
-use Rattle.wire.specs.declared.layout.Layout.TheVariants.{Fault, HandshakeAlone, Messages, MessagesAndData}
+use Rattle.wire.specs.Layout.{Layout}
+use Rattle.wire.specs.Layout.{Fault, HandshakeAlone, Messages, MessagesAndData}
 use Rattle.writer.specs.Bytes.{nameable, is_everything}
 use Rattle.writer.specs.Message.{writable}
 use Rattle.writer.specs.declared.add.Before.{Before}

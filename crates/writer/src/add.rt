@@ -97,7 +97,10 @@ fn own_fault(format: Format, destination: u32, len: usize, message: Message) -> 
             if len != MIN_SIZE {
                 3
             } else {
-                layout::handshake_fault(destination, source, options)
+                match layout::handshake_fault(destination, source, options) {
+                    Ok(()) => 0,
+                    Err(refusal) => refusal.number(),
+                }
             }
         }
         Message::Data {
@@ -149,13 +152,16 @@ fn before_others(format: Format, prefix: &[u8], front: Front, node: Option<u64>)
     ensures { result ≡ before_of (layout_of format prefix.now) node }
 {
     let mut entries = [0u64; ENTRIES];
-    let pass = pass::rest(format, prefix, &mut entries, front);
-    let found = pass.layout;
-    match found {
-        Layout::Fault { number } => Before {
-            fault: number,
-            behind: 0,
-        },
+    let pass = match pass::rest(format, prefix, &mut entries, front) {
+        Ok(pass) => pass,
+        Err(refusal) => {
+            return Before {
+                fault: refusal.number(),
+                behind: 0,
+            };
+        }
+    };
+    match pass.layout {
         Layout::HandshakeAlone {
             source: _,
             options: _,

@@ -1,4 +1,4 @@
-use mathlib.Core.Path.{refl}
+use mathlib.Core.Path.{refl, ◌∙◌}
 use Rattle.writer.proofs.AnswerLaws.{handshake-behind, handshake-first, by_test}
 use borrow.Author.Rules.{rules}
 use Rattle.writer.proofs.add.own_fault.Goals as goal
@@ -6,8 +6,11 @@ use Rattle.writer.proofs.add.own_fault.Goals as goal
 pub returns-then-len-ne-MIN_SIZE : goal.returns-then-len-ne-MIN_SIZE
 returns-then-len-ne-MIN_SIZE c = rw c.in-Handshake.is (handshake-behind c.args.format _ _ _ _ c.if-len-ne-MIN_SIZE.true, (search rules))
 
-pub returns-else-len-ne-MIN_SIZE : goal.returns-else-len-ne-MIN_SIZE
-returns-else-len-ne-MIN_SIZE c = rw c.in-Handshake.is (handshake-first c.args.format _ _ _ _ c.if-len-ne-MIN_SIZE.false c.handshake_fault.ensures, (search rules))
+pub returns-in-Ok : goal.returns-in-Ok
+returns-in-Ok c = rw c.in-Handshake.is (handshake-first c.args.format _ _ _ _ c.if-len-ne-MIN_SIZE.false c.in-Ok.ensures.0, (search rules))
+
+pub returns-in-Err : goal.returns-in-Err
+returns-in-Err c = rw c.in-Handshake.is (c.number.ensures ∙ handshake-first c.args.format _ _ _ _ c.if-len-ne-MIN_SIZE.false c.in-Err.ensures.0, (search rules))
 
 pub returns-in-Data : goal.returns-in-Data
 returns-in-Data c = rw c.in-Data.is (by_test c.names_chunk.ensures c.refused_unless.ensures, (search rules))
