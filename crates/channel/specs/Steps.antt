@@ -2,8 +2,8 @@
 use Rattle.std.specs.Prelude.{ℕ, Bool, true, false, List}
 use Rattle.wire.proofs.Promise.{survey_of, no_survey, survey_all}
 use Rattle.wire.specs.declared.survey.Survey.{Survey}
-use Rattle.wire.specs.declared.layout.Layout.{Layout}
-use Rattle.wire.specs.declared.layout.Layout.TheVariants.{Fault, HandshakeAlone, Messages, MessagesAndData}
+use Rattle.wire.specs.Layout.{Layout}
+use Rattle.wire.specs.Layout.{Fault, HandshakeAlone, Messages, MessagesAndData}
 use Rattle.channel.specs.World.{World, Out, out_of, order_format}
 use Rattle.channel.specs.Take.{by_layout}
 

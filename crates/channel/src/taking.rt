@@ -88,15 +88,18 @@ fn rule_behind(
         clock id datagram.now (layout_in state.old datagram.now).layout }
 {
     let mut entries = [0u64; ENTRIES];
-    let pass = pass::rest(format, datagram, &mut entries, front);
+    let pass = match pass::rest(format, datagram, &mut entries, front) {
+        Ok(pass) => pass,
+        Err(refusal) => {
+            return ruled(Taken {
+                answer: refusal.number(),
+                len: 0,
+                node: None,
+            });
+        }
+    };
     let survey = pass.survey;
-    let found = pass.layout;
-    match found {
-        Layout::Fault { number } => ruled(Taken {
-            answer: number,
-            len: 0,
-            node: None,
-        }),
+    match pass.layout {
         Layout::HandshakeAlone { source, options } => ruled(outcome::unnamed(handshakes::handshake(
             state, has, wants, reply, id, source, options, datagram,
         ))),
