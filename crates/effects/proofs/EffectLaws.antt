@@ -1,5 +1,5 @@
 -- The effects of messages on a channel, one after the other. Assumes nothing.
-use Prim.Native.Nat.{ℕ, ◌+◌, ◌-◌, ◌≤◌, ◌<◌}
+use Prim.Native.Nat.{ℕ, zero, suc, ◌+◌, ◌-◌, ◌≤◌, ◌<◌}
 use native.Mathlib.Omega.{arith}
 use mathlib.Core.Path.{◌≡◌, refl, sym, ap, ◌∙◌}
 use mathlib.Core.Logic.{◌⊎◌, inl, inr}
@@ -10,6 +10,7 @@ use lib.Seq.{take_all}
 use lib.Dec.{eqb}
 use borrow.Author.Tests.{lt-ltb, le-ltb, eq-eqb, ne_eqb, eqb-true}
 use Rattle.base.specs.Pick.{pick}
+use Rattle.std.proofs.Common.{Some, None}
 use Rattle.bits.proofs.Promise.{set_range, clear_range}
 use Rattle.format.specs.declared.Format.{Format}
 use Rattle.wire.proofs.Promise.{be64, named_size, first_of, last_of, is_empty, named, step_at, range_of, plain_size, plain_message, plain-read}
@@ -21,7 +22,7 @@ use Rattle.wire.specs.declared.message.Step.{Step}
 use Rattle.wire.specs.declared.message.Step.TheVariants.{Read, End, Refused}
 use Rattle.writer.proofs.Promise.{on_step, read_from}
 use Rattle.effects.specs.Effects.{Peer, peer_of, have, inside, effect, effects}
-use Rattle.effects.specs.Steps.{is_have, Turned, turn_of, turned}
+use Rattle.effects.specs.Steps.{Turned, turn_of, turned}
 use Rattle.effects.proofs.SurveyLaws.{read_more}
 
 -- The part of a slice from an index on, as the code has it.
@@ -30,30 +31,17 @@ part n t = take_all (length t - n) (drop n t) (omega (arith, length-drop n t))
 
 -- ---- a plain message, by its type
 
-have_types : (k : ℕ) → is_have k ≡ true → (k ≡ 3) ⊎ (k ≡ 2)
-unfolding is_have
-have_types k = by (eqb k 3) refl
-  where
-    by : (x : Bool) → eqb k 3 ≡ x → pick x true (eqb k 2) ≡ true → (k ≡ 3) ⊎ (k ≡ 2)
-    by true e h = inl (eqb-true k 3 e)
-    by false e h = inr (eqb-true k 2 h)
-
-no_have : (k : ℕ) → is_have k ≡ false → (k ≡ 3 → ⊥) × (k ≡ 2 → ⊥)
-unfolding is_have
-no_have k h = (λ e. true≢false (rw e at h), λ e. true≢false (rw e at h))
+two_or_three : (k : ℕ) → 2 ≤ k → k ≤ 3 → (k ≡ 2) ⊎ (k ≡ 3)
+two_or_three zero l h = absurd (omega arith)
+two_or_three (suc zero) l h = absurd (omega arith)
+two_or_three (suc (suc zero)) l h = inl refl
+two_or_three (suc (suc (suc zero))) l h = inr refl
+two_or_three (suc (suc (suc (suc k)))) l h = absurd (omega arith)
 
 -- HAVE sets has-bits and clears wants.
 pub have_sets : (has wants : List ℕ) (k : Bool) (from upto : ℕ) {h w : List ℕ} → h ≡ set_range has from upto → w ≡ clear_range wants from upto
     → peer_of h w k ≡ have from upto (peer_of has wants k)
 have_sets has wants k from upto d e = rw (d, e)
-
--- The end of chunks, by the code's test.
-module _ (N l : ℕ) where
-  pub inside-in : l < N → l + 1 ≡ inside N l
-  inside-in h = simp (lt-ltb l N h)
-
-  pub inside-out : N ≤ l → N ≡ inside N l
-  inside-out h = simp (le-ltb l N h)
 
 module _ (F : Format) (N b : ℕ) (has wants : List ℕ) (k : Bool) (t : List ℕ) where
   -- CHOKE and UNCHOKE set and clear the mark.
@@ -89,27 +77,25 @@ module _ (F : Format) (N b : ℕ) (has wants : List ℕ) (k : Bool) (t : List �
       ack-is q = simp (le-ltb 9 (get_or t 0 0) low, ← ee, p, eq-eqb (get_or t 0 0) 2 q)
 
       -- HAVE and ACK have one effect.
-      pub have-does : {x : Bool} → x ≡ is_have (get_or t 0 0) → x ≡ true → {q : Peer} → q ≡ have from upto (peer_of has wants k)
+      pub have-does : 2 ≤ get_or t 0 0 → get_or t 0 0 ≤ 3 → {q : Peer} → q ≡ have from upto (peer_of has wants k)
           → q ≡ effect N b (plain_message F t) (peer_of has wants k)
       unfolding effect
-      have-does g h d = d ∙ rw (from_is, upto_is) (by (have_types (get_or t 0 0) (sym g ∙ h)))
+      have-does l h d = d ∙ rw (from_is, upto_is) (by (two_or_three (get_or t 0 0) l h))
         where
-          by : (get_or t 0 0 ≡ 3) ⊎ (get_or t 0 0 ≡ 2) → have (b + first_of F t) (b + inside N (last_of F t)) (peer_of has wants k) ≡ effect N b (plain_message F t) (peer_of has wants k)
-          by (inl q) = rw (named-is (λ z. omega (arith, q, z)), q)
-          by (inr q) = rw (ack-is q)
+          by : (get_or t 0 0 ≡ 2) ⊎ (get_or t 0 0 ≡ 3) → have (b + first_of F t) (b + inside N (last_of F t)) (peer_of has wants k) ≡ effect N b (plain_message F t) (peer_of has wants k)
+          by (inl q) = rw (ack-is q)
+          by (inr q) = rw (named-is (λ z. omega (arith, q, z)), q)
 
-      module _ {x : Bool} (g : x ≡ is_have (get_or t 0 0)) (h : x ≡ false) where
-        -- REQUEST sets wants.
-        pub request-does : get_or t 0 0 ≡ 8 → {w : List ℕ} → w ≡ set_range wants from upto → peer_of has w k ≡ effect N b (plain_message F t) (peer_of has wants k)
-        unfolding effect
-        request-does q d = rw (d, from_is, upto_is, named-is (no_have (get_or t 0 0) (sym g ∙ h)).1, q)
+      -- REQUEST sets wants.
+      pub request-does : get_or t 0 0 ≡ 8 → {w : List ℕ} → w ≡ set_range wants from upto → peer_of has w k ≡ effect N b (plain_message F t) (peer_of has wants k)
+      unfolding effect
+      request-does q d = rw (d, from_is, upto_is, named-is (λ z. omega (arith, q, z)), q)
 
-        -- CANCEL, and any other type, clears wants.
-        pub cancel-does : (get_or t 0 0 ≡ 8 → ⊥) → {w : List ℕ} → w ≡ clear_range wants from upto → peer_of has w k ≡ effect N b (plain_message F t) (peer_of has wants k)
-        unfolding effect
-        cancel-does q d =
-            let n = no_have (get_or t 0 0) (sym g ∙ h) in
-            rw (d, from_is, upto_is, named-is n.1, ne_eqb (get_or t 0 0) 3 n.0, ne_eqb (get_or t 0 0) 8 q)
+      -- CANCEL, and any other type, clears wants.
+      pub cancel-does : (get_or t 0 0 ≡ 2 → ⊥) → (get_or t 0 0 ≡ 3 → ⊥) → (get_or t 0 0 ≡ 8 → ⊥) → {w : List ℕ} → w ≡ clear_range wants from upto
+          → peer_of has w k ≡ effect N b (plain_message F t) (peer_of has wants k)
+      unfolding effect
+      cancel-does p q r d = rw (d, from_is, upto_is, named-is p, ne_eqb (get_or t 0 0) 3 q, ne_eqb (get_or t 0 0) 8 r)
 
 -- A step that is no plain message has no effect.
 other_does : (F : Format) (N b : ℕ) (m : Peer) (i : Message) (next : Cursor) → plain_size F (Read i next) ≡ 0 → m ≡ effect N b i m
@@ -127,50 +113,56 @@ other_does F N b m (Empty k) next h = absurd (omega (arith, h))
 
 -- ---- one turn
 
-module _ (N b : ℕ) (m : Peer) (left : ℕ) where
+module _ (N b : ℕ) (m : Peer) where
   -- A turn at a message has its effect and goes on behind it.
-  pub turn-read : {st : Step} {i : Message} {next : Cursor} {x : Peer} → st ≡ Read i next → x ≡ effect N b i m → turn_of x next.at left ≡ turned N b m left st
+  turn-read : {st : Step} {i : Message} {next : Cursor} {x : Peer} → st ≡ Read i next → x ≡ effect N b i m → turn_of x (Some next.at) ≡ turned N b m st
   unfolding turned
   turn-read e d = rw (e, d)
 
   -- A turn at a plain message.
   pub turn-plain : (F : Format) (s : List ℕ) (at : ℕ) {n : ℕ} → n ≡ plain_size F (step_at F s at) → (n ≡ 0 → ⊥) → {x : Peer} → x ≡ effect N b (plain_message F (take (length s - at) (drop at s))) m
-      → turn_of x (at + n) left ≡ turned N b m left (step_at F s at)
+      → turn_of x (Some (at + n)) ≡ turned N b m (step_at F s at)
   turn-plain F s at e h d = turn-read (plain-read F s at e h) (rw part at d)
 
   -- At another one.
-  pub turn-other : (F : Format) {st : Step} {i : Message} {next : Cursor} {n : ℕ} → n ≡ plain_size F st → n ≡ 0 → st ≡ Read i next → turn_of m next.at left ≡ turned N b m left st
+  pub turn-other : (F : Format) {st : Step} {i : Message} {next : Cursor} {n : ℕ} → n ≡ plain_size F st → n ≡ 0 → st ≡ Read i next → turn_of m (Some next.at) ≡ turned N b m st
   turn-other F {st} {i} {next} e h g = turn-read g (other_does F N b m i next (ap (plain_size F) (sym g) ∙ sym e ∙ h))
 
-  -- At the end none is left.
-  pub turn_end : {st : Step} → st ≡ End → turn_of m 0 0 ≡ turned N b m left st
+  -- At the end or a refusal nothing follows.
+  pub turn_over : {st : Step} → (st ≡ End) ⊎ (st ≡ Refused) → turn_of m None ≡ turned N b m st
   unfolding turned
-  turn_end e = rw e
-
-  -- At a refusal none is left.
-  pub turn-refused : {st : Step} → st ≡ Refused → turn_of m 0 0 ≡ turned N b m left st
-  unfolding turned
-  turn-refused e = rw e
-
-  -- A turn leaves no more messages than it was given.
-  pub turn-less : (st : Step) {x : Peer} {at n : ℕ} → turn_of x at n ≡ turned N b m left st → n ≤ left
-  unfolding turned
-  turn-less (Read i next) e = let d = ap (λ (t : Turned). t.left) e in omega arith
-  turn-less End e = let d = ap (λ (t : Turned). t.left) e in omega arith
-  turn-less Refused e = let d = ap (λ (t : Turned). t.left) e in omega arith
+  turn_over (inl e) = rw e
+  turn_over (inr e) = rw e
 
 -- ---- all of them
 
--- What a turn at a step leaves to do, with n messages behind it, is what the step and they do.
-turn_on_lem : (F : Format) (N b : ℕ) (s : List ℕ) (n : ℕ) (m : Peer) (st : Step) → effects N b (read_from F (turned N b m n st).left s (turned N b m n st).at) (turned N b m n st).peer ≡ effects N b (on_step s st (λ x. read_from F n s x)) m
-unfolding effects turned read_from
-turn_on_lem F N b s n m (Read i next) = refl
-turn_on_lem F N b s n m End = refl
-turn_on_lem F N b s n m Refused = refl
+-- What a turn at a step leaves to do, with n messages behind it at most, is what the step and they do.
+module _ (F : Format) (N b : ℕ) (s : List ℕ) (n : ℕ) (m : Peer) where
+  step-on : (st : Step) {x : Peer} {at : ℕ} → turn_of x (Some at) ≡ turned N b m st → effects N b (read_from F n s at) x ≡ effects N b (on_step s st (λ q. read_from F n s q)) m
+  unfolding effects turned
+  step-on (Read i next) {x} {at} e =
+      let p : x ≡ effect N b i m = ap (λ (t : Turned). t.peer) e in
+      let h : Some at ≡ Some next.at = ap (λ (t : Turned). t.next) e in
+      let q : at ≡ next.at = cc in
+      rw (p, q)
+  step-on End {x} {at} e = let h : Some at ≡ None = ap (λ (t : Turned). t.next) e in cc
+  step-on Refused {x} {at} e = let h : Some at ≡ None = ap (λ (t : Turned). t.next) e in cc
 
--- The effects left after a turn are those before it.
-pub turn-effects : (F : Format) (N b : ℕ) (s : List ℕ) (at left : ℕ) (m : Peer) {t : Turned} → 0 < left → t ≡ turned N b m (left - 1) (step_at F s at) → effects N b (read_from F t.left s t.at) t.peer ≡ effects N b (read_from F left s at) m
-turn-effects F N b s at left m h e = rw (e, read_more F s at left h refl) (turn_on_lem F N b s (left - 1) m (step_at F s at))
+  step-over : (st : Step) {x : Peer} → turn_of x None ≡ turned N b m st → x ≡ effects N b (on_step s st (λ q. read_from F n s q)) m
+  unfolding effects turned
+  step-over (Read i next) e = let h : None ≡ Some next.at = ap (λ (t : Turned). t.next) e in cc
+  step-over End e = ap (λ (t : Turned). t.peer) e
+  step-over Refused e = ap (λ (t : Turned). t.peer) e
+
+-- The effects left after a turn are those before it,
+pub turn-effects : (F : Format) (N b : ℕ) (s : List ℕ) (at left : ℕ) (m : Peer) {x : Peer} {next : ℕ} → 0 < left → turn_of x (Some next) ≡ turned N b m (step_at F s at)
+    → effects N b (read_from F (left - 1) s next) x ≡ effects N b (read_from F left s at) m
+turn-effects F N b s at left m h e = rw (read_more F s at left h refl) (step-on F N b s (left - 1) m (step_at F s at) e)
+
+-- and none where nothing follows.
+pub over_effects : (F : Format) (N b : ℕ) (s : List ℕ) (at left : ℕ) (m : Peer) {x : Peer} → 0 < left → turn_of x None ≡ turned N b m (step_at F s at)
+    → x ≡ effects N b (read_from F left s at) m
+over_effects F N b s at left m h e = rw (read_more F s at left h refl) (step-over F N b s (left - 1) m (step_at F s at) e)
 
 -- No messages have no effect.
 pub effects-none : (F : Format) (N b : ℕ) (s : List ℕ) (at left : ℕ) (m : Peer) → left ≡ 0 → effects N b (read_from F left s at) m ≡ m

@@ -1,24 +1,18 @@
 -- Nothing of the papers: one turn of the pass over a datagram's messages. Assumes nothing.
-use Rattle.std.specs.Prelude.{ℕ, Bool, true, eqb}
-use Rattle.base.specs.Pick.{pick}
+use Rattle.std.specs.Prelude.{ℕ, Option, Some, None}
 use Rattle.wire.specs.declared.message.Step.{Step}
 use Rattle.wire.specs.declared.message.Step.TheVariants.{Read, End, Refused}
 use Rattle.effects.specs.Effects.{Peer, effect}
 
--- Whether a type is that of HAVE or ACK.
-unfoldable pub is_have : ℕ → Bool
-is_have k = pick (eqb k 3) true (eqb k 2)
-
--- The peer after a turn, where the next message stands, and how many are left at most.
+-- The peer after a turn, and where the next message stands, if any.
 pub record Turned : Type 0 where
   pub peer : Peer
-  pub at : ℕ
-  pub left : ℕ
+  pub next : Option ℕ
 
-abbrev pub turn_of : Peer → ℕ → ℕ → Turned
-turn_of m at left = record { peer = m; at = at; left = left }
+abbrev pub turn_of : Peer → Option ℕ → Turned
+turn_of m next = record { peer = m; next = next }
 
-unfoldable pub turned : (N b : ℕ) → Peer → ℕ → Step → Turned
-turned N b m left (Read message next) = turn_of (effect N b message m) next.at left
-turned N b m left End = turn_of m 0 0
-turned N b m left Refused = turn_of m 0 0
+unfoldable pub turned : (N b : ℕ) → Peer → Step → Turned
+turned N b m (Read message next) = turn_of (effect N b message m) (Some next.at)
+turned N b m End = turn_of m None
+turned N b m Refused = turn_of m None

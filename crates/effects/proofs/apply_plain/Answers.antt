@@ -1,25 +1,22 @@
 use native.Mathlib.Omega.{arith}
 use mathlib.Core.Path.{refl}
 use Rattle.effects.proofs.EffectLaws.{mark-does, empty-does, have-does, request-does, cancel-does}
+use Rattle.effects.proofs.apply_plain.Goals.{in_default-via-then-kind-lt2, in_default-via-else-kind-lt2+else-kind-lt4}
 use Rattle.effects.proofs.apply_plain.Goals as goal
 
 pub returns-then-kind-gt9 : goal.returns-then-kind-gt9
-returns-then-kind-gt9 c = mark-does c.args.format c.args.n c.args.base _ _ c.args.choked c.args.rest.now c.if-kind-gt9.true
-
-pub is_empty-requires : goal.is_empty-requires
-is_empty-requires c = c.requires.format_in_bounds (omega (arith, c.if-kind-gt9.false))
+returns-then-kind-gt9 c = mark-does c.args.format c.args.n c.args.base _ _ c.args.choked.now c.args.rest.now c.if-kind-gt9.true
 
 pub returns-then-is_empty : goal.returns-then-is_empty
 returns-then-is_empty c = empty-does c.args.format c.args.n c.args.base _ _ _ c.args.rest.now c.if-kind-gt9.false c.is_empty.ensures c.if-is_empty.true
 
-pub read-chunks-requires : goal.read-chunks-requires
-read-chunks-requires c = c.requires.format_in_bounds (omega (arith, c.if-kind-gt9.false))
+pub returns-in-2 : goal.returns-in-2
+returns-in-2 c = have-does c.args.format c.args.n c.args.base _ _ _ c.args.rest.now c.if-kind-gt9.false c.is_empty.ensures c.if-is_empty.false _ c.read-chunks.ensures refl c.inside.ensures.0 refl (omega arith) (omega arith) (c.have.ensures c.args.choked.now)
 
-pub returns-then-is_have : goal.returns-then-is_have
-returns-then-is_have c = have-does c.args.format c.args.n c.args.base _ _ _ c.args.rest.now c.if-kind-gt9.false c.is_empty.ensures c.if-is_empty.false _ c.read-chunks.ensures refl c.inside.ensures.0 refl c.is_have.ensures c.if-is_have.true c.have.ensures
+pub returns-in-8 : goal.returns-in-8
+returns-in-8 c = request-does c.args.format c.args.n c.args.base _ _ _ c.args.rest.now c.if-kind-gt9.false c.is_empty.ensures c.if-is_empty.false _ c.read-chunks.ensures refl c.inside.ensures.0 refl c.in-8.is c.set_range.ensures
 
-pub returns-then-kind-eq8 : goal.returns-then-kind-eq8
-returns-then-kind-eq8 c = request-does c.args.format c.args.n c.args.base _ _ _ c.args.rest.now c.if-kind-gt9.false c.is_empty.ensures c.if-is_empty.false _ c.read-chunks.ensures refl c.inside.ensures.0 refl c.is_have.ensures c.if-is_have.false c.if-kind-eq8.true c.set_range.ensures
-
-pub returns : goal.returns
-returns c = cancel-does c.args.format c.args.n c.args.base _ _ _ c.args.rest.now c.if-kind-gt9.false c.is_empty.ensures c.if-is_empty.false _ c.read-chunks.ensures refl c.inside.ensures.0 refl c.is_have.ensures c.if-is_have.false c.if-kind-eq8.false c.clear_range.ensures
+pub returns-in_default : goal.returns-in_default
+returns-in_default c =
+    elim c.in_default.branch [ in_default-via-then-kind-lt2 w ↦ cancel-does c.args.format c.args.n c.args.base _ _ _ c.args.rest.now c.if-kind-gt9.false c.is_empty.ensures c.if-is_empty.false _ c.read-chunks.ensures refl c.inside.ensures.0 refl (λ p. omega arith) (λ p. omega arith) (λ p. omega arith) c.clear_range.ensures
+    | in_default-via-else-kind-lt2+else-kind-lt4 w ↦ cancel-does c.args.format c.args.n c.args.base _ _ _ c.args.rest.now c.if-kind-gt9.false c.is_empty.ensures c.if-is_empty.false _ c.read-chunks.ensures refl c.inside.ensures.0 refl (λ p. omega arith) (λ p. omega arith) (λ p. omega arith) c.clear_range.ensures ]
