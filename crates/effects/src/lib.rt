@@ -2,11 +2,11 @@
 // mark.
 #![tactic(auto)]
 
-ghost use Rattle.std.specs.Prelude.{◌≡◌, ◌≤◌, ◌<◌, ◌^◌, Bool, length, get_or};
+ghost use Rattle.std.specs.Prelude.{◌≡◌, ◌≤◌, ◌<◌, ◌^◌, length, get_or};
 ghost use Rattle.wire.proofs.Promise.{named_size, step_at, plain_message};
 ghost use Rattle.writer.proofs.Promise.{read_all};
 ghost use Rattle.effects.specs.Effects.{peer_of, have, inside, effect, effects};
-ghost use Rattle.effects.specs.Steps.{turn_of, turned};
+ghost use Rattle.effects.specs.Steps.{peer_in, Kept, turn_of, turned};
 
 use format::Format;
 use wire::limits::MIN_SIZE;
@@ -20,75 +20,70 @@ fn inside(n: u32, last: u32) -> usize
     (last as usize + 1).min(n as usize)
 }
 
-// HAVE and ACK: the peer has the chunks, and wants them no more.
-fn have(has: &mut [u32], wants: &mut [u32], from: usize, upto: usize)
-    ensures { (choked : Bool) → peer_of has.new wants.new choked
-        ≡ have from upto (peer_of has.old wants.old choked) }
-{
-    bits::set_range(has, from, upto);
-    bits::clear_range(wants, from, upto);
-}
-
-// The effect of a plain message, which `rest` begins with, on a channel of a pack of n chunks, whose bits begin at
-// `base`.
-fn apply_plain(
-    has: &mut [u32],
-    wants: &mut [u32],
-    choked: &mut bool,
-    format: Format,
+// A channel of a pack of n chunks: what its peer has and wants, from bit `base` of the two rooms on, and whether the
+// peer choked us.
+#[derive(Drop)]
+struct Channel<'a> {
+    has: &'a mut [u32],
+    wants: &'a mut [u32],
+    choked: bool,
     n: u32,
     base: usize,
-    rest: &[u8],
-)
-    requires base_bound { base < 2 ^ 32 }
-    requires in_bounds { 1 ≤ length rest.now }
-    requires format_in_bounds { get_or rest.now 0 0 ≤ 9 → named_size format ≤ length rest.now }
-    ensures { peer_of has.new wants.new choked.new
-        ≡ effect n base (plain_message format rest.now)
-        (peer_of has.old wants.old choked.old) }
-{
-    let kind = rest[0];
-    if 9 < kind {
-        *choked = kind == 10;
-        return;
-    }
-    if range::is_empty(format, rest) {
-        return;
-    }
-    let chunks = range::read(format, rest);
-    let from = base + chunks.first as usize;
-    let upto = base + inside(n, chunks.last);
-    match kind {
-        2 | 3 => have(has, wants, from, upto),
-        8 => bits::set_range(wants, from, upto),
-        _ => bits::clear_range(wants, from, upto),
-    }
 }
 
-// The effect of what stands at `at`; where the next message stands, if any.
-fn apply_turn(
-    has: &mut [u32],
-    wants: &mut [u32],
-    choked: &mut bool,
-    format: Format,
-    n: u32,
-    base: usize,
-    datagram: &[u8],
-    at: usize,
-) -> Option<usize>
-    requires { base < 2 ^ 32 }
-    ensures { turn_of (peer_of has.new wants.new choked.new) result
-        ≡ turned n base (peer_of has.old wants.old choked.old)
-        (step_at format datagram.now at) }
-{
-    let size = plain::size(format, datagram, at);
-    if size != 0 {
-        apply_plain(has, wants, choked, format, n, base, &datagram[at..]);
-        return Some(at + size);
+impl Channel<'_> {
+    // HAVE and ACK: the peer has the chunks, and wants them no more.
+    fn have(&mut self, from: usize, upto: usize)
+        ensures kept { Kept self.old self.new }
+        ensures effect { peer_in self.new ≡ have from upto (peer_in self.old) }
+    {
+        bits::set_range(self.has, from, upto);
+        bits::clear_range(self.wants, from, upto);
     }
-    match read::read(format, datagram, Cursor { at }) {
-        Step::Read { next, .. } => Some(next.at),
-        Step::End | Step::Refused => None,
+
+    // The effect of a plain message, which `rest` begins with.
+    fn apply_plain(&mut self, format: Format, rest: &[u8])
+        requires base_bound { self.old.base < 2 ^ 32 }
+        requires in_bounds { 1 ≤ length rest.now }
+        requires format_in_bounds { get_or rest.now 0 0 ≤ 9 → named_size format ≤ length rest.now }
+        ensures kept { Kept self.old self.new }
+        ensures effect { peer_in self.new
+            ≡ effect self.old.n self.old.base (plain_message format rest.now) (peer_in self.old) }
+    {
+        let kind = rest[0];
+        if 9 < kind {
+            self.choked = kind == 10;
+            return;
+        }
+        if range::is_empty(format, rest) {
+            return;
+        }
+        let chunks = range::read(format, rest);
+        let from = self.base + chunks.first as usize;
+        let upto = self.base + inside(self.n, chunks.last);
+        match kind {
+            2 | 3 => self.have(from, upto),
+            8 => bits::set_range(self.wants, from, upto),
+            _ => bits::clear_range(self.wants, from, upto),
+        }
+    }
+
+    // The effect of what stands at `at`; where the next message stands, if any.
+    fn apply_turn(&mut self, format: Format, datagram: &[u8], at: usize) -> Option<usize>
+        requires { self.old.base < 2 ^ 32 }
+        ensures kept { Kept self.old self.new }
+        ensures effect { turn_of (peer_in self.new) result
+            ≡ turned self.old.n self.old.base (peer_in self.old) (step_at format datagram.now at) }
+    {
+        let size = plain::size(format, datagram, at);
+        if size != 0 {
+            self.apply_plain(format, &datagram[at..]);
+            return Some(at + size);
+        }
+        match read::read(format, datagram, Cursor { at }) {
+            Step::Read { next, .. } => Some(next.at),
+            Step::End | Step::Refused => None,
+        }
     }
 }
 
@@ -107,13 +102,19 @@ pub fn apply(
     ensures { peer_of has.new wants.new result
         ≡ effects n base (read_all format datagram.now) (peer_of has.old wants.old choked) }
 {
-    let mut choked = choked;
+    let mut channel = Channel {
+        has,
+        wants,
+        choked,
+        n,
+        base,
+    };
     let mut at = MIN_SIZE;
     for _turn in 0..datagram.len() {
-        match apply_turn(has, wants, &mut choked, format, n, base, datagram, at) {
+        match channel.apply_turn(format, datagram, at) {
             Some(next) => at = next,
-            None => return choked,
+            None => return channel.choked,
         }
     }
-    choked
+    channel.choked
 }

@@ -2,23 +2,31 @@ use Prim.Native.Nat.{◌+◌, ◌-◌}
 use native.Mathlib.Omega.{arith}
 use mathlib.Core.Path.{◌≡◌, sym, ◌∙◌}
 use lib.ListN.{length}
-use Rattle.writer.proofs.Promise.{read_from}
-use Rattle.effects.specs.Effects.{peer_of, effects}
+use borrow.Author.Rules.{rules}
+use Rattle.effects.specs.Effects.{Peer}
+use Rattle.effects.specs.Steps.{peer_in}
 use Rattle.effects.proofs.EffectLaws.{turn-effects, over_effects, effects-none}
 use Rattle.effects.proofs.apply.Goals as goal
 
+then_same : {x y z : Peer} → y ≡ z → x ≡ y → x ≡ z
+then_same e d = d ∙ e
+
 pub returns-in-None : goal.returns-in-None
 returns-in-None c =
-    let m = peer_of c.loop-turn.has c.loop-turn.wants c.loop-turn.choked in
-    over_effects c.args.format c.args.n c.args.base c.args.datagram.now c.loop-turn.at (length c.args.datagram.now - c.loop-turn._turn) m (omega arith) c.in-None.ensures ∙ c.loop-turn.invariant
+    then_same
+    (over_effects c.args.format c.args.n c.args.base c.args.datagram.now c.loop-turn.at (length c.args.datagram.now - c.loop-turn._turn) (peer_in c.loop-turn.channel) (omega arith) (rw (c.loop-turn.invariant.kept.n, c.loop-turn.invariant.kept.base) at c.in-None.ensures.effect) ∙ c.loop-turn.invariant.left)
+    (search rules)
 
 pub loop-turn-preserved : goal.loop-turn-preserved
 loop-turn-preserved c =
-    let m = peer_of c.loop-turn.has c.loop-turn.wants c.loop-turn.choked in
     let e : length c.args.datagram.now - (c.loop-turn._turn + 1) ≡ length c.args.datagram.now - c.loop-turn._turn - 1 = omega arith in
-    rw e (turn-effects c.args.format c.args.n c.args.base c.args.datagram.now c.loop-turn.at (length c.args.datagram.now - c.loop-turn._turn) m (omega arith) c.in-Some.ensures ∙ c.loop-turn.invariant)
+    record {
+      kept = search rules;
+      left = rw e (turn-effects c.args.format c.args.n c.args.base c.args.datagram.now c.loop-turn.at (length c.args.datagram.now - c.loop-turn._turn) (peer_in c.loop-turn.channel) (omega arith) (rw (c.loop-turn.invariant.kept.n, c.loop-turn.invariant.kept.base) at c.in-Some.ensures.effect) ∙ c.loop-turn.invariant.left);
+    }
 
 pub returns : goal.returns
 returns c =
-    let m = peer_of c.loop-turn.has c.loop-turn.wants c.loop-turn.choked in
-    sym (effects-none c.args.format c.args.n c.args.base c.args.datagram.now c.loop-turn.at (length c.args.datagram.now - c.loop-turn._turn) m (omega arith)) ∙ c.loop-turn.invariant
+    then_same
+    (sym (effects-none c.args.format c.args.n c.args.base c.args.datagram.now c.loop-turn.at (length c.args.datagram.now - c.loop-turn._turn) (peer_in c.loop-turn.channel) (omega arith)) ∙ c.loop-turn.invariant.left)
+    (search rules)
