@@ -1,44 +1,45 @@
 -- The answers of begin and add, test by test as the code has them. Assumes nothing.
 use Prim.Native.Nat.{ℕ, zero, suc, ◌+◌, ◌-◌, ◌<◌, ◌≤◌}
 use native.Mathlib.Omega.{arith}
-use native.Mathlib.Nat.{sub-zero}
 use mathlib.Core.Path.{◌≡◌, refl, sym, ap, ap₂, ◌∙◌}
 use mathlib.Core.List.{List, [], ◌++◌}
-use mathlib.Core.Bool.{Bool, true, false, not, true≢false}
-use lib.ListN.{length, take, drop, length-append}
+use mathlib.Core.Bool.{Bool, true, false, not}
+use lib.ListN.{length, take, length-append}
 use lib.Seq.{length-take-le}
-use borrow.Author.Tests.{lt-ltb, le-ltb, eq-eqb, ne_eqb, not-true, not-false}
+use borrow.Author.Tests.{lt-ltb, le-ltb, eq-eqb, ne_eqb}
 use Rattle.base.specs.Pick.{pick, earlier}
-use Rattle.base.specs.Out.{out_of, unless}
+use Rattle.base.specs.Out.{Answers, answer_of, out_at, out_of}
+use Rattle.base.specs.Refusal.{number, node}
+use Rattle.base.specs.declared.Refusal.{Refusal}
+use Rattle.std.specs.Prelude.{Result, Ok, Err, OnOk}
+use Rattle.base.proofs.OutLaws.{unless-refused, unless-passed}
 use Rattle.std.specs.Prelude.{Option, Some, None}
 use Rattle.wire.specs.Bytes.{be32, placed}
 use Rattle.wire.specs.Limits.{min_size, max_size}
-use Rattle.wire.specs.Layout.{Checked, checked_of, number_of, seen, handshake_fault, layout_of}
+use Rattle.wire.specs.Layout.{Checked, checked_of, number_of, seen, is_end_only, handshake_fault, layout_of}
 use Rattle.wire.specs.Steps.{entry_words, has_size, check_spec, Fronted}
 use Rattle.wire.specs.declared.pass.Front.{Front}
 use Rattle.wire.specs.declared.message.Options.{Options}
 use Rattle.wire.specs.declared.message.Message.{Message}
-use Rattle.wire.specs.declared.message.Message.TheVariants.{Handshake, Data, Ack, Have, Integrity, Request, Cancel, Choke, Unchoke, Empty}
-use Rattle.wire.specs.Layout.{Layout}
-use Rattle.wire.specs.Layout.{Fault, HandshakeAlone, Messages, MessagesAndData}
+use Rattle.wire.specs.declared.message.Message.TheVariants.{Handshake}
+use Rattle.wire.specs.declared.layout.Layout.{Layout}
+use Rattle.wire.specs.declared.layout.Layout.TheVariants.{Fault, HandshakeAlone, Messages, MessagesAndData}
 use Rattle.wire.proofs.LayoutLaws.{layout_unsized}
 use Rattle.wire.proofs.SurveyLaws.{front-layout}
 use Rattle.wire.proofs.ExtendLaws.{Extended}
-use Rattle.wire.proofs.FaultLaws.{Passed, passed, too_long}
+use Rattle.wire.proofs.FaultLaws.{Passed, passed, numbered, too_long}
 use Rattle.wire.proofs.CountLaws.{Says, entries_fit}
 use Rattle.wire.proofs.DataLaws.{layout-told, length-told, entries-told}
-use Rattle.writer.specs.Bytes.{bytes32, is_everything, nameable}
+use Rattle.writer.specs.Bytes.{bytes32}
 use Rattle.writer.specs.Message.{bytes_of, writable}
 use Rattle.writer.specs.Add.{has_data, add_answer, begin_spec, add_spec}
 use Rattle.writer.specs.Lists.{HasWidths}
-use Rattle.writer.specs.Steps.{size_of, node_of, own_fault, seen_fault, behind_of, before_numbers, before_of, Addable, named_so, part_so}
-use Rattle.writer.specs.declared.add.Before.{Before}
+use Rattle.writer.specs.Steps.{size_of, node_of, own_fault, seen_fault, behind_of, Addable}
 use Rattle.writer.proofs.SizeLaws.{bytes-length}
 use Rattle.writer.proofs.AcceptLaws.{size_some, own_good}
 use Rattle.writer.proofs.AddLaws.{joined, behind-number}
 use Rattle.format.specs.declared.Format.{Format}
-use lib.Dec.{leb, ltb}
-use Rattle.wire.proofs.PlaceLaws.{order-test}
+use lib.Dec.{eqb}
 
 -- ---- the number behind the datagram so far, by its layout
 
@@ -63,15 +64,16 @@ module _ (F : Format) (p source : List ℕ) (m : Message) (can : writable F (len
 -- ---- what the datagram so far says
 
 -- it has another size
-pub before_unsized : (F : Format) (s : List ℕ) (r : Option ℕ) {b : Bool} → b ≡ has_size (length s) → not b ≡ true → before_numbers 1 0 ≡ before_of (layout_of F s) r
-before_unsized F s r {b} e h = rw (layout_unsized F s (sym e ∙ not-true b h))
+pub told_unsized : (F : Format) (s : List ℕ) → has_size (length s) ≡ false → 1 ≡ number_of (layout_of F s).layout
+told_unsized F s h = rw (layout_unsized F s h)
 
 -- none but plain messages
-pub before-plain : (F : Format) (s : List ℕ) (r : Option ℕ) (f : Front) → Fronted F s f → f.at ≡ length s → before_numbers 0 0 ≡ before_of (layout_of F s) r
+pub told-plain : (F : Format) (s : List ℕ) (r : Option ℕ) (f : Front) → Fronted F s f → f.at ≡ length s
+    → (number_of (layout_of F s).layout ≡ 0) × (0 ≡ behind_of (layout_of F s).layout (layout_of F s).entries r)
 unfolding seen
-before-plain F s r f p e = rw (front-layout F s f p e) (none r)
+told-plain F s r f p e = rw (front-layout F s f p e) (refl, none r)
   where
-    none : (r : Option ℕ) → before_numbers 0 0 ≡ before_of (checked_of (Messages 0) []) r
+    none : (r : Option ℕ) → 0 ≡ seen_fault [] r
     none (Some b) = refl
     none None = refl
 
@@ -80,14 +82,19 @@ module _ (F : Format) (old s : List ℕ) (r : Option ℕ) {l : Layout} {es : Lis
   told : {m : Layout} → l ≡ m → m ≡ (layout_of F s).layout
   told q = sym q ∙ layout-told F old s e
 
-  pub before-fault : {n : ℕ} → l ≡ Fault n → before_numbers n 0 ≡ before_of (layout_of F s) r
-  before-fault q = rw (← told q)
+  pub fault_numbered : {n : ℕ} → l ≡ Fault n → (1 ≤ n) × (n ≤ 3)
+  fault_numbered q = let g = numbered F s in rw (← told q) at g
 
-  pub before-handshake : {a : ℕ} {o : Options} → l ≡ HandshakeAlone a o → before_numbers 0 3 ≡ before_of (layout_of F s) r
-  before-handshake q = rw (← told q)
+  pub told-fault : {n : ℕ} → l ≡ Fault n → n ≡ number_of (layout_of F s).layout
+  told-fault q = rw (← told q)
 
-  pub before-data : {c x b n k : ℕ} → l ≡ MessagesAndData c x b n k → before_numbers 0 2 ≡ before_of (layout_of F s) r
-  before-data q = rw (← told q)
+  pub told-handshake : {a : ℕ} {o : Options} → l ≡ HandshakeAlone a o
+      → (number_of (layout_of F s).layout ≡ 0) × (3 ≡ behind_of (layout_of F s).layout (layout_of F s).entries r)
+  told-handshake q = rw (← told q) (refl, refl)
+
+  pub told-data : {c x b n k : ℕ} → l ≡ MessagesAndData c x b n k
+      → (number_of (layout_of F s).layout ≡ 0) × (2 ≡ behind_of (layout_of F s).layout (layout_of F s).entries r)
+  told-data q = rw (← told q) (refl, refl)
 
   module _ {k : ℕ} (q : l ≡ Messages k) where
     counted : k ≡ length (layout_of F s).entries
@@ -98,14 +105,13 @@ module _ (F : Format) (old s : List ℕ) (r : Option ℕ) {l : Layout} {es : Lis
 
     module _ (h : entry_words ≤ length old) where
       -- the entries lie in the room
-      pub before-few : k ≤ length es
-      before-few = omega (arith, counted, (entries_fit F s).1, length-told F old s e)
+      pub told-few : k ≤ length es
+      told-few = omega (arith, counted, (entries_fit F s).1, length-told F old s e)
 
-      pub before-messages : {n : ℕ} → n ≡ seen_fault (take (k - 0) (drop 0 es)) r → before_numbers 0 n ≡ before_of (layout_of F s) r
-      before-messages p =
-          let z : k - 0 ≡ k = omega arith in
-          let g : take (k - 0) (drop 0 es) ≡ (layout_of F s).entries = rw (z, counted) (entries-told F old s e h) in
-          rw (p, g, ← told q)
+      pub told-messages : (number_of (layout_of F s).layout ≡ 0) × (seen_fault (take k es) r ≡ behind_of (layout_of F s).layout (layout_of F s).entries r)
+      told-messages =
+          let g : take k es ≡ (layout_of F s).entries = rw counted (entries-told F old s e h) in
+          rw (g, ← told q) (refl, refl)
 
 -- ---- the tests of adding, in their order
 module _ (F : Format) (room : List ℕ) (len : ℕ) (m : Message) (bytes : List ℕ) where
@@ -118,20 +124,9 @@ module _ (F : Format) (room : List ℕ) (len : ℕ) (m : Message) (bytes : List 
     unfolding add_answer
     add-size h = simp (le-ltb (length room) max_size big, lt-ltb max_size len h)
 
-    module _ (short : len ≤ max_size) {x : Before} (xe : x ≡ before_of (layout_of F (take (len - 0) room)) (node_of m)) where
+    module _ (short : len ≤ max_size) where
       l : Layout
       l = (layout_of F (take len room)).layout
-
-      at_len : take (len - 0) room ≡ take len room
-      at_len = ap (λ (k : ℕ). take k room) (sub-zero len)
-
-      fault-is : x.fault ≡ number_of l
-      unfolding l
-      fault-is = ap (λ (y : Before). y.fault) xe ∙ ap (λ (t : List ℕ). number_of (layout_of F t).layout) at_len
-
-      behind-is : x.behind ≡ behind_of l (layout_of F (take len room)).entries (node_of m)
-      unfolding l
-      behind-is = ap (λ (y : Before). y.behind) xe ∙ ap (λ (t : List ℕ). behind_of (layout_of F t).layout (layout_of F t).entries (node_of m)) at_len
 
       so-far-length : length (take len room) ≡ len
       so-far-length = length-take-le len room (omega arith)
@@ -143,34 +138,28 @@ module _ (F : Format) (room : List ℕ) (len : ℕ) (m : Message) (bytes : List 
       unfolding add_answer tests l
       tested = simp (le-ltb (length room) max_size big, le-ltb max_size len short)
 
-      pub add-so-far : (x.fault ≡ 0 → ⊥) → x.fault ≡ add_answer F room len m bytes
-      add-so-far p = stop x.fault p ∙ ap (λ (k : ℕ). earlier k tests) fault-is ∙ sym tested
+      pub add-so-far : {n : ℕ} → n ≡ number_of (layout_of F (take len room)).layout → (n ≡ 0 → ⊥) → n ≡ add_answer F room len m bytes
+      unfolding l
+      add-so-far {n} e p = stop n p ∙ ap (λ (k : ℕ). earlier k tests) e ∙ sym tested
         where
           stop : (k : ℕ) → (k ≡ 0 → ⊥) → k ≡ earlier k tests
           stop zero q = absurd (q refl)
           stop (suc k) q = refl
 
-      module _ (z : x.fault ≡ 0) {b : Bool} (be : b ≡ writable F (length bytes) m) where
-        sound : number_of l ≡ 0
-        sound = sym fault-is ∙ z
-
-        pub add-unwritable : not b ≡ true → 2 ≡ add_answer F room len m bytes
-        unfolding tests
+      module _ (sound : number_of (layout_of F (take len room)).layout ≡ 0) {b : Bool} (be : b ≡ writable F (length bytes) m) where
+        pub add-unwritable : b ≡ false → 2 ≡ add_answer F room len m bytes
+        unfolding tests l
         add-unwritable p = sym (tested ∙ simp (sound, ← be, p))
 
-        module _ (can : not b ≡ false) where
+        module _ (can : b ≡ true) where
           able : writable F (length bytes) m ≡ true
-          able = sym be ∙ not-false b can
+          able = sym be ∙ can
 
-          low : min_size ≤ length (take len room)
-          unfolding l
-          low = (passed F (take len room) sound).0
-
-          pub add_low : min_size ≤ length (take (len - 0) room)
-          add_low = rw at_len low
+          pub add_low : min_size ≤ length (take len room)
+          add_low = (passed F (take len room) sound).0
 
           left : add_answer F room len m bytes ≡ earlier (number_of (layout_of F (take len room ++ bytes_of F bytes m)).layout) (pick (has_data l) 2 0)
-          unfolding tests
+          unfolding tests l
           left = tested ∙ simp (sound, able)
 
           module _ {n : ℕ} (ne : n ≡ size_of F m) where
@@ -180,41 +169,37 @@ module _ (F : Format) (room : List ℕ) (len : ℕ) (m : Message) (bytes : List 
                 sym (left ∙ rw (too_long F (take len room ++ bytes_of F bytes m) o))
 
             module _ (fits : n ≤ max_size - len) where
-              pub add-fits : (d : ℕ) {r : ℕ} → r ≡ own_fault F d len m → r ≡ 0 → Addable F (length room) len m (length bytes)
-              add-fits d e z = record { fits = omega (arith, ne, fits, short); room = big; can = able; good = own_good F d len m (sym e ∙ z) }
+              pub add-fits : (d : ℕ) → own_fault F d len m ≡ 0 → Addable F (length room) len m (length bytes)
+              add-fits d z = record { fits = omega (arith, ne, fits, short); room = big; can = able; good = own_good F d len m z }
 
-              module _ (widths : HasWidths m) where
-                both : add_answer F room len m bytes ≡ earlier x.behind (own_fault F (be32 (take len room) 0) len m)
+              module _ (widths : HasWidths m) {x : ℕ} (xe : x ≡ behind_of (layout_of F (take len room)).layout (layout_of F (take len room)).entries (node_of m)) where
+                both : add_answer F room len m bytes ≡ earlier x (own_fault F (be32 (take len room) 0) len m)
                 unfolding l
                 both =
                     let k = so-far-length in
-                    let a = after_is F (take len room) bytes m able low (omega (arith, k, fits, ne)) widths l refl sound in
-                    left ∙ sym a ∙ ap₂ earlier (sym behind-is) (ap (λ (y : ℕ). own_fault F (be32 (take len room) 0) y m) k)
+                    let a = after_is F (take len room) bytes m able add_low (omega (arith, k, fits, ne)) widths l refl sound in
+                    left ∙ sym a ∙ ap₂ earlier (sym xe) (ap (λ (y : ℕ). own_fault F (be32 (take len room) 0) y m) k)
 
-                pub add-behind : (x.behind ≡ 0 → ⊥) → x.behind ≡ add_answer F room len m bytes
-                add-behind p = stop x.behind p ∙ sym both
+                pub add-behind : (x ≡ 0 → ⊥) → x ≡ add_answer F room len m bytes
+                add-behind p = stop x p ∙ sym both
                   where
                     stop : (k : ℕ) → (k ≡ 0 → ⊥) → k ≡ earlier k (own_fault F (be32 (take len room) 0) len m)
                     stop zero q = absurd (q refl)
                     stop (suc k) q = refl
 
-                pub add-own : x.behind ≡ 0 → {d r : ℕ} → d ≡ be32 (take (len - 0) room) 0 → r ≡ own_fault F d len m → r ≡ add_answer F room len m bytes
-                add-own p {d} {r} de re = re ∙ ap (λ (y : ℕ). own_fault F y len m) (de ∙ ap (λ (t : List ℕ). be32 t 0) at_len) ∙ sym (both ∙ rw p)
+                pub add-own : x ≡ 0 → own_fault F (be32 (take len room) 0) len m ≡ add_answer F room len m bytes
+                add-own p = sym (both ∙ rw p)
 
   -- the whole call
-  module _ {w : ℕ} (e : w ≡ add_answer F room len m bytes) where
-    pub add-refused : (w ≡ 0 → ⊥) → out_of w 0 room ≡ add_spec F room len m bytes
+  module _ {r : Result (Unit {0}) Refusal} (e : Answers r (add_answer F room len m bytes)) where
+    pub add-refused : {x : Refusal} → r ≡ Err x → out_at (number x) 0 (node x) room ≡ add_spec F room len m bytes
     unfolding add_spec
-    add-refused p = rw (← e) (stop w p)
-      where
-        stop : (v : ℕ) → (v ≡ 0 → ⊥) → out_of v 0 room ≡ unless v room (out_of 0 (len + length (bytes_of F bytes m)) (placed room len (bytes_of F bytes m)))
-        stop zero q = absurd (q refl)
-        stop (suc v) q = refl
+    add-refused p = unless-refused e p room (out_of 0 (len + length (bytes_of F bytes m)) (placed room len (bytes_of F bytes m)))
 
-    pub add_done : w ≡ 0 → writable F (length bytes) m ≡ true → {n : ℕ} → n ≡ size_of F m → {r : List ℕ} → r ≡ placed room len (bytes_of F bytes m)
-        → out_of 0 (len + n) r ≡ add_spec F room len m bytes
+    pub add_done : {x : Unit {0}} → r ≡ Ok x → {at : ℕ} {new : List ℕ} → at ≡ len + length (bytes_of F bytes m) → new ≡ placed room len (bytes_of F bytes m)
+        → out_of 0 at new ≡ add_spec F room len m bytes
     unfolding add_spec
-    add_done z can p q = rw (← e) (rw z (rw (p ∙ sym (bytes-length F bytes m can)) (ap (out_of 0 (len + length (bytes_of F bytes m))) q)))
+    add_done p q d = ap₂ (λ (k : ℕ) (w : List ℕ). out_of 0 k w) q d ∙ sym (unless-passed e p room (out_of 0 (len + length (bytes_of F bytes m)) (placed room len (bytes_of F bytes m))))
 
 module _ (room : List ℕ) (to : ℕ) where
   pub begin-refused : length room < max_size → out_of 11 0 room ≡ begin_spec room to
@@ -227,72 +212,26 @@ module _ (room : List ℕ) (to : ℕ) where
 
 -- ---- a message by itself, as the code tests it
 
--- a HANDSHAKE behind the destination alone, or behind a message
 module _ (F : Format) (to len a : ℕ) (o : Options) where
+  -- a HANDSHAKE behind a message
   pub handshake-behind : (len ≡ min_size → ⊥) → 3 ≡ own_fault F to len (Handshake a o)
   handshake-behind h = rw (ne_eqb len min_size h)
 
-  pub handshake-first : len ≡ min_size → {r : ℕ} → r ≡ handshake_fault to a o → r ≡ own_fault F to len (Handshake a o)
-  handshake-first h e = e ∙ rw (eq-eqb len min_size h)
+  -- one behind the destination alone, which the layout refuses
+  pub handshake-refused : len ≡ min_size → (handshake_fault to a o ≡ 0 → ⊥) → 3 ≡ own_fault F to len (Handshake a o)
+  unfolding handshake_fault
+  handshake-refused h n = rw (eq-eqb len min_size h) (by (eqb a 0) (eqb to 0) (is_end_only o) n)
+    where
+      by : (x y z : Bool) → (pick {A = ℕ} x (pick y 3 (pick z 0 3)) 0 ≡ 0 → ⊥) → 3 ≡ pick {A = ℕ} x (pick y 3 (pick z 0 3)) 0
+      by true true z n = refl
+      by true false true n = absurd (n refl)
+      by true false false n = refl
+      by false y z n = absurd (n refl)
 
--- whether a node came before
-pub seen-node : (es : List ℕ) {r : Option ℕ} {b : ℕ} → r ≡ Some b → {t : Bool} → t ≡ seen b es → {x : Bool} → t ≡ x → pick {A = ℕ} x 2 0 ≡ seen_fault es r
-seen-node es e p q = rw (e, ← p, q)
+-- what a result says of one that was accepted
+pub on_accepted : {A : Type 0} (r : Result A Refusal) {P : Type 0} → (answer_of r ≡ 0 → P) → OnOk r P
+on_accepted (Ok x) h = h refl
+on_accepted (Err e) h = tt
 
--- the node of any other message than INTEGRITY
-pub no_node_of : (m : Message) → ((f l d : ℕ) → m ≡ Integrity f l d → ⊥) → None ≡ node_of m
-no_node_of (Handshake a o) h = refl
-no_node_of (Data f l x b n) h = refl
-no_node_of (Ack f l d) h = refl
-no_node_of (Have f l) h = refl
-no_node_of (Integrity f l d) h = absurd (h f l d refl)
-no_node_of (Request f l) h = refl
-no_node_of (Cancel f l) h = refl
-no_node_of Choke h = refl
-no_node_of Unchoke h = refl
-no_node_of (Empty k) h = refl
-
--- what the datagram so far says to the message
-pub told_of : (F : Format) (s : List ℕ) (m : Message) {x : Before} {r : Option ℕ} → x ≡ before_of (layout_of F s) r → r ≡ node_of m → x ≡ before_of (layout_of F s) (node_of m)
-told_of F s m e p = e ∙ ap (before_of (layout_of F s)) p
-
--- ---- whether the table allows chunks, as the code tests it
-
-module _ (F : Format) (f l : ℕ) where
-  module _ {b : Bool} (be : b ≡ nameable F f l) where
-    pub some-stops : b ≡ false → (t : Bool) → false ≡ named_so F f l t
-    some-stops p t = rw (← be, p)
-
-    pub some-ordered : b ≡ true → leb f l ≡ named_so F f l (not (ltb l f))
-    some-ordered p = rw (← be, p) (order-test f l)
-
-    pub part_left : b ≡ true → {e : Bool} → e ≡ is_everything F f l → not e ≡ part_so F f l true
-    part_left p {e} q = rw (← be, p, ← q) (by e)
-      where
-        by : (e : Bool) → not e ≡ pick e false true
-        by true = refl
-        by false = refl
-
-  module _ {b : Bool} (be : b ≡ part_so F f l true) where
-    pub part-stops : b ≡ false → (t : Bool) → false ≡ part_so F f l t
-    part-stops p t = by (nameable F f l) (is_everything F f l) (sym be ∙ p)
-      where
-        by : (x y : Bool) → pick x (pick y false true) false ≡ false → false ≡ pick x (pick y false t) false
-        by true true e = refl
-        by true false e = absurd (true≢false e)
-        by false y e = refl
-
-    pub part-goes : b ≡ true → (t : Bool) → t ≡ part_so F f l t
-    part-goes p t = by (nameable F f l) (is_everything F f l) (sym be ∙ p)
-      where
-        by : (x y : Bool) → pick x (pick y false true) false ≡ true → t ≡ pick x (pick y false t) false
-        by true true e = absurd (true≢false (sym e))
-        by true false e = refl
-        by false y e = absurd (true≢false (sym e))
-
-    pub part-ordered : b ≡ true → leb f l ≡ part_so F f l (not (ltb l f))
-    part-ordered p = order-test f l ∙ part-goes p (not (ltb l f))
-
--- the number by such a test
-pub by_test : {b t : Bool} → b ≡ t → {n : ℕ} → n ≡ pick b 0 2 → n ≡ pick t 0 2
-by_test e p = rw (← e) p
+pub then_same : {A : Type 0} {x y z : A} → y ≡ z → x ≡ y → x ≡ z
+then_same e d = d ∙ e

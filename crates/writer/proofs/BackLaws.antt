@@ -25,7 +25,7 @@ use Rattle.writer.specs.Message.{within, option_bytes, bytes_of, writable, writa
 use Rattle.writer.specs.Steps.{option_span, size_of, allowed, named_so, part_so}
 use Rattle.writer.specs.Lists.{HasWidths}
 use Rattle.writer.proofs.PlaceLaws.{size64, size_name, size_empty}
-use Rattle.writer.proofs.PutLaws.{within-length}
+use Rattle.writer.proofs.SourceLaws.{within-length}
 use Rattle.writer.proofs.SizeLaws.{lies_in}
 use Rattle.writer.proofs.NumberLaws.{source_is, be64-behind, time_is}
 use Rattle.format.specs.declared.Format.{Format}

@@ -1,8 +1,9 @@
 -- What the proofs of several functions cite, and the round trips.
 pub mod PlaceLaws
-pub mod PutLaws
+pub mod SourceLaws
 pub mod SizeLaws
 pub mod NumberLaws
+pub mod WriterLaws
 pub mod NameLaws
 pub mod BackLaws
 pub mod AddLaws

@@ -28,7 +28,7 @@ use Rattle.writer.specs.Steps.{size_of, allowed}
 use Rattle.writer.specs.Add.{has_data, add_answer, add_spec}
 use Rattle.writer.specs.Lists.{Item, item_of, encode, HasWidths, AllHaveWidths, content_of, contents_of, on_step, read_from, and_then, add_all}
 use Rattle.writer.proofs.PlaceLaws.{size64, size_name}
-use Rattle.writer.proofs.PutLaws.{within-length}
+use Rattle.writer.proofs.SourceLaws.{within-length}
 use Rattle.writer.proofs.SizeLaws.{lies_in, bytes-length}
 use Rattle.writer.proofs.BackLaws.{moved, Behind, message-back}
 use Rattle.writer.proofs.AddLaws.{joined, behind-step}

@@ -17,7 +17,7 @@ use Rattle.writer.specs.Bytes.{bytes32, bytes64, name_bytes, emptyable}
 use Rattle.writer.specs.Message.{within, option_bytes, bytes_of, in_bounds, writable, writable_options}
 use Rattle.writer.specs.Steps.{size_of, option_span}
 use Rattle.writer.proofs.PlaceLaws.{size32, size64, size_name, size_empty}
-use Rattle.writer.proofs.PutLaws.{within-length}
+use Rattle.writer.proofs.SourceLaws.{within-length}
 use Rattle.format.specs.declared.Format.{Format}
 use Rattle.wire.specs.Read.{is_ranged}
 use Rattle.base.specs.Pick.{pick}
@@ -34,23 +34,6 @@ lies_in size at n h =
 pub data_in : (F : Format) (size : ℕ) {m : Message} {f l t b n : ℕ} → writable F size m ≡ true → m ≡ Data f l t b n → b + n ≤ size
 unfolding writable
 data_in F size {b = b} {n = n} w e = lies_in size b n (rw e at w)
-
--- ---- messages that name no bytes of a source
-
--- they can be written
-pub writable_other : (F : Format) (size : ℕ) (m : Message) → ((a : ℕ) (o : Options) → m ≡ Handshake a o → ⊥)
-    → ((f l x b n : ℕ) → m ≡ Data f l x b n → ⊥) → ((f l d : ℕ) → m ≡ Integrity f l d → ⊥) → ((k : ℕ) → m ≡ Empty k → ⊥) → true ≡ writable F size m
-unfolding writable
-writable_other F size (Handshake a o) h p q r = absurd (h a o refl)
-writable_other F size (Data a b d e f) h p q r = absurd (p a b d e f refl)
-writable_other F size (Ack a b d) h p q r = refl
-writable_other F size (Have a b) h p q r = refl
-writable_other F size (Integrity a b d) h p q r = absurd (q a b d refl)
-writable_other F size (Request a b) h p q r = refl
-writable_other F size (Cancel a b) h p q r = refl
-writable_other F size Choke h p q r = refl
-writable_other F size Unchoke h p q r = refl
-writable_other F size (Empty k) h p q r = absurd (r k refl)
 
 -- ---- sizes
 

@@ -1,5 +1,6 @@
 -- Nothing of the papers: a message's size, and what adding computes on its way. Assumes nothing.
-use Rattle.std.specs.Prelude.{ℕ, ◌+◌, ◌≤◌, ◌≡◌, List, Bool, true, false, not, ltb, eqb, Option, Some, None}
+use Rattle.std.specs.Prelude.{ℕ, ◌+◌, ◌≤◌, ◌≡◌, List, Bool, true, false, not, ltb, eqb}
+use Rattle.std.specs.Prelude.{Option, Some, None, Result, Ok, Err}
 use Rattle.base.specs.Pick.{pick, earlier}
 use Rattle.tree.proofs.Promise.{covers}
 use Rattle.wire.specs.Limits.{min_size, max_size}
@@ -15,7 +16,9 @@ use Rattle.wire.specs.Layout.{Layout}
 use Rattle.wire.specs.Layout.{Fault, HandshakeAlone, Messages, MessagesAndData}
 use Rattle.writer.specs.Bytes.{nameable, is_everything}
 use Rattle.writer.specs.Message.{writable}
-use Rattle.writer.specs.declared.add.Before.{Before}
+use Rattle.base.specs.Out.{Answers}
+use Rattle.base.specs.Refusal.{number, node}
+use Rattle.base.specs.declared.Refusal.{Refusal}
 
 -- ---- sizes
 
@@ -102,12 +105,10 @@ behind_of (HandshakeAlone a o) es r = 3
 behind_of (Messages k) es r = seen_fault es r
 behind_of (MessagesAndData c x b n k) es r = 2
 
--- A datagram's own number, and that one.
-abbrev pub before_numbers : (fault behind : ℕ) → Before
-before_numbers fault behind = record { fault = fault; behind = behind }
-
-abbrev pub before_of : Checked → Option ℕ → Before
-before_of c r = before_numbers (number_of c.layout) (behind_of c.layout c.entries r)
+-- What a datagram of this layout and these entries says to one message more: its own number, or else the one behind it.
+abbrev pub Told : {A : Type 0} → Result (Result A Refusal) Refusal → Checked → Option ℕ → Type 0
+Told (Err e) c r = (number e ≡ number_of c.layout) × (node e ≡ None)
+Told (Ok x) c r = (number_of c.layout ≡ 0) × Answers x (behind_of c.layout c.entries r)
 
 -- What an accepted message has: it fits the room, its bytes lie in the source, and the table allows it.
 pub record Addable (F : Format) (size len : ℕ) (m : Message) (source : ℕ) : Type 0 where

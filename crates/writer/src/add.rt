@@ -1,17 +1,15 @@
 // Beginning a datagram in a lent room, and adding a message to it.
-ghost use Rattle.std.specs.Prelude.{◌≡◌, length, true, not, ◌+◌, eqb, ltb};
-ghost use Rattle.base.specs.Out.{out_of};
-ghost use Rattle.writer.specs.Add.{add_answer, add_spec, begin_spec};
-ghost use Rattle.writer.specs.Lists.{HasWidths};
-ghost use Rattle.base.specs.Pick.{pick};
-ghost use Rattle.tree.proofs.Promise.{covers};
-ghost use Rattle.wire.specs.declared.message.Message;
+ghost use Rattle.std.specs.Prelude.{◌≡◌, ◌≤◌, length, true, None, OnOk};
+ghost use Rattle.base.specs.Out.{Answers, len_of, out_by};
+ghost use Rattle.base.specs.Refusal.{number, node};
 ghost use Rattle.wire.specs.Layout.{layout_of};
 ghost use Rattle.wire.specs.Steps.{Fronted};
-ghost use Rattle.writer.specs.Steps.{part_so, allowed, node_of, own_fault};
-ghost use Rattle.writer.specs.Steps.{seen_fault, before_of, Addable};
+ghost use Rattle.writer.specs.Add.{add_answer, add_spec, begin_spec};
+ghost use Rattle.writer.specs.Steps.{part_so, allowed, node_of, own_fault, seen_fault, Told, Addable};
 
-use crate::{place, put, size};
+use crate::place::Writer;
+use crate::{place, size};
+use base::Refusal;
 use format::Format;
 use wire::layout::Layout;
 use wire::limits::{ENTRIES, MAX_SIZE, MIN_SIZE};
@@ -19,255 +17,171 @@ use wire::message::Message;
 use wire::pass::Front;
 use wire::{bytes, layout, pass, range};
 
-// The number that the node of an INTEGRITY has, if its range is one's.
+// The node of an INTEGRITY, by the number that it has if its range is one's.
 fn node_of(message: Message) -> Option<u64>
     ensures { result ≡ node_of message }
 {
     match message {
-        Message::Integrity {
-            first,
-            last,
-            hash: _,
-        } => Some(first as u64 + last as u64),
+        Message::Integrity { first, last, .. } => Some(u64::from(first) + u64::from(last)),
         _ => None,
     }
 }
 
-// 2, unless a message is allowed.
-fn refused_unless(allowed: bool) -> u32
-    ensures { result ≡ pick allowed 0 2 }
-{
-    if allowed { 0 } else { 2 }
-}
-
-// Whether HAVE, REQUEST or CANCEL may name the chunks from first to last.
-fn names_some(format: Format, first: u32, last: u32) -> bool
-    ensures { result ≡ allowed format (Message.Have first last) }
-{
-    if !place::nameable(format, first, last) {
-        return false;
-    }
-    first <= last
-}
-
-// Whether a message that may not name everything may name them.
+// Whether a message that may not name everything may name the chunks from first to last.
 fn names_part(format: Format, first: u32, last: u32) -> bool
     ensures { result ≡ part_so format first last true }
 {
-    if !place::nameable(format, first, last) {
-        return false;
-    }
-    !place::is_everything(format, first, last)
+    place::nameable(format, first, last) && !place::is_everything(format, first, last)
 }
 
-// Whether DATA, ACK or INTEGRITY may name them: one chunk, chunks in order, those of a node.
-fn names_chunk(format: Format, first: u32, last: u32) -> bool
-    ensures { result ≡ part_so format first last (eqb first last) }
-{
-    if !names_part(format, first, last) {
-        return false;
-    }
-    first == last
-}
-
-fn names_run(format: Format, first: u32, last: u32) -> bool
-    ensures { result ≡ part_so format first last (not (ltb last first)) }
-{
-    if !names_part(format, first, last) {
-        return false;
-    }
-    first <= last
-}
-
-fn names_node(format: Format, first: u32, last: u32) -> bool
-    ensures { result ≡ part_so format first last (covers (first + last) first last) }
-{
-    if !names_part(format, first, last) {
-        return false;
-    }
-    range::is_node(first, last)
-}
-
-// The number for a message by itself, behind `len` bytes of a datagram with its destination.
-fn own_fault(format: Format, destination: u32, len: usize, message: Message) -> u32
-    ensures { (result ≡ own_fault format destination len message) × HasWidths message }
+// Whether the table allows a message's chunks: DATA one, ACK some in order, INTEGRITY those of a node.
+fn allowed(format: Format, message: Message) -> bool
+    ensures { result ≡ allowed format message }
 {
     match message {
-        Message::Handshake { source, options } => {
-            if len != MIN_SIZE {
-                3
-            } else {
-                match layout::handshake_fault(destination, source, options) {
-                    Ok(()) => 0,
-                    Err(refusal) => refusal.number(),
-                }
-            }
+        Message::Data { first, last, .. } => names_part(format, first, last) && first == last,
+        Message::Ack { first, last, .. } => names_part(format, first, last) && first <= last,
+        Message::Integrity { first, last, .. } => {
+            names_part(format, first, last) && range::is_node(first, last)
         }
-        Message::Data {
-            first,
-            last,
-            timestamp: _,
-            start: _,
-            len: _,
-        } => refused_unless(names_chunk(format, first, last)),
-        Message::Ack {
-            first,
-            last,
-            delay: _,
-        } => refused_unless(names_run(format, first, last)),
-        Message::Have { first, last } => refused_unless(names_some(format, first, last)),
-        Message::Integrity {
-            first,
-            last,
-            hash: _,
-        } => refused_unless(names_node(format, first, last)),
-        Message::Request { first, last } => refused_unless(names_some(format, first, last)),
-        Message::Cancel { first, last } => refused_unless(names_some(format, first, last)),
-        Message::Choke => 0,
-        Message::Unchoke => 0,
-        Message::Empty { kind: _ } => 0,
+        Message::Have { first, last }
+        | Message::Request { first, last }
+        | Message::Cancel { first, last } => place::nameable(format, first, last) && first <= last,
+        Message::Handshake { .. } | Message::Empty { .. } => true,
+        Message::Choke | Message::Unchoke => true,
     }
 }
 
-// What a datagram so far says to one message more: its own number, and the number for what comes behind it.
-#[derive(Clone, Copy)]
-struct Before {
-    fault: u32,
-    behind: u32,
+// What a message by itself is refused for, behind `len` bytes of a datagram with its destination.
+fn own_answer(format: Format, destination: u32, len: usize, message: Message) -> Result<(), Refusal>
+    ensures { Answers result (own_fault format destination len message) }
+{
+    if let Message::Handshake { source, options } = message {
+        if len != MIN_SIZE || layout::handshake_fault(destination, source, options) != 0 {
+            return Err(Refusal::Handshake);
+        }
+    }
+    if !allowed(format, message) {
+        return Err(Refusal::Layout);
+    }
+    Ok(())
 }
 
-// 2 for a node that is among the entries.
-fn seen_fault(entries: &[u64], node: Option<u64>) -> u32
-    ensures { result ≡ seen_fault entries.now node }
+// The refusal of a datagram's layout, by its number.
+fn refusal(n: u32) -> Refusal
+    requires { (1 ≤ n) × (n ≤ 3) }
+    ensures { (number result ≡ n) × (node result ≡ None) }
+{
+    match n {
+        1 => Refusal::DatagramSize,
+        2 => Refusal::Layout,
+        _ => Refusal::Handshake,
+    }
+}
+
+// Refused as the layout does, for a node that is among the entries.
+fn seen_answer(entries: &[u64], node: Option<u64>) -> Result<(), Refusal>
+    ensures { Answers result (seen_fault entries.now node) }
 {
     match node {
-        Some(b) => { if layout::seen(entries, b) { 2 } else { 0 } }
-        None => 0,
+        Some(b) if layout::seen(entries, b) => Err(Refusal::Layout),
+        _ => Ok(()),
     }
 }
 
-// The same of a datagram that has others than plain messages: its scratch is made here alone.
-fn before_others(format: Format, prefix: &[u8], front: Front, node: Option<u64>) -> Before
+// What a datagram so far, which has others than plain messages, says to one message more: what it is refused for itself,
+// or else what refuses the message behind it. Its scratch is made here alone.
+fn behind_others(
+    format: Format,
+    prefix: &[u8],
+    front: Front,
+    node: Option<u64>,
+) -> Result<Result<(), Refusal>, Refusal>
     requires { Fronted format prefix.now front }
-    ensures { result ≡ before_of (layout_of format prefix.now) node }
+    ensures { Told result (layout_of format prefix.now) node }
 {
     let mut entries = [0u64; ENTRIES];
-    let pass = match pass::rest(format, prefix, &mut entries, front) {
-        Ok(pass) => pass,
-        Err(refusal) => {
-            return Before {
-                fault: refusal.number(),
-                behind: 0,
-            };
-        }
-    };
+    let pass = pass::rest(format, prefix, &mut entries, front);
     match pass.layout {
-        Layout::HandshakeAlone {
-            source: _,
-            options: _,
-        } => Before {
-            fault: 0,
-            behind: 3,
-        },
-        Layout::Messages { entries: n } => Before {
-            fault: 0,
-            behind: seen_fault(&entries[0..n], node),
-        },
-        Layout::MessagesAndData {
-            chunk: _,
-            timestamp: _,
-            start: _,
-            len: _,
-            entries: _,
-        } => Before {
-            fault: 0,
-            behind: 2,
-        },
+        Layout::Fault { number } => Err(refusal(number)),
+        Layout::HandshakeAlone { .. } => Ok(Err(Refusal::Handshake)),
+        Layout::Messages { entries: n } => Ok(seen_answer(&entries[..n], node)),
+        Layout::MessagesAndData { .. } => Ok(Err(Refusal::Layout)),
     }
 }
 
-fn before_message(format: Format, prefix: &[u8], node: Option<u64>) -> Before
-    ensures { result ≡ before_of (layout_of format prefix.now) node }
+// The same of any datagram.
+fn behind(format: Format, prefix: &[u8], node: Option<u64>) -> Result<Result<(), Refusal>, Refusal>
+    ensures { Told result (layout_of format prefix.now) node }
 {
     if !pass::has_size(prefix) {
-        return Before {
-            fault: 1,
-            behind: 0,
-        };
+        return Err(Refusal::DatagramSize);
     }
     let front = pass::plain_front(format, prefix);
     if front.at == prefix.len() {
-        return Before {
-            fault: 0,
-            behind: 0,
-        };
+        return Ok(Ok(()));
     }
-    before_others(format, prefix, front, node)
+    behind_others(format, prefix, front, node)
 }
 
-// The number for adding a message to the first `len` bytes of the room.
-fn add_answer(room: &[u8], format: Format, len: usize, message: Message, bytes: &[u8]) -> u32
-    ensures { (result ≡ add_answer format room.now len message bytes.now)
-        × (result ≡ 0 → Addable format (length room.now) len message (length bytes.now)) }
+// What adding a message to the first `len` bytes of the room is refused for.
+fn add_answer(
+    room: &[u8],
+    format: Format,
+    len: usize,
+    message: Message,
+    bytes: &[u8],
+) -> Result<(), Refusal>
+    ensures answer { Answers result (add_answer format room.now len message bytes.now) }
+    ensures addable { OnOk result (Addable format (length room.now) len message (length bytes.now)) }
 {
     if room.len() < MAX_SIZE {
-        return 11;
+        return Err(Refusal::RoomTooSmall);
     }
     if MAX_SIZE < len {
-        return 1;
+        return Err(Refusal::DatagramSize);
     }
-    let prefix = &room[0..len];
-    let told = before_message(format, prefix, node_of(message));
-    if told.fault != 0 {
-        return told.fault;
-    }
+    let prefix = &room[..len];
+    let behind = behind(format, prefix, node_of(message))?;
     if !size::writable(format, bytes.len(), message) {
-        return 2;
+        return Err(Refusal::Layout);
     }
     if MAX_SIZE - len < size::size_of(format, message, bytes) {
-        return 1;
+        return Err(Refusal::DatagramSize);
     }
-    let own = own_fault(format, bytes::load32(prefix, 0), len, message);
-    if told.behind != 0 {
-        return told.behind;
-    }
-    own
+    behind?;
+    own_answer(format, bytes::load32(prefix, 0), len, message)
 }
 
-#[derive(Clone, Copy)]
-pub struct Added {
-    pub answer: u32,
-    // The datagram's length, 0 after a refusal.
-    pub len: usize,
-}
-
-// Begins a datagram: its destination channel.
-pub fn begin(room: &mut [u8], destination: u32) -> Added
-    ensures { out_of result.answer result.len room.new
-        ≡ begin_spec room.old destination }
+// Begins a datagram: its destination channel; the datagram's length.
+pub fn begin(room: &mut [u8], destination: u32) -> Result<usize, Refusal>
+    ensures { out_by result (len_of result) room.new ≡ begin_spec room.old destination }
 {
     if room.len() < MAX_SIZE {
-        return Added { answer: 11, len: 0 };
+        return Err(Refusal::RoomTooSmall);
     }
-    place::place32(room, 0, destination);
-    Added {
-        answer: 0,
-        len: MIN_SIZE,
-    }
+    room[..MIN_SIZE].copy_from_slice(&destination.to_be_bytes());
+    Ok(MIN_SIZE)
 }
 
-// Adds a message to the datagram in the first `len` bytes of the room; its hash, chunk or root is taken from `bytes`.
-pub fn add(room: &mut [u8], format: Format, len: usize, message: Message, bytes: &[u8]) -> Added
-    ensures { out_of result.answer result.len room.new
+// Adds a message to the datagram in the first `len` bytes of the room; its hash, chunk or root is taken from `bytes`; the
+// datagram's length.
+pub fn add(
+    room: &mut [u8],
+    format: Format,
+    len: usize,
+    message: Message,
+    bytes: &[u8],
+) -> Result<usize, Refusal>
+    ensures { out_by result (len_of result) room.new
         ≡ add_spec format room.old len message bytes.now }
 {
-    let answer = add_answer(room, format, len, message, bytes);
-    if answer != 0 {
-        return Added { answer, len: 0 };
-    }
-    put::put(room, len, format, message, bytes);
-    Added {
-        answer: 0,
-        len: len + size::size_of(format, message, bytes),
-    }
+    add_answer(room, format, len, message, bytes)?;
+    let mut writer = Writer {
+        room,
+        at: len,
+        format,
+    };
+    writer.put(message, bytes);
+    Ok(writer.at)
 }

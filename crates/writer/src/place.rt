@@ -1,104 +1,99 @@
-// Big-endian numbers and bytes into a lent room.
-ghost use Rattle.std.specs.Prelude.{◌≡◌, ◌+◌, ◌≤◌, ◌∷◌, [], length, true};
-ghost use Rattle.wire.specs.Bytes.{placed};
+// Big-endian numbers and bytes into a lent room, one behind the other.
+ghost use Rattle.std.specs.Prelude.{◌≡◌, ◌∷◌, [], length, true};
 ghost use Rattle.wire.specs.Place.{named_size};
 ghost use Rattle.writer.specs.Bytes.{bytes32, bytes64, nameable, is_everything, name_bytes, empty_bytes};
+ghost use Rattle.writer.specs.Writer.{Free, Wrote};
 
 use format::{Addressing, Format};
 use wire::range;
 use wire::range::{EMPTY_BIN, EVERYTHING_BIN};
 
-pub(crate) fn place8(room: &mut [u8], at: usize, x: u8)
-    requires { at + 1 ≤ length room.old }
-    ensures { room.new ≡ placed room.old at (x ∷ []) }
-{
-    room[at] = x;
-}
-
-pub fn place32(room: &mut [u8], at: usize, x: u32)
-    requires { at + 4 ≤ length room.old }
-    ensures { room.new ≡ placed room.old at (bytes32 x) }
-{
-    room[at] = (x / 16777216 % 256) as u8;
-    room[at + 1] = (x / 65536 % 256) as u8;
-    room[at + 2] = (x / 256 % 256) as u8;
-    room[at + 3] = (x % 256) as u8;
-}
-
-pub(crate) fn place64(room: &mut [u8], at: usize, x: u64)
-    requires { at + 8 ≤ length room.old }
-    ensures { room.new ≡ placed room.old at (bytes64 x) }
-{
-    place32(room, at, (x / 4294967296) as u32);
-    place32(room, at + 4, (x % 4294967296) as u32);
-}
-
-pub(crate) fn place_all(room: &mut [u8], at: usize, bytes: &[u8])
-    requires { at + length bytes.now ≤ length room.old }
-    ensures { room.new ≡ placed room.old at bytes.now }
-{
-    let mut i: usize = 0;
-    while i < bytes.len() {
-        room[at + i] = bytes[i];
-        i = i + 1;
-    }
-}
-
 // Whether the method names the chunks from first to last.
+#[tactic(auto, unfolding(crate::specs::Bytes::nameable))]
 pub(crate) fn nameable(format: Format, first: u32, last: u32) -> bool
     ensures { result ≡ nameable format first last }
 {
-    let addressing = format.addressing;
-    match addressing {
+    match format.addressing {
         Addressing::Bins => {
-            let b = first as u64 + last as u64;
-            if (EMPTY_BIN as u64) <= b {
-                return false;
-            }
-            range::is_node(first, last)
+            u64::from(first) + u64::from(last) < u64::from(EMPTY_BIN) && range::is_node(first, last)
         }
         Addressing::Ranges => true,
     }
 }
 
 // Whether they are everything, by the bin that says so.
+#[tactic(auto, unfolding(crate::specs::Bytes::is_everything))]
 pub(crate) fn is_everything(format: Format, first: u32, last: u32) -> bool
     ensures { result ≡ is_everything format first last }
 {
-    let addressing = format.addressing;
-    match addressing {
-        Addressing::Bins => {
-            let b = first as u64 + last as u64;
-            b == EVERYTHING_BIN as u64
-        }
+    match format.addressing {
+        Addressing::Bins => u64::from(first) + u64::from(last) == u64::from(EVERYTHING_BIN),
         Addressing::Ranges => false,
     }
 }
 
-// A message's type and the chunks that it names, which are written here alone.
-pub fn place_name(room: &mut [u8], at: usize, format: Format, kind: u8, first: u32, last: u32)
-    requires format_in_bounds { at + named_size format ≤ length room.old }
-    requires last_value { nameable format first last ≡ true }
-    ensures { room.new ≡ placed room.old at (name_bytes format kind first last) }
-{
-    place8(room, at, kind);
-    let addressing = format.addressing;
-    match addressing {
-        Addressing::Bins => {
-            place32(room, at + 1, first + last);
-        }
-        Addressing::Ranges => {
-            place32(room, at + 1, first);
-            place32(room, at + 5, last);
-        }
-    }
+// Where a datagram is written: its room, the place of the next byte, and the format.
+#[derive(Drop)]
+pub struct Writer<'a> {
+    pub room: &'a mut [u8],
+    pub at: usize,
+    pub format: Format,
 }
 
-// A message's type, and no chunk.
-pub(crate) fn place_empty(room: &mut [u8], at: usize, kind: u8)
-    requires { at + 5 ≤ length room.old }
-    ensures { room.new ≡ placed room.old at (empty_bytes kind) }
-{
-    place8(room, at, kind);
-    place32(room, at + 1, EMPTY_BIN);
+impl Writer<'_> {
+    pub(crate) fn byte(&mut self, x: u8)
+        requires { Free self.old 1 }
+        ensures { Wrote self.old self.new (x ∷ []) }
+    {
+        self.room[self.at] = x;
+        self.at += 1;
+    }
+
+    pub(crate) fn bytes(&mut self, bytes: &[u8])
+        requires { Free self.old (length bytes.now) }
+        ensures { Wrote self.old self.new bytes.now }
+    {
+        let end = self.at + bytes.len();
+        self.room[self.at..end].copy_from_slice(bytes);
+        self.at = end;
+    }
+
+    pub fn number32(&mut self, x: u32)
+        requires { Free self.old 4 }
+        ensures { Wrote self.old self.new (bytes32 x) }
+    {
+        self.bytes(&x.to_be_bytes());
+    }
+
+    pub(crate) fn number64(&mut self, x: u64)
+        requires { Free self.old 8 }
+        ensures { Wrote self.old self.new (bytes64 x) }
+    {
+        self.bytes(&x.to_be_bytes());
+    }
+
+    // A message's type and the chunks that it names, which are written here alone.
+    pub fn name(&mut self, kind: u8, first: u32, last: u32)
+        requires free { Free self.old (named_size self.old.format) }
+        requires named { nameable self.old.format first last ≡ true }
+        ensures { Wrote self.old self.new (name_bytes self.old.format kind first last) }
+    {
+        self.byte(kind);
+        match self.format.addressing {
+            Addressing::Bins => self.number32(first + last),
+            Addressing::Ranges => {
+                self.number32(first);
+                self.number32(last);
+            }
+        }
+    }
+
+    // A message's type, and no chunk.
+    pub(crate) fn empty(&mut self, kind: u8)
+        requires { Free self.old 5 }
+        ensures { Wrote self.old self.new (empty_bytes kind) }
+    {
+        self.byte(kind);
+        self.number32(EMPTY_BIN);
+    }
 }

@@ -1,19 +1,12 @@
-use native.Mathlib.Omega.{arith}
-use Rattle.writer.proofs.AnswerLaws.{add-refused, add_done}
+use borrow.Author.Rules.{rules}
+use Rattle.std.proofs.lemmas.Result.{err_from_is_err_and}
+use Rattle.writer.proofs.AnswerLaws.{add-refused, add_done, then_same}
 use Rattle.writer.proofs.add.add.Goals as goal
 
-pub returns-then-answer-ne0 : goal.returns-then-answer-ne0
-returns-then-answer-ne0 c = add-refused _ c.args.room.now c.args.len c.args.message c.args.bytes.now c.add_answer-answer.ensures.0 c.if-answer-ne0.true
-
-pub put-requires : goal.put-requires
-put-requires c = let x = c.add_answer-answer.ensures.1 c.if-answer-ne0.false in record { message_in_bounds = omega (arith, x.fits, x.room); message_value = x.can; message_value_2 = x.good }
-
-pub size_of-requires : goal.size_of-requires
-size_of-requires c = let x = c.add_answer-answer.ensures.1 c.if-answer-ne0.false in x.can
-
-pub overflow_add-result : goal.overflow_add-result
-overflow_add-result c = let x = c.add_answer-answer.ensures.1 c.if-answer-ne0.false in omega (arith, x.fits, c.size_of.ensures.0)
+pub returns-in_err-add_answer : goal.returns-in_err-add_answer
+returns-in_err-add_answer c =
+    let p = err_from_is_err_and c.from_residual.result c.from_residual.ensures.1 in
+    rw (p.1, p.2) (add-refused _ c.args.room.now c.args.len c.args.message c.args.bytes.now c.add_answer.ensures.answer c.in_err-add_answer.was)
 
 pub returns : goal.returns
-returns c = let x = c.add_answer-answer.ensures.1 c.if-answer-ne0.false in
-    add_done _ c.args.room.now c.args.len c.args.message c.args.bytes.now c.add_answer-answer.ensures.0 c.if-answer-ne0.false x.can c.size_of.ensures.0 c.put.ensures
+returns c = then_same (add_done _ c.args.room.now c.args.len c.args.message c.args.bytes.now c.add_answer.ensures.answer c.in_ok-add_answer.was c.put.ensures.at c.put.ensures.bytes) (search rules)

@@ -1,33 +1,42 @@
-use native.Mathlib.Omega.{arith}
-use mathlib.Core.Path.{sym, ◌∙◌}
-use Rattle.writer.proofs.AnswerLaws.{told_of, add-room, add-size, add-so-far, add-unwritable, add_low, add-long, add-fits, add-behind, add-own}
-use Rattle.std.proofs.Common.{ap}
-use mathlib.Core.Bool.{not}
+use mathlib.Core.Path.{refl, sym, ◌∙◌}
+use Rattle.std.proofs.lemmas.Result.{err_from_is_err_and}
+use Rattle.base.proofs.OutLaws.{refusal_number, passed, refused_by, refused-nameless}
+use Rattle.writer.proofs.AnswerLaws.{add-room, add-size, add-so-far, add-unwritable, add_low, add-long, add-fits, add-behind, add-own, on_accepted}
 use Rattle.writer.proofs.add.add_answer.Goals as goal
 
-pub returns-then-room-lt-MAX_SIZE : goal.returns-then-room-lt-MAX_SIZE
-returns-then-room-lt-MAX_SIZE c = (add-room _ c.args.room.now c.args.len c.args.message c.args.bytes.now c.if-room-lt-MAX_SIZE.true, λ e. absurd (omega (arith, e)))
+pub returns-then-room-lt-MAX_SIZE-clause-answer : goal.returns-then-room-lt-MAX_SIZE-clause-answer
+returns-then-room-lt-MAX_SIZE-clause-answer c = (add-room _ c.args.room.now c.args.len c.args.message c.args.bytes.now c.if-room-lt-MAX_SIZE.true, refl)
 
-pub returns-then-len-gt-MAX_SIZE : goal.returns-then-len-gt-MAX_SIZE
-returns-then-len-gt-MAX_SIZE c = (add-size _ c.args.room.now c.args.len c.args.message c.args.bytes.now c.if-room-lt-MAX_SIZE.false c.if-len-gt-MAX_SIZE.true, λ e. absurd (omega (arith, e)))
+pub returns-then-len-gt-MAX_SIZE-clause-answer : goal.returns-then-len-gt-MAX_SIZE-clause-answer
+returns-then-len-gt-MAX_SIZE-clause-answer c = (add-size _ c.args.room.now c.args.len c.args.message c.args.bytes.now c.if-room-lt-MAX_SIZE.false c.if-len-gt-MAX_SIZE.true, refl)
 
-pub returns-then-told-ne0 : goal.returns-then-told-ne0
-returns-then-told-ne0 c = (add-so-far _ c.args.room.now c.args.len c.args.message c.args.bytes.now c.if-room-lt-MAX_SIZE.false c.if-len-gt-MAX_SIZE.false (told_of _ _ c.args.message c.before_message-told.ensures c.node_of.ensures) c.if-told-ne0.true, λ e. absurd (c.if-told-ne0.true e))
+pub returns-in_err-behind-clause-answer : goal.returns-in_err-behind-clause-answer
+returns-in_err-behind-clause-answer c =
+    let p = err_from_is_err_and c.from_residual.result c.from_residual.ensures.1 in
+    rw (p.1, p.2) (add-so-far _ c.args.room.now c.args.len c.args.message c.args.bytes.now c.if-room-lt-MAX_SIZE.false c.if-len-gt-MAX_SIZE.false c.in_err-behind.ensures.0 (refusal_number _), c.in_err-behind.ensures.1)
 
-pub returns-then-not-writable : goal.returns-then-not-writable
-returns-then-not-writable c = (add-unwritable _ c.args.room.now c.args.len c.args.message c.args.bytes.now c.if-room-lt-MAX_SIZE.false c.if-len-gt-MAX_SIZE.false (told_of _ _ c.args.message c.before_message-told.ensures c.node_of.ensures) c.if-told-ne0.false c.writable.ensures (ap not c.if-not-writable.true), λ e. absurd (omega (arith, e)))
+pub returns-then-not-writable-clause-answer : goal.returns-then-not-writable-clause-answer
+returns-then-not-writable-clause-answer c = (add-unwritable _ c.args.room.now c.args.len c.args.message c.args.bytes.now c.if-room-lt-MAX_SIZE.false c.if-len-gt-MAX_SIZE.false c.in_ok-behind.ensures.0 c.writable.ensures c.if-not-writable.true, refl)
 
-pub size_of-requires : goal.size_of-requires
-size_of-requires c = sym c.writable.ensures ∙ c.if-not-writable.false
+pub returns-then-len-size_of-clause-answer : goal.returns-then-len-size_of-clause-answer
+returns-then-len-size_of-clause-answer c = (add-long _ c.args.room.now c.args.len c.args.message c.args.bytes.now c.if-room-lt-MAX_SIZE.false c.if-len-gt-MAX_SIZE.false c.in_ok-behind.ensures.0 c.writable.ensures c.if-not-writable.false c.size_of.ensures.size.0 c.if-len-size_of.true, refl)
 
-pub returns-then-len-size_of : goal.returns-then-len-size_of
-returns-then-len-size_of c = (add-long _ c.args.room.now c.args.len c.args.message c.args.bytes.now c.if-room-lt-MAX_SIZE.false c.if-len-gt-MAX_SIZE.false (told_of _ _ c.args.message c.before_message-told.ensures c.node_of.ensures) c.if-told-ne0.false c.writable.ensures (ap not c.if-not-writable.false) c.size_of.ensures.0 c.if-len-size_of.true, λ e. absurd (omega (arith, e)))
+pub returns-in_err-behind-2-clause-answer : goal.returns-in_err-behind-2-clause-answer
+returns-in_err-behind-2-clause-answer c =
+    let p = err_from_is_err_and c.from_residual-in_err-behind-2.result c.from_residual-in_err-behind-2.ensures.1 in
+    let told = rw c.node_of.ensures at c.in_ok-behind.ensures.1 in
+    rw (p.1, p.2)
+    (add-behind _ c.args.room.now c.args.len c.args.message c.args.bytes.now c.if-room-lt-MAX_SIZE.false c.if-len-gt-MAX_SIZE.false c.in_ok-behind.ensures.0 c.writable.ensures c.if-not-writable.false c.size_of.ensures.size.0 c.if-len-size_of.false c.size_of.ensures.widths (sym (refused_by told c.in_err-behind-2.was)) (refusal_number _), refused-nameless told c.in_err-behind-2.was)
 
 pub load32-requires : goal.load32-requires
-load32-requires c = add_low _ c.args.room.now c.args.len c.args.message c.args.bytes.now c.if-room-lt-MAX_SIZE.false c.if-len-gt-MAX_SIZE.false (told_of _ _ c.args.message c.before_message-told.ensures c.node_of.ensures) c.if-told-ne0.false c.writable.ensures (ap not c.if-not-writable.false)
+load32-requires c = add_low _ c.args.room.now c.args.len c.args.message c.args.bytes.now c.if-room-lt-MAX_SIZE.false c.if-len-gt-MAX_SIZE.false c.in_ok-behind.ensures.0 c.writable.ensures c.if-not-writable.false
 
-pub returns-then-told-ne0-2 : goal.returns-then-told-ne0-2
-returns-then-told-ne0-2 c = (add-behind _ c.args.room.now c.args.len c.args.message c.args.bytes.now c.if-room-lt-MAX_SIZE.false c.if-len-gt-MAX_SIZE.false (told_of _ _ c.args.message c.before_message-told.ensures c.node_of.ensures) c.if-told-ne0.false c.writable.ensures (ap not c.if-not-writable.false) c.size_of.ensures.0 c.if-len-size_of.false c.own_fault-own.ensures.1 c.if-told-ne0-2.true, λ e. absurd (c.if-told-ne0-2.true e))
+pub returns-clause-answer : goal.returns-clause-answer
+returns-clause-answer c =
+    let told = rw c.node_of.ensures at c.in_ok-behind.ensures.1 in
+    let own = rw c.load32.ensures at c.own_answer.ensures in
+    (own.0 ∙ add-own _ c.args.room.now c.args.len c.args.message c.args.bytes.now c.if-room-lt-MAX_SIZE.false c.if-len-gt-MAX_SIZE.false c.in_ok-behind.ensures.0 c.writable.ensures c.if-not-writable.false c.size_of.ensures.size.0 c.if-len-size_of.false c.size_of.ensures.widths refl (passed told c.in_ok-behind-2.was), own.1)
 
-pub returns : goal.returns
-returns c = let t = (told_of _ _ c.args.message c.before_message-told.ensures c.node_of.ensures) in (add-own _ c.args.room.now c.args.len c.args.message c.args.bytes.now c.if-room-lt-MAX_SIZE.false c.if-len-gt-MAX_SIZE.false t c.if-told-ne0.false c.writable.ensures (ap not c.if-not-writable.false) c.size_of.ensures.0 c.if-len-size_of.false c.own_fault-own.ensures.1 (omega (arith, c.if-told-ne0-2.false)) c.load32.ensures c.own_fault-own.ensures.0, λ e. add-fits _ c.args.room.now c.args.len c.args.message c.args.bytes.now c.if-room-lt-MAX_SIZE.false c.if-len-gt-MAX_SIZE.false t c.if-told-ne0.false c.writable.ensures (ap not c.if-not-writable.false) c.size_of.ensures.0 c.if-len-size_of.false _ c.own_fault-own.ensures.0 e)
+pub returns-clause-addable : goal.returns-clause-addable
+returns-clause-addable c =
+    on_accepted c.own_answer.result (λ z. add-fits _ c.args.room.now c.args.len c.args.message c.args.bytes.now c.if-room-lt-MAX_SIZE.false c.if-len-gt-MAX_SIZE.false c.in_ok-behind.ensures.0 c.writable.ensures c.if-not-writable.false c.size_of.ensures.size.0 c.if-len-size_of.false _ (sym c.own_answer.ensures.0 ∙ z))

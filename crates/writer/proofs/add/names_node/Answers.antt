@@ -1,9 +1,0 @@
-use mathlib.Core.Path.{◌∙◌}
-use Rattle.writer.proofs.AnswerLaws.{part-stops, part-goes}
-use Rattle.writer.proofs.add.names_node.Goals as goal
-
-pub returns-then-not-names_part : goal.returns-then-not-names_part
-returns-then-not-names_part c = part-stops _ _ _ c.names_part.ensures (c.if-not-names_part.true) _
-
-pub returns : goal.returns
-returns c = c.is_node.ensures ∙ part-goes _ _ _ c.names_part.ensures (c.if-not-names_part.false) _
