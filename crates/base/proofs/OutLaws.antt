@@ -96,6 +96,23 @@ refusal_number Order = λ q. omega arith
 refusal_number NotHeld = λ q. omega arith
 refusal_number ChannelId = λ q. omega arith
 
+-- One with a number below 9 names no node.
+pub low_nameless : (e : Refusal) → number e < 9 → node e ≡ None
+low_nameless DatagramSize l = refl
+low_nameless Layout l = refl
+low_nameless Handshake l = refl
+low_nameless Options l = refl
+low_nameless NoChannel l = refl
+low_nameless TableFull l = refl
+low_nameless PastPack l = refl
+low_nameless ChunkSize l = refl
+low_nameless (HashMissing b) l = absurd (omega arith)
+low_nameless (HashWrong b) l = absurd (omega arith)
+low_nameless RoomTooSmall l = refl
+low_nameless Order l = refl
+low_nameless NotHeld l = refl
+low_nameless ChannelId l = refl
+
 -- What a test gives, read off its result r: n is its number.
 module _ {A : Type 0} {r : Result A Refusal} {n : ℕ} (a : Answers r n) where
   pub passed : {x : A} → r ≡ Ok x → n ≡ 0

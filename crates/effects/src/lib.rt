@@ -75,8 +75,7 @@ impl Channel<'_> {
         ensures effect { turn_of (peer_in self.new) result
             ≡ turned self.old.n self.old.base (peer_in self.old) (step_at format datagram.now at) }
     {
-        let size = plain::size(format, datagram, at);
-        if size != 0 {
+        if let Some(size) = plain::size(format, datagram, at) {
             self.apply_plain(format, &datagram[at..]);
             return Some(at + size);
         }

@@ -22,8 +22,8 @@ use Rattle.wire.specs.declared.pass.Front.{Front}
 use Rattle.wire.specs.declared.message.Options.{Options}
 use Rattle.wire.specs.declared.message.Message.{Message}
 use Rattle.wire.specs.declared.message.Message.TheVariants.{Handshake}
-use Rattle.wire.specs.declared.layout.Layout.{Layout}
-use Rattle.wire.specs.declared.layout.Layout.TheVariants.{Fault, HandshakeAlone, Messages, MessagesAndData}
+use Rattle.wire.specs.Layout.{Layout}
+use Rattle.wire.specs.Layout.{Fault, HandshakeAlone, Messages, MessagesAndData}
 use Rattle.wire.proofs.LayoutLaws.{layout_unsized}
 use Rattle.wire.proofs.SurveyLaws.{front-layout}
 use Rattle.wire.proofs.ExtendLaws.{Extended}

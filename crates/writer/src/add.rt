@@ -57,26 +57,15 @@ fn own_answer(format: Format, destination: u32, len: usize, message: Message) ->
     ensures { Answers result (own_fault format destination len message) }
 {
     if let Message::Handshake { source, options } = message {
-        if len != MIN_SIZE || layout::handshake_fault(destination, source, options) != 0 {
+        if len != MIN_SIZE {
             return Err(Refusal::Handshake);
         }
+        layout::handshake_fault(destination, source, options)?;
     }
     if !allowed(format, message) {
         return Err(Refusal::Layout);
     }
     Ok(())
-}
-
-// The refusal of a datagram's layout, by its number.
-fn refusal(n: u32) -> Refusal
-    requires { (1 ≤ n) × (n ≤ 3) }
-    ensures { (number result ≡ n) × (node result ≡ None) }
-{
-    match n {
-        1 => Refusal::DatagramSize,
-        2 => Refusal::Layout,
-        _ => Refusal::Handshake,
-    }
 }
 
 // Refused as the layout does, for a node that is among the entries.
@@ -101,9 +90,8 @@ fn behind_others(
     ensures { Told result (layout_of format prefix.now) node }
 {
     let mut entries = [0u64; ENTRIES];
-    let pass = pass::rest(format, prefix, &mut entries, front);
+    let pass = pass::rest(format, prefix, &mut entries, front)?;
     match pass.layout {
-        Layout::Fault { number } => Err(refusal(number)),
         Layout::HandshakeAlone { .. } => Ok(Err(Refusal::Handshake)),
         Layout::Messages { entries: n } => Ok(seen_answer(&entries[..n], node)),
         Layout::MessagesAndData { .. } => Ok(Err(Refusal::Layout)),
