@@ -9,6 +9,7 @@ pub mod SpanLaws
 pub mod LayoutLaws
 pub mod PlainLaws
 pub mod SurveyLaws
+pub mod FrontLaws
 pub mod TurnLaws
 pub mod PassLaws
 pub mod ViewLaws

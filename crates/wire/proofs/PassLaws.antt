@@ -123,7 +123,7 @@ pub record Passing (F : Format) (old s room : List ℕ) (left at used : ℕ) (v 
   pub so_far : survey_from F left s at v ≡ survey_all F s
 
 -- where the pass begins
-pub pass_start : (F : Format) (s room : List ℕ) (f : Front) → Fronted F s f → entry_words ≤ length room → Passing F room s room f.left f.at 0 f.survey
+pub pass_start : (F : Format) (s room : List ℕ) (f : Front) → Fronted F s f → entry_words ≤ length room → Passing F room s room (length s - f.at) f.at 0 f.survey
 pass_start F s room f p roomy =
     record {
       standing = record { low = p.low; high = p.high; roomy = roomy; within = omega arith; spent = omega (arith, p.behind); even = refl };

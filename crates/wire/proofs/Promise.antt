@@ -16,6 +16,7 @@ use Rattle.wire.proofs.PlainLaws as plains
 use Rattle.wire.proofs.SizeLaws as sizes
 use Rattle.base.specs.Refusal.{number, node}
 use Rattle.base.specs.declared.Refusal.{Refusal}
+use Rattle.wire.proofs.FrontLaws as fronts
 use Rattle.wire.proofs.SurveyLaws as surveys
 use Rattle.std.specs.Prelude.{Some, None}
 use Rattle.wire.specs.declared.message.Step.TheVariants.{Read}
@@ -71,10 +72,10 @@ size-refused = layouts.layout_unsized
 
 -- Where a pass over the plain messages at the front ends with the datagram, there are no others, and it has all of them.
 pub front-layout : (F : Format) (s : List ℕ) (f : Front) → Fronted F s f → f.at ≡ length s → layout_of F s ≡ checked_of (Messages 0) []
-front-layout = surveys.front-layout
+front-layout = fronts.front-layout
 
 pub front-survey : (F : Format) (s : List ℕ) (f : Front) → Fronted F s f → f.at ≡ length s → survey_all F s ≡ f.survey
-front-survey = surveys.front-survey
+front-survey = fronts.front-survey
 
 -- The survey of the checks is that of all messages, unless it is refused.
 pub survey_passed : (F : Format) (s : List ℕ) → number_of (layout_of F s).layout ≡ 0 → survey_spec F s ≡ survey_all F s

@@ -1,23 +1,20 @@
 -- Laws of the survey: one turn of it, its end, and what a plain message adds to it and to the layout. Assumes nothing.
 use Prim.Native.Nat.{ℕ, zero, suc, ◌+◌, ◌-◌, ◌<◌, ◌≤◌, max}
 use native.Mathlib.Omega.{arith}
-use mathlib.Core.Path.{◌≡◌, refl, sym, ap, ◌∙◌}
-use mathlib.Core.List.{List, []}
+use mathlib.Core.Path.{◌≡◌, refl, ap, ◌∙◌}
+use mathlib.Core.List.{List}
 use mathlib.Core.Bool.{true, Bool, false}
 use lib.ListN.{length, drop, length-drop}
 use borrow.Author.Tests.{lt-ltb, le-ltb, eq-eqb, ltb-true, ltb-false}
-use Rattle.wire.specs.Limits.{min_size, max_size}
 use Rattle.wire.specs.Read.{step_at}
 use Rattle.wire.specs.Layout.{Checked, checked_of, number_of, layout_step, layout_from, layout_of}
-use Rattle.wire.specs.Steps.{plain_size, survey_of, no_survey, higher, acting, survey_step, survey_from, survey_all, survey_spec, Fronted, surveyed}
+use Rattle.wire.specs.Steps.{plain_size, survey_of, higher, acting, survey_step, survey_from, survey_all, survey_spec, surveyed}
 use Rattle.wire.specs.declared.message.Step.{Step}
 use Rattle.wire.specs.declared.message.Step.TheVariants.{End, Read}
 use Rattle.wire.specs.Layout.{Messages}
 use Rattle.wire.specs.declared.survey.Survey.{Survey}
-use Rattle.wire.specs.declared.pass.Front.{Front}
 use Rattle.wire.proofs.PlaceLaws.{place-least, not_none, none-reach}
-use Rattle.wire.proofs.LayoutLaws.{layout_sized}
-use Rattle.wire.proofs.ViewLaws.{View, the_end, refused, a_handshake, a_data, an_ack, a_have, an_integrity, a_request, a_cancel, a_choke, an_unchoke, view, end_is, an_empty}
+use Rattle.wire.proofs.ViewLaws.{View, the_end, refused, a_handshake, a_data, an_ack, a_have, an_integrity, a_request, a_cancel, a_choke, an_unchoke, end_is, an_empty}
 use Rattle.wire.specs.declared.message.Cursor.{Cursor}
 use Rattle.format.specs.declared.Format.{Format}
 use Rattle.wire.specs.declared.message.Message.{Message}
@@ -116,7 +113,7 @@ plain-surveyed F at v {t} (an_unchoke k l) h = acting-one F t v
 plain-surveyed F at v {t} (an_empty k g e l o) h = acting-none F (named_size F) t v o
 
 module _ (F : Format) (s : List ℕ) (at : ℕ) where
-  plain-layout : (es : List ℕ) (rest : List ℕ → ℕ → Checked) {t : List ℕ} {st : Step} → View F at t st → (plain_size F st ≡ 0 → ⊥) → layout_step s es at st rest ≡ rest es (at + plain_size F st)
+  pub plain-layout : (es : List ℕ) (rest : List ℕ → ℕ → Checked) {t : List ℕ} {st : Step} → View F at t st → (plain_size F st ≡ 0 → ⊥) → layout_step s es at st rest ≡ rest es (at + plain_size F st)
   plain-layout es rest (the_end l) h = absurd (h refl)
   plain-layout es rest refused h = absurd (h refl)
   plain-layout es rest (a_handshake k l o) h = absurd (h refl)
@@ -130,7 +127,7 @@ module _ (F : Format) (s : List ℕ) (at : ℕ) where
   plain-layout es rest (an_unchoke k l) h = refl
   plain-layout es rest (an_empty k g e l o) h = refl
 
-  plain-survey : (v : Survey) (rest : ℕ → Survey → Survey) {t : List ℕ} {st : Step} → View F at t st → (plain_size F st ≡ 0 → ⊥)
+  pub plain-survey : (v : Survey) (rest : ℕ → Survey → Survey) {t : List ℕ} {st : Step} → View F at t st → (plain_size F st ≡ 0 → ⊥)
       → survey_step F st v rest ≡ rest (at + plain_size F st) (acting F (plain_size F st) t v)
   plain-survey v rest (the_end l) h = absurd (h refl)
   plain-survey v rest refused h = absurd (h refl)
@@ -144,35 +141,3 @@ module _ (F : Format) (s : List ℕ) (at : ℕ) where
   plain-survey v rest (a_choke k l) h = ap (rest (at + 1)) (plain-surveyed F at v (a_choke k l) h)
   plain-survey v rest (an_unchoke k l) h = ap (rest (at + 1)) (plain-surveyed F at v (an_unchoke k l) h)
   plain-survey v rest (an_empty k g e l o) h = ap (rest (at + named_size F)) (plain-surveyed F at v (an_empty k g e l o) h)
-
--- ---- the front
-
-abbrev pub front_of : (at left : ℕ) → Survey → Front
-front_of at left v = record { at = at; left = left; survey = v }
-
--- where it begins
-pub front-start : (F : Format) (s : List ℕ) → min_size ≤ length s → length s ≤ max_size → {v : Survey} → v ≡ no_survey → Fronted F s (front_of min_size (length s) v)
-front-start F s low high e = record { low = low; high = high; behind = omega arith; layout = refl; survey = ap (survey_from F (length s) s min_size) e }
-
--- a plain message more
-pub front_on : (F : Format) (s : List ℕ) (at left : ℕ) (v : Survey) → Fronted F s (front_of at left v) → 0 < left → {n : ℕ} → n ≡ plain_size F (step_at F s at) → (n ≡ 0 → ⊥)
-    → {w : Survey} → w ≡ acting F n (drop at s) v → Fronted F s (front_of (at + n) (left - 1) w)
-front_on F s at left v f h {n} e g {w} p =
-    let z : plain_size F (step_at F s at) ≡ 0 → ⊥ = λ q. g (e ∙ q) in
-    let b : List ℕ → ℕ → Checked = λ gs x. layout_from F (left - 1) s gs x in
-    let c : ℕ → Survey → Survey = λ x u. survey_from F (left - 1) s x u in
-    record {
-      low = f.low;
-      high = f.high;
-      behind = omega (arith, f.behind);
-      layout = rw (e, ← plain-layout F s at [] b (view F at (drop at s)) z, ← layout-turn F left s [] at h) f.layout;
-      survey = rw (p, e, ← plain-survey F s at v c (view F at (drop at s)) z, ← survey-turn F left s at v h) f.survey;
-    }
-
--- none but plain messages
-module _ (F : Format) (s : List ℕ) (f : Front) (p : Fronted F s f) (e : f.at ≡ length s) where
-  pub front-layout : layout_of F s ≡ checked_of (Messages 0) []
-  front-layout = layout_sized F s p.low p.high ∙ sym p.layout ∙ layout-done F f.left s [] f.at 0 refl (λ h. omega (arith, e))
-
-  pub front-survey : survey_all F s ≡ f.survey
-  front-survey = sym p.survey ∙ survey-done F f.left s f.at f.survey (λ h. omega (arith, e))

@@ -265,5 +265,5 @@ pub record Fronted (F : Format) (s : List ℕ) (f : Front) : Type 0 where
   pub low : min_size ≤ length s
   pub high : length s ≤ max_size
   pub behind : min_size ≤ f.at
-  pub layout : layout_from F f.left s [] f.at ≡ layout_from F (length s) s [] min_size
-  pub survey : survey_from F f.left s f.at f.survey ≡ survey_all F s
+  pub layout : layout_from F (length s - f.at) s [] f.at ≡ layout_from F (length s) s [] min_size
+  pub survey : survey_from F (length s - f.at) s f.at f.survey ≡ survey_all F s

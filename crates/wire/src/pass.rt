@@ -22,12 +22,10 @@ pub struct Pass {
     pub survey: Survey,
 }
 
-// Where a pass stands behind the plain messages at the front: the place, how many messages there are at most from there
-// on, and the survey so far.
+// Where a pass stands behind the plain messages at the front: the place, and the survey so far.
 #[derive(Clone, Copy)]
 pub struct Front {
     pub at: usize,
-    pub left: usize,
     pub survey: Survey,
 }
 
@@ -40,22 +38,11 @@ pub fn plain_front(format: Format, datagram: &[u8]) -> Front
 {
     let mut at = MIN_SIZE;
     let mut survey = Survey::none();
-    for done in 0..datagram.len() {
-        let Some(size) = plain::size(format, datagram, at) else {
-            return Front {
-                at,
-                left: datagram.len() - done,
-                survey,
-            };
-        };
+    while let Some(size) = plain::size(format, datagram, at) {
         survey = survey.acting(format, &datagram[at..], size);
         at += size;
     }
-    Front {
-        at,
-        left: 0,
-        survey,
-    }
+    Front { at, survey }
 }
 
 // Where the pass stands: the place, how many words of the entries are written, and the survey so far.
@@ -189,7 +176,8 @@ fn pass_behind(
         entries: 0,
         survey: front.survey,
     };
-    for _ in 0..front.left {
+    // Each message has a byte at least.
+    for _ in front.at..datagram.len() {
         match take_turn(format, datagram, entries, reached)? {
             ControlFlow::Continue(next) => reached = next,
             ControlFlow::Break(pass) => return Ok(pass),

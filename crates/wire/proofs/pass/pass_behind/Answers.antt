@@ -1,6 +1,7 @@
 use Prim.Native.Nat.{◌+◌, ◌-◌}
 use mathlib.Core.Path.{◌≡◌, refl, ap}
 use native.Mathlib.Omega.{arith}
+use lib.ListN.{length}
 use Rattle.std.specs.Prelude.{Ok}
 use Rattle.std.proofs.Common.{ControlFlow}
 use Rattle.std.proofs.lemmas.Result.{err_from_is_err_and}
@@ -11,7 +12,7 @@ use Rattle.wire.proofs.PassLaws.{pass_start, pass_on, pass-over, pass-out}
 use Rattle.wire.proofs.pass.pass_behind.Goals as goal
 
 pub loop-init : goal.loop-init
-loop-init c = let q : c.args.front.left - 0 ≡ c.args.front.left = omega arith in rw q (pass_start _ _ _ _ c.requires.fronted c.requires.entry_words_in_bounds)
+loop-init c = pass_start _ _ _ _ c.requires.fronted c.requires.entry_words_in_bounds
 
 pub take_turn-requires : goal.take_turn-requires
 take_turn-requires c = c.loop.invariant.standing
@@ -26,7 +27,7 @@ returns-in-Break c = pass-over _ _ _ _ _ _ _ _ c.loop.invariant (omega arith) c.
 
 pub loop-preserved : goal.loop-preserved
 loop-preserved c =
-    let q : c.args.front.left - (c.loop.counter + 1) ≡ c.args.front.left - c.loop.counter - 1 = omega arith in
+    let q : length c.args.datagram.now - (c.loop.counter + 1) ≡ length c.args.datagram.now - c.loop.counter - 1 = omega arith in
     rw q (pass_on _ _ _ _ _ _ _ _ c.loop.invariant (omega arith) c.in_ok-next.ensures (ap (λ (x : ControlFlow src.Pass Reached). turn_said (Ok x)) c.in-Continue.is))
 
 pub returns : goal.returns
