@@ -1,18 +1,16 @@
 -- A datagram written message by message: what is encoded, what stands in the room. Assumes nothing.
-use Prim.Native.Nat.{ℕ, ◌+◌, ◌≤◌}
+use Prim.Native.Nat.{ℕ, ◌+◌}
 use native.Mathlib.Omega.{arith}
-use native.Mathlib.Nat.{add-zero}
 use mathlib.Core.Path.{◌≡◌, refl, sym, ap, ◌∙◌}
 use mathlib.Core.List.{List, [], ◌∷◌, ◌++◌, append_assoc, append-nil}
 use mathlib.Core.Bool.{true}
-use borrow.Author.Tests.{le-ltb}
 use lib.ListN.{length, length-append}
 use Rattle.format.specs.declared.Format.{Format}
-use Rattle.wire.proofs.Promise.{placed, min_size, max_size, placed-none, placed-then}
-use Rattle.base.specs.Out.{Out, out_of}
-use Rattle.writer.proofs.Promise.{begin_spec, bytes32, bytes_of, writable, size_of, Item, encode, message-size, size32}
+use Rattle.wire.proofs.Promise.{min_size}
+use Rattle.writer.specs.declared.place.Writer.{Writer}
+use Rattle.writer.proofs.Promise.{Wrote, wrote_none, wrote_then, wrote_as, bytes32, bytes_of, writable, size_of, Item, encode, message-size, size32}
 use Rattle.replies.specs.Replies.{datagram}
-use Rattle.replies.specs.Steps.{Stand}
+use Rattle.replies.specs.Steps.{Puts, Sends}
 
 -- ---- encoding
 
@@ -43,33 +41,27 @@ datagram-last F to is i w =
     let n = length-append (encode F is) (bytes_of F i.source i.message) in
     datagram-long F to (is ++ (i ∷ [])) ∙ rw (encode-last F is i) (omega (arith, m, n))
 
--- ---- the room
+-- ---- the messages in a room
 
--- A datagram begun in a room that is large enough is its destination at the room's front.
-begun : (room : List ℕ) (to : ℕ) → max_size ≤ length room → {n k : ℕ} {m : List ℕ} → out_of n k m ≡ begin_spec room to → m ≡ placed room 0 (bytes32 to)
-unfolding begin_spec
-begun room to h {n} {k} {m} e =
-    let f : out_of n k m ≡ out_of 0 min_size (placed room 0 (bytes32 to)) = rw (le-ltb (length room) max_size h) at e in
-    ap (λ (w : Out (List ℕ)). w.after) f
+-- No message.
+pub puts_none : (w : Writer) → Puts w [] w
+puts_none w = wrote_none w
 
--- A room as it was holds no message yet.
-pub stand_none : (F : Format) (old : List ℕ) (b : ℕ) → Stand F old b [] old b
-stand_none F old b = (sym (add-zero b), placed-none old b)
+-- A message's bytes are that message.
+pub puts_one : (w : Writer) (i : Item) {v : Writer} → Wrote w v (bytes_of w.format i.source i.message) → Puts w (i ∷ []) v
+puts_one w i e = wrote_as (sym (encode_one w.format i)) e
 
--- A message that was put stands alone.
-pub stand_one : (F : Format) (room : List ℕ) (at : ℕ) (i : Item) → writable F (length i.source) i.message ≡ true → {new : List ℕ} {r : ℕ}
-    → r ≡ at + size_of F i.message → new ≡ placed room at (bytes_of F i.source i.message) → Stand F room at (i ∷ []) new r
-stand_one F room at i w e p = rw (encode_one F i) (omega (arith, e, message-size F i.source i.message w), p)
+-- What was written by the format behind something was written by the format at its front.
+behind : {u v w : Writer} {s : List ℕ} (is : List Item) → Wrote u v s → Puts v is w → Wrote v w (encode u.format is)
+behind is p q = wrote_as (ap (λ (F : Format). encode F is) p.format) q
 
--- Messages put behind those that stand stand with them.
-pub stand_join : (F : Format) (old : List ℕ) (b : ℕ) (is js : List Item) {room new : List ℕ} {at r : ℕ} → Stand F old b is room at → Stand F room at js new r
-    → Stand F old b (is ++ js) new r
-stand_join F old b is js s t =
-    rw (encode-append F is js)
-    (omega (arith, length-append (encode F is) (encode F js), s.0, t.0), placed-then old b (encode F is) (encode F js) _ (sym s.0) s.1 t.1)
+-- Messages behind messages.
+pub puts_join : {u v w : Writer} (is js : List Item) → Puts u is v → Puts v js w → Puts u (is ++ js) w
+puts_join {u} is js p q = wrote_as (sym (encode-append u.format is js)) (wrote_then p (behind js p q))
 
--- Messages that stand behind a destination are a datagram with it.
-pub stand_datagram : (F : Format) (room : List ℕ) (to : ℕ) → max_size ≤ length room → {a k : ℕ} {m : List ℕ} → out_of a k m ≡ begin_spec room to
-    → (is : List Item) {n : List ℕ} {r : ℕ} → Stand F m min_size is n r → (r ≡ length (datagram F to is)) × (n ≡ placed room 0 (datagram F to is))
-stand_datagram F room to h b is s =
-    (s.0 ∙ sym (datagram-long F to is), placed-then room 0 (bytes32 to) (encode F is) min_size (rw size32) (begun room to h b) s.1)
+-- Messages behind a destination are a datagram with it.
+pub puts_datagram : {u v w : Writer} (to : ℕ) (is : List Item) → u.at ≡ 0 → Wrote u v (bytes32 to) → Puts v is w
+    → Sends u.room.now (datagram u.format to is) w.room.now w.at
+puts_datagram {u} {v} {w} to is z p q =
+    let e : Wrote u w (datagram u.format to is) = wrote_then p (behind is p q) in
+    (omega (arith, z, e.at), rw z at e.bytes)

@@ -12,12 +12,13 @@ use Rattle.format.specs.declared.Format.{Format}
 use Rattle.hash.proofs.Promise.{words, bytes_of as word_bytes, words-length, bytes-length, bytes_zeros, bytes-more}
 use Rattle.tree.proofs.Promise.{bin, first, last, first_chunk, first_plus_last}
 use Rattle.store.proofs.Promise.{hash_in, hash-length, hash-words}
-use Rattle.wire.proofs.Promise.{placed, named_size, integrity_size, place_most, placed-none, placed-then}
+use Rattle.wire.proofs.Promise.{integrity_size, place_most}
 use Rattle.wire.specs.declared.message.Message.TheVariants.{Integrity}
-use Rattle.writer.proofs.Promise.{bytes32, nameable, name_bytes, size_name, node-nameable, writable, size_of, bytes_of, encode, message-size, integrity-bytes}
+use Rattle.writer.specs.declared.place.Writer.{Writer}
+use Rattle.writer.proofs.Promise.{Wrote, wrote_none, wrote_then, wrote_as, bytes32, nameable, name_bytes, node-nameable, writable, size_of, bytes_of, encode, message-size, integrity-bytes}
 use Rattle.replies.specs.Replies.{hash_item}
-use Rattle.replies.specs.Steps.{Stand}
-use Rattle.replies.proofs.DatagramLaws.{stand_one}
+use Rattle.replies.specs.Steps.{Puts}
+use Rattle.replies.proofs.DatagramLaws.{puts_one}
 
 -- An INTEGRITY message can be written from the 32 bytes of its hash.
 integrity-writable : (F : Format) (n f l : ℕ) → n ≡ 32 → writable F n (Integrity f l 0) ≡ true
@@ -36,24 +37,27 @@ abbrev pub node_words : List ℕ → ℕ → List ℕ
 node_words hashes b = words 8 (hash_in hashes b)
 
 -- No word yet.
-pub words-none : (room : List ℕ) (at : ℕ) → room ≡ placed room at (word_bytes [])
-words-none room at = placed-none room at ∙ ap (placed room at) (sym (bytes_zeros 0))
+pub words-none : (w : Writer) → Wrote w w (word_bytes [])
+words-none w = wrote_as (sym (bytes_zeros 0)) (wrote_none w)
 
-module _ (hashes : List ℕ) (b : ℕ) (room : List ℕ) (at : ℕ) where
+-- The bytes of as many words.
+pub words-long : (hashes : List ℕ) (b j : ℕ) → j ≤ 8 → length (word_bytes (take j (node_words hashes b))) ≡ 4 * j
+words-long hashes b j h =
+    let l = words-length 8 (hash_in hashes b) in
+    bytes-length (take j (node_words hashes b)) ∙ ap (λ (n : ℕ). 4 * n) (length-take-le j (node_words hashes b) (omega arith))
+
+module _ (hashes : List ℕ) (b : ℕ) {w v : Writer} where
   -- One word more.
-  pub word_more : (j : ℕ) → j < 8 → {m n : List ℕ} {x : ℕ} → m ≡ placed room at (word_bytes (take j (node_words hashes b))) → x ≡ get_or (node_words hashes b) j 0
-      → n ≡ placed m (at + 4 * j) (bytes32 x) → n ≡ placed room at (word_bytes (take (j + 1) (node_words hashes b)))
+  pub word_more : (j : ℕ) → j < 8 → {u : Writer} {x : ℕ} → Wrote w v (word_bytes (take j (node_words hashes b))) → x ≡ get_or (node_words hashes b) j 0
+      → Wrote v u (bytes32 x) → Wrote w u (word_bytes (take (j + 1) (node_words hashes b)))
   unfolding bytes32
   word_more j h p e q =
       let l = words-length 8 (hash_in hashes b) in
-      let k = bytes-length (take j (node_words hashes b)) ∙ ap (λ (n : ℕ). 4 * n) (length-take-le j (node_words hashes b) (omega arith)) in
-      rw (add-one j, bytes-more (node_words hashes b) j (omega arith))
-      (placed-then room at (word_bytes (take j (node_words hashes b))) _ (at + 4 * j) (ap (λ (n : ℕ). at + n) k) p (rw e at q))
+      rw (add-one j, bytes-more (node_words hashes b) j (omega arith)) (wrote_then p (rw e at q))
 
-  -- The last word placed.
-  pub words-all : (j : ℕ) → 8 ≤ j → {m : List ℕ} → m ≡ placed room at (word_bytes (take j (node_words hashes b))) → m ≡ placed room at (hash_in hashes b)
-  words-all j h p =
-      p ∙ ap (placed room at) (ap word_bytes (take_all j (node_words hashes b) (omega (arith, words-length 8 (hash_in hashes b)))) ∙ hash-words hashes b)
+  -- The last word written.
+  pub words-all : Wrote w v (word_bytes (take 8 (node_words hashes b))) → Wrote w v (hash_in hashes b)
+  words-all p = wrote_as (ap word_bytes (take_all 8 (node_words hashes b) (omega (arith, words-length 8 (hash_in hashes b)))) ∙ hash-words hashes b) p
 
 -- ---- the items of nodes
 
@@ -102,14 +106,12 @@ module _ (h k : ℕ) {f l : ℕ} (e : f ≡ k * 2 ^ h) (g : l ≡ f + (2 ^ h - 1
   pub node-names : (F : Format) → k * 2 ^ h + 2 ^ h ≤ 2 ^ 31 → nameable F f l ≡ true
   node-names F s = rw (node-first, node-last) (node-nameable F (bin h (k * 2 ^ h)) (omega (arith, s, pow_pos h)))
 
-  -- They and its hash, put one behind the other, are its item.
-  pub node-put : (F : Format) (hashes room : List ℕ) (at : ℕ) {m n : List ℕ} → m ≡ placed room at (name_bytes F 4 f l)
-      → {s : ℕ} → s ≡ named_size F → n ≡ placed m (at + s) (hash_in hashes (f + l))
-      → Stand F room at (hash_item hashes (bin h (k * 2 ^ h)) ∷ []) n (at + (s + 32))
+  -- They and its hash, one behind the other, are its item.
+  pub node-put : (hashes : List ℕ) {w v u : Writer} → Wrote w v (name_bytes w.format 4 f l) → Wrote v u (hash_in hashes (f + l))
+      → Puts w (hash_item hashes (bin h (k * 2 ^ h)) ∷ []) u
   unfolding hash_item
-  node-put F hashes room at {m} {n} p {s} z q =
+  node-put hashes {w} p q =
       let b = bin h (k * 2 ^ h) in
-      let w : n ≡ placed m (at + s) (hash_in hashes b) = rw node-number at q in
-      stand_one F room at (hash_item hashes b) (item-writable F hashes b) (omega (arith, z, item-size F hashes b))
-      (rw (integrity-bytes F (hash_in hashes b) (first b) (last b) (hash-length hashes b))
-      (placed-then room at (name_bytes F 4 (first b) (last b)) (hash_in hashes b) (at + s) (rw (size_name F 4 (first b) (last b), z) refl) (rw (node-first, node-last) at p) w))
+      puts_one w (hash_item hashes b)
+      (wrote_as (sym (integrity-bytes w.format (hash_in hashes b) (first b) (last b) (hash-length hashes b)))
+      (wrote_then (rw (node-first, node-last) at p) (rw node-number at q)))

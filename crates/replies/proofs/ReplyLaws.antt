@@ -8,14 +8,14 @@ use borrow.Author.Tests.{le-leb}
 use lib.ListN.{length}
 use Rattle.format.specs.declared.Format.{Format}
 use Rattle.tree.proofs.Promise.{chunk_size, chunks, max_length, sent}
-use Rattle.wire.proofs.Promise.{placed, min_size, max_size, named_size, timed_size, place_most}
+use Rattle.wire.proofs.Promise.{min_size, max_size, timed_size, place_most}
 use Rattle.wire.specs.declared.message.Options.TheVariants.{Fixed}
 use Rattle.wire.specs.declared.message.Message.TheVariants.{Handshake, Data, Ack}
-use Rattle.base.specs.Out.{out_of}
-use Rattle.writer.proofs.Promise.{writable, writable_options, size_of, option_span, bytes_of, begin_spec, item_of}
+use Rattle.writer.specs.declared.place.Writer.{Writer}
+use Rattle.writer.proofs.Promise.{Wrote, bytes32, writable, writable_options, size_of, option_span, bytes_of, item_of}
 use Rattle.replies.specs.Replies.{handshake_items, handshake_reply, ack_items, ack_reply, chunk_items, chunk_reply}
-use Rattle.replies.specs.Steps.{handshake_size, node_items, Stand}
-use Rattle.replies.proofs.DatagramLaws.{datagram-last, stand_one, stand_join, stand_datagram}
+use Rattle.replies.specs.Steps.{handshake_size, node_items, Puts, Sends}
+use Rattle.replies.proofs.DatagramLaws.{datagram-last, puts_one, puts_join, puts_datagram}
 use Rattle.replies.proofs.SendingLaws.{sent-long}
 
 -- ---- what can be written, and its size
@@ -55,34 +55,28 @@ pub handshake_puts : (n s : ℕ) → max_size ≤ n → s ≡ 32 → (min_size +
 unfolding option_span writable_options
 handshake_puts n s h e = (omega arith, rw e refl)
 
--- ---- the replies
+-- ---- the replies: what is put behind the destination
 
-module _ (F : Format) (room : List ℕ) (to : ℕ) (large : max_size ≤ length room) {a k : ℕ} {m : List ℕ} (begins : out_of a k m ≡ begin_spec room to) where
-  -- A HANDSHAKE put behind the destination, from a root's bytes, is our HANDSHAKE.
-  pub handshake-done : (source : ℕ) {s w : List ℕ} → s ≡ w → length s ≡ 32 → {n : List ℕ} → n ≡ placed m min_size (bytes_of F s (Handshake source (Fixed 0)))
-      → (min_size + handshake_size ≡ length (handshake_reply F to source w)) × (n ≡ placed room 0 (handshake_reply F to source w))
+module _ {w v : Writer} (to : ℕ) (z : w.at ≡ 0) (begins : Wrote w v (bytes32 to)) where
+  -- our HANDSHAKE, from a root's bytes
+  pub handshake-done : (source : ℕ) {s r : List ℕ} → s ≡ r → {u : Writer} → Wrote v u (bytes_of v.format s (Handshake source (Fixed 0)))
+      → Sends w.room.now (handshake_reply w.format to source r) u.room.now u.at
   unfolding handshake_reply
-  handshake-done source {s} e h p =
-      rw (← e) (stand_datagram F room to large begins (handshake_items source s)
-      (stand_one F m min_size (item_of s (Handshake source (Fixed 0))) (handshake-writable F (length s) source h) (rw handshake-size) p))
+  handshake-done source {s} e p =
+      rw (← e) (puts_datagram to (handshake_items source s) z begins (puts_one v (item_of s (Handshake source (Fixed 0))) p))
 
-  -- An ACK put behind the destination is our ACK.
-  pub ack-done : (f l d : ℕ) {n : List ℕ} {s : ℕ} → s ≡ named_size F → n ≡ placed m min_size (bytes_of F [] (Ack f l d))
-      → (min_size + (s + 8) ≡ length (ack_reply F to f l d)) × (n ≡ placed room 0 (ack_reply F to f l d))
+  -- our ACK
+  pub ack-done : (f l d : ℕ) {u : Writer} → Wrote v u (bytes_of v.format [] (Ack f l d)) → Sends w.room.now (ack_reply w.format to f l d) u.room.now u.at
   unfolding ack_reply
-  ack-done f l d z p =
-      stand_datagram F room to large begins (ack_items f l d) (stand_one F m min_size (item_of [] (Ack f l d)) (ack-writable F 0 f l d) (omega (arith, z, ack-size F f l d)) p)
+  ack-done f l d p = puts_datagram to (ack_items f l d) z begins (puts_one v (item_of [] (Ack f l d)) p)
 
-  -- The hashes that go out with a chunk put behind the destination, and DATA behind them, are the chunk's datagram.
-  pub chunk-done : (hashes : List ℕ) (N c time : ℕ) (bytes : List ℕ) {x n : List ℕ} {q s : ℕ} → s ≡ named_size F
-      → Stand F m min_size (node_items hashes (sent N c)) x q → n ≡ placed x q (bytes_of F bytes (Data c c time 0 (length bytes)))
-      → (q + (s + 8) + length bytes ≡ length (chunk_reply F hashes to N c time bytes)) × (n ≡ placed room 0 (chunk_reply F hashes to N c time bytes))
+  -- the hashes that go out with a chunk, and DATA behind them
+  pub chunk-done : (hashes : List ℕ) (N c time : ℕ) (bytes : List ℕ) {u x : Writer} → Puts v (node_items hashes (sent N c)) u
+      → Wrote u x (bytes_of u.format bytes (Data c c time 0 (length bytes))) → Sends w.room.now (chunk_reply w.format hashes to N c time bytes) x.room.now x.at
   unfolding chunk_reply
-  chunk-done hashes N c time bytes {x} {q = q} z s p =
+  chunk-done hashes N c time bytes {u} s p =
       let i = item_of bytes (Data c c time 0 (length bytes)) in
-      stand_datagram F room to large begins (chunk_items hashes N c time bytes)
-      (stand_join F m min_size (node_items hashes (sent N c)) (i ∷ []) s
-      (stand_one F x q i (data_writable F (length bytes) c time) (omega (arith, z, data_size F c time 0 (length bytes))) p))
+      puts_datagram to (chunk_items hashes N c time bytes) z begins (puts_join (node_items hashes (sent N c)) (i ∷ []) s (puts_one u i p))
 
 -- ---- their lengths
 

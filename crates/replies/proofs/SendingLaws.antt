@@ -12,11 +12,12 @@ use Rattle.base.specs.Pick.{pick}
 use Rattle.format.specs.declared.Format.{Format}
 use Rattle.tree.proofs.Promise as tree
 use Rattle.tree.proofs.Promise.{chunk_size, max_length, chunks, levels, Node, num, bin, above, sibling_from, sent, sent_below, sent_heights, sent-none, sent-at, sibling_at, peak_turn, sibling_turn}
-use Rattle.wire.proofs.Promise.{min_size, everything_bin, placed-length}
+use Rattle.wire.proofs.Promise.{everything_bin}
+use Rattle.writer.specs.declared.place.Writer.{Writer}
 use Rattle.writer.proofs.Promise.{Item, encode}
 use Rattle.replies.specs.Replies.{hash_item}
-use Rattle.replies.specs.Steps.{node_items, Stand}
-use Rattle.replies.proofs.DatagramLaws.{stand_none, stand_join}
+use Rattle.replies.specs.Steps.{node_items, Puts}
+use Rattle.replies.proofs.DatagramLaws.{puts_none, puts_join}
 use Rattle.replies.proofs.HashLaws.{most_integrity, items-long}
 
 -- At most 20 nodes go out with a chunk: a pack has at most 2 ^ 9 chunks.
@@ -49,63 +50,56 @@ module _ (F : Format) (hashes : List ℕ) where
   nodes-append : (ms ns : List Node) → node_items hashes (ms ++ ns) ≡ node_items hashes ms ++ node_items hashes ns
   nodes-append ms ns = ap (map (hash_item hashes)) (map-append num ms ns) ∙ map-append (hash_item hashes) (map num ms) (map num ns)
 
-  -- The heights from h on are put behind the destination: `done` stands there, and the lower heights add the rest of what
-  -- goes out.
-  pub record DoneFrom (N c : ℕ) (old room : List ℕ) (at h : ℕ) : Type 0 where
-    pub done : List Node
-    pub whole : done ++ sent_below N c h ≡ sent N c
-    pub stand : Stand F old min_size (node_items hashes done) room at
+-- The heights from h on are put: `done` is there, and the lower heights add the rest of what goes out.
+pub record DoneFrom (hashes : List ℕ) (N c : ℕ) (w v : Writer) (h : ℕ) : Type 0 where
+  pub done : List Node
+  pub whole : done ++ sent_below N c h ≡ sent N c
+  pub puts : Puts w (node_items hashes done) v
 
-  module _ (N c : ℕ) (old : List ℕ) where
-    pub done_none : {t : ℕ} → t ≡ levels N → DoneFrom N c old old min_size (t + 1)
-    done_none {t} e = record {
-      done = [];
-      whole = ap (sent_below N c) (add-one t ∙ ap suc e) ∙ sym (sent_heights N c);
-      stand = stand_none F old min_size;
-    }
+module _ (hashes : List ℕ) (N c : ℕ) {w : Writer} where
+  pub done_none : {t : ℕ} → t ≡ levels N → DoneFrom hashes N c w w (t + 1)
+  done_none {t} e = record {
+    done = [];
+    whole = ap (sent_below N c) (add-one t ∙ ap suc e) ∙ sym (sent_heights N c);
+    puts = puts_none w;
+  }
 
-    module _ {room : List ℕ} {at : ℕ} (h : ℕ) (d : DoneFrom N c old room at h) where
-      pub done-room : length room ≡ length old
-      done-room = placed-length old min_size _ d.stand.1
+  module _ {v : Writer} (h : ℕ) (d : DoneFrom hashes N c w v h) where
+    -- At most 20 messages stand so far.
+    pub done-few : N ≤ chunks chunk_size max_length → v.at ≤ w.at + most_integrity * 20
+    done-few l =
+        omega (arith, d.puts.at, nodes-long w.format hashes d.done, ap length d.whole, length-append d.done (sent_below N c h), sent_few N c l)
 
-      -- At most 20 messages stand so far.
-      pub done-few : N ≤ chunks chunk_size max_length → at ≤ min_size + most_integrity * 20
-      done-few l =
-          omega (arith, d.stand.0, nodes-long d.done, ap length d.whole, length-append d.done (sent_below N c h), sent_few N c l)
+    pub done_more : 0 < h → {g : ℕ} → g ≡ h - 1 → {u x : Writer} → Puts v (node_items hashes (sibling_turn N c g)) u
+        → Puts u (node_items hashes (peak_turn N g)) x → DoneFrom hashes N c w x g
+    done_more l {g} q s p =
+        let S = sibling_turn N c g in
+        let P = peak_turn N g in
+        let e : node_items hashes d.done ++ (node_items hashes S ++ node_items hashes P) ≡ node_items hashes (d.done ++ (S ++ P)) =
+        ap (λ (is : List Item). node_items hashes d.done ++ is) (sym (nodes-append w.format hashes S P)) ∙ sym (nodes-append w.format hashes d.done (S ++ P)) in
+        let b : sent_below N c h ≡ S ++ (P ++ sent_below N c g) = rw q (sent-at N c h l) in
+        record {
+          done = d.done ++ (S ++ P);
+          whole =
+              append_assoc d.done (S ++ P) (sent_below N c g)
+              ∙ ap (λ (ns : List Node). d.done ++ ns) (append_assoc S P (sent_below N c g) ∙ sym b)
+              ∙ d.whole;
+          puts = rw e at (puts_join (node_items hashes d.done) (node_items hashes S ++ node_items hashes P) d.puts (puts_join (node_items hashes S) (node_items hashes P) s p));
+        }
 
-      pub done_more : 0 < h → {room' : List ℕ} {at' : ℕ} {room'' : List ℕ} {at'' : ℕ}
-          → Stand F room at (node_items hashes (sibling_turn N c (h - 1))) room' at'
-          → Stand F room' at' (node_items hashes (peak_turn N (h - 1))) room'' at''
-          → DoneFrom N c old room'' at'' (h - 1)
-      done_more l s p =
-          let S = sibling_turn N c (h - 1) in
-          let P = peak_turn N (h - 1) in
-          let e : node_items hashes (d.done ++ (S ++ P)) ≡ node_items hashes d.done ++ (node_items hashes S ++ node_items hashes P) =
-          nodes-append d.done (S ++ P) ∙ ap (λ (is : List Item). node_items hashes d.done ++ is) (nodes-append S P) in
-          record {
-            done = d.done ++ (S ++ P);
-            whole =
-                append_assoc d.done (S ++ P) (sent_below N c (h - 1))
-                ∙ ap (λ (ns : List Node). d.done ++ ns) (append_assoc S P (sent_below N c (h - 1)) ∙ sym (sent-at N c h l))
-                ∙ d.whole;
-            stand = rw e (stand_join F old min_size (node_items hashes d.done) (node_items hashes S ++ node_items hashes P) d.stand (stand_join F room at (node_items hashes S) (node_items hashes P) s p));
-          }
-
-      pub done_all : h ≡ 0 → Stand F old min_size (node_items hashes (sent N c)) room at
-      done_all z =
-          let e : d.done ≡ sent N c = rw (z, sent-none N c, append-nil) at d.whole in
-          rw e at d.stand
+    pub done_all : h ≡ 0 → Puts w (node_items hashes (sent N c)) v
+    done_all z =
+        let e : d.done ≡ sent N c = rw (z, sent-none N c, append-nil) at d.whole in
+        rw e at d.puts
 
 -- ---- one node, or none
 
-module _ (F : Format) (hashes : List ℕ) where
-  module _ (n : Node) (t : Bool) (room : List ℕ) (at : ℕ) where
-    turn-none : t ≡ false → Stand F room at (node_items hashes (pick t (n ∷ []) [])) room at
-    turn-none f = rw f (stand_none F room at)
+module _ (hashes : List ℕ) {w : Writer} (n : Node) (t : Bool) where
+  turn-none : t ≡ false → Puts w (node_items hashes (pick t (n ∷ []) [])) w
+  turn-none f = rw f (puts_none w)
 
-    turn-put : t ≡ true → {b : ℕ} → b ≡ num n → {new : List ℕ} {r : ℕ} → Stand F room at (hash_item hashes b ∷ []) new r
-        → Stand F room at (node_items hashes (pick t (n ∷ []) [])) new r
-    turn-put f e s = rw (f, ← e) s
+  turn-put : t ≡ true → {b : ℕ} → b ≡ num n → {v : Writer} → Puts w (hash_item hashes b ∷ []) v → Puts w (node_items hashes (pick t (n ∷ []) [])) v
+  turn-put f e s = rw (f, ← e) s
 
 -- The sibling of height h, by the code's test.
 module _ (N c h : ℕ) {t : Bool} (e : t ≡ leb (above (h + 1) c + 2 ^ (h + 1)) N) where
@@ -115,23 +109,23 @@ module _ (N c h : ℕ) {t : Bool} (e : t ≡ leb (above (h + 1) c + 2 ^ (h + 1))
   pub sibling-fits : t ≡ true → (k : ℕ) → k * 2 ^ h ≡ sibling_from h c → k * 2 ^ h + 2 ^ h ≤ N
   sibling-fits f k i = rw i (tree.sibling-inside N c h (sym test ∙ f))
 
-  module _ (F : Format) (hashes room : List ℕ) (at : ℕ) where
-    pub sibling-none : t ≡ false → Stand F room at (node_items hashes (sibling_turn N c h)) room at
-    sibling-none f = turn-none F hashes _ _ room at (sym test ∙ f)
+  module _ (hashes : List ℕ) {w : Writer} where
+    pub sibling-none : t ≡ false → Puts w (node_items hashes (sibling_turn N c h)) w
+    sibling-none f = turn-none hashes _ _ (sym test ∙ f)
 
-    pub sibling-put : t ≡ true → (k : ℕ) → k * 2 ^ h ≡ sibling_from h c → {new : List ℕ} {r : ℕ}
-        → Stand F room at (hash_item hashes (bin h (k * 2 ^ h)) ∷ []) new r → Stand F room at (node_items hashes (sibling_turn N c h)) new r
-    sibling-put f k i s = turn-put F hashes _ _ room at (sym test ∙ f) (ap (bin h) i) s
+    pub sibling-put : t ≡ true → (k : ℕ) → k * 2 ^ h ≡ sibling_from h c → {v : Writer}
+        → Puts w (hash_item hashes (bin h (k * 2 ^ h)) ∷ []) v → Puts w (node_items hashes (sibling_turn N c h)) v
+    sibling-put f k i s = turn-put hashes _ _ (sym test ∙ f) (ap (bin h) i) s
 
 -- The peak of height h, likewise.
 module _ (N h : ℕ) {s : ℕ} (e : s ≡ N / 2 ^ h % 2) where
   pub peak-fits : s ≡ 1 → (k : ℕ) → k * 2 ^ h ≡ above (suc h) N → k * 2 ^ h + 2 ^ h ≤ N
   peak-fits f k i = rw i (tree.peak-inside N h (eq-eqb (N / 2 ^ h % 2) 1 (sym e ∙ f)))
 
-  module _ (F : Format) (hashes room : List ℕ) (at : ℕ) where
-    pub peak-none : (s ≡ 1 → ⊥) → Stand F room at (node_items hashes (peak_turn N h)) room at
-    peak-none f = turn-none F hashes _ _ room at (ne_eqb (N / 2 ^ h % 2) 1 (λ g. f (e ∙ g)))
+  module _ (hashes : List ℕ) {w : Writer} where
+    pub peak-none : (s ≡ 1 → ⊥) → Puts w (node_items hashes (peak_turn N h)) w
+    peak-none f = turn-none hashes _ _ (ne_eqb (N / 2 ^ h % 2) 1 (λ g. f (e ∙ g)))
 
-    pub peak-put : s ≡ 1 → (k : ℕ) → k * 2 ^ h ≡ above (suc h) N → {new : List ℕ} {r : ℕ}
-        → Stand F room at (hash_item hashes (bin h (k * 2 ^ h)) ∷ []) new r → Stand F room at (node_items hashes (peak_turn N h)) new r
-    peak-put f k i p = turn-put F hashes _ _ room at (eq-eqb (N / 2 ^ h % 2) 1 (sym e ∙ f)) (ap (bin h) i) p
+    pub peak-put : s ≡ 1 → (k : ℕ) → k * 2 ^ h ≡ above (suc h) N → {v : Writer}
+        → Puts w (hash_item hashes (bin h (k * 2 ^ h)) ∷ []) v → Puts w (node_items hashes (peak_turn N h)) v
+    peak-put f k i p = turn-put hashes _ _ (eq-eqb (N / 2 ^ h % 2) 1 (sym e ∙ f)) (ap (bin h) i) p

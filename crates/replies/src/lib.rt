@@ -2,28 +2,22 @@
 // the reply room, and what stands past it stays.
 #![tactic(auto)]
 
-ghost use Rattle.std.specs.Prelude.{◌≡◌, [], ◌∷◌, true, ◌+◌, ◌*◌, ◌≤◌, ◌<◌, ◌^◌, length};
+ghost use Rattle.std.specs.Prelude.{◌≡◌, [], ◌∷◌, true, ◌*◌, ◌+◌, ◌≤◌, ◌<◌, ◌^◌, length};
 ghost use Rattle.hash.proofs.Promise.{bytes_of};
 ghost use Rattle.tree.proofs.Promise.{bin, chunk_size, chunks, max_length, sent, sibling_turn, peak_turn};
 ghost use Rattle.store.proofs.Promise.{hash_in};
-ghost use Rattle.wire.proofs.Promise.{placed, min_size, max_size, integrity_size};
-ghost use Rattle.writer.proofs.Promise.{nameable};
+ghost use Rattle.wire.proofs.Promise.{min_size, max_size, integrity_size};
+ghost use Rattle.writer.proofs.Promise.{Free, Wrote, nameable};
 ghost use Rattle.replies.specs.Replies.{handshake_reply, ack_reply, hash_item, chunk_reply};
-ghost use Rattle.replies.specs.Steps.{node_items, Stand};
+ghost use Rattle.replies.specs.Steps.{node_items, Puts, Sends};
 
 use format::Format;
 use hash::value;
 use hash::value::HashValue;
 use tree::{bin, pack, peaks};
 use verdict::room;
-use wire::limits::MIN_SIZE;
 use wire::message::Options;
-use wire::options::FIXED_SIZE;
-use wire::range;
-use writer::{add, place, put};
-
-// The size of a HANDSHAKE: its type and source, and the fixed options.
-const HANDSHAKE_SIZE: usize = 5 + FIXED_SIZE;
+use writer::place::Writer;
 
 // Our HANDSHAKE from a source channel, with the fixed options around the root; its length.
 pub fn handshake(
@@ -34,21 +28,17 @@ pub fn handshake(
     root: HashValue,
 ) -> usize
     requires { max_size ≤ length reply.old }
-    ensures { (result ≡ length (handshake_reply format destination source (bytes_of root.words)))
-        × (reply.new
-        ≡ placed reply.old 0 (handshake_reply format destination source (bytes_of root.words))) }
+    ensures { Sends reply.old (handshake_reply format destination source (bytes_of root.words))
+        reply.new result }
 {
-    let bytes = value::bytes(root);
-    add::begin(reply, destination);
-    put::put_handshake(
-        reply,
-        MIN_SIZE,
+    let mut writer = Writer {
+        room: reply,
+        at: 0,
         format,
-        source,
-        Options::Fixed { root: 0 },
-        &bytes,
-    );
-    MIN_SIZE + HANDSHAKE_SIZE
+    };
+    writer.number32(destination);
+    writer.put_handshake(source, Options::Fixed { root: 0 }, &value::bytes(root));
+    writer.at
 }
 
 // An ACK of the chunks from first to last, which the method names; its length.
@@ -62,88 +52,73 @@ pub fn ack(
 ) -> usize
     requires max_size_in_bounds { max_size ≤ length reply.old }
     requires last_value { nameable format first last ≡ true }
-    ensures { (result ≡ length (ack_reply format destination first last delay))
-        × (reply.new ≡ placed reply.old 0 (ack_reply format destination first last delay)) }
+    ensures { Sends reply.old (ack_reply format destination first last delay) reply.new result }
 {
-    add::begin(reply, destination);
-    put::put_ack(reply, MIN_SIZE, format, first, last, delay, b"");
-    MIN_SIZE + (range::named_size(format) + 8)
+    let mut writer = Writer {
+        room: reply,
+        at: 0,
+        format,
+    };
+    writer.number32(destination);
+    writer.put_ack(first, last, delay);
+    writer.at
 }
 
-// The hash of node b at a place of the room. Each word is read right before it is placed: the compiler then makes one
-// store of its four.
-fn put_hash(reply: &mut [u8], at: usize, hashes: &[u32], b: u64)
-    requires { at + 32 ≤ length reply.old }
-    ensures { reply.new ≡ placed reply.old at (hash_in hashes.now b) }
+// The hash of node b. Each word is read right before it is written: the compiler then makes one store of its four bytes.
+fn put_hash(writer: &mut Writer<'_>, hashes: &[u32], b: u64)
+    requires { Free writer.old 32 }
+    ensures { Wrote writer.old writer.new (hash_in hashes.now b) }
 {
-    let mut j: usize = 0;
-    while j < 8 {
-        place::place32(reply, at + 4 * j, room::word(hashes, b, j));
-        j = j + 1;
+    for j in 0..8 {
+        writer.number32(room::word(hashes, b, j));
     }
 }
 
-// The INTEGRITY of the k-th node of height h at a place of the room; the place behind it.
-fn put_node(reply: &mut [u8], at: usize, format: Format, hashes: &[u32], h: u32, k: u64) -> usize
-    requires format_in_bounds { at + integrity_size format ≤ length reply.old }
+// The INTEGRITY of the k-th node of height h.
+fn put_node(writer: &mut Writer<'_>, hashes: &[u32], h: u32, k: u64)
+    requires free { Free writer.old (integrity_size writer.old.format) }
     requires h_bound { (h < 60) × (k * 2 ^ h + 2 ^ h ≤ 2 ^ 31) }
-    ensures { Stand format reply.old at (hash_item hashes.now (bin h (k * 2 ^ h)) ∷ []) reply.new result }
+    ensures { Puts writer.old (hash_item hashes.now (bin h (k * 2 ^ h)) ∷ []) writer.new }
 {
     let w = bin::pow2(h);
     let first = k * w;
     let last = first + (w - 1);
-    let named = range::named_size(format);
-    place::place_name(reply, at, format, 4, first as u32, last as u32);
-    put_hash(reply, at + named, hashes, first + last);
-    at + (named + 32)
+    writer.name(4, first as u32, last as u32);
+    put_hash(writer, hashes, first + last);
 }
 
 // The sibling of height h, if it goes out with chunk c of n.
-fn put_sibling(
-    reply: &mut [u8],
-    at: usize,
-    format: Format,
-    hashes: &[u32],
-    n: u32,
-    c: u32,
-    h: u32,
-) -> usize
-    requires format_in_bounds { (at + integrity_size format ≤ length reply.old) × (h < 59) }
+fn put_sibling(writer: &mut Writer<'_>, hashes: &[u32], n: u32, c: u32, h: u32)
+    requires free { Free writer.old (integrity_size writer.old.format) × (h < 59) }
     requires n_bound { n ≤ chunks chunk_size max_length }
-    ensures { Stand format reply.old at (node_items hashes.now (sibling_turn n c h)) reply.new result }
+    ensures { Puts writer.old (node_items hashes.now (sibling_turn n c h)) writer.new }
 {
-    if !peaks::inside(n, c, h + 1) {
-        return at;
+    if peaks::inside(n, c, h + 1) {
+        put_node(writer, hashes, h, peaks::sibling_index(c, h));
     }
-    put_node(reply, at, format, hashes, h, peaks::sibling_index(c, h))
 }
 
 // The peak of height h, if n has one.
-fn put_peak(reply: &mut [u8], at: usize, format: Format, hashes: &[u32], n: u32, h: u32) -> usize
-    requires format_in_bounds { (at + integrity_size format ≤ length reply.old) × (h < 59) }
+fn put_peak(writer: &mut Writer<'_>, hashes: &[u32], n: u32, h: u32)
+    requires free { Free writer.old (integrity_size writer.old.format) × (h < 59) }
     requires n_bound { n ≤ chunks chunk_size max_length }
-    ensures { Stand format reply.old at (node_items hashes.now (peak_turn n h)) reply.new result }
+    ensures { Puts writer.old (node_items hashes.now (peak_turn n h)) writer.new }
 {
-    if peaks::side(n, h) != 1 {
-        return at;
+    if peaks::side(n, h) == 1 {
+        put_node(writer, hashes, h, peaks::peak_index(n, h));
     }
-    put_node(reply, at, format, hashes, h, peaks::peak_index(n, h))
 }
 
-// The hashes that go out with chunk c of n behind the destination, height by height from the top; the place behind them.
-fn put_hashes(reply: &mut [u8], format: Format, hashes: &[u32], n: u32, c: u32) -> usize
-    requires max_size_in_bounds { max_size ≤ length reply.old }
+// The hashes that go out with chunk c of n behind the destination, height by height from the top.
+fn put_hashes(writer: &mut Writer<'_>, hashes: &[u32], n: u32, c: u32)
+    requires behind { (writer.old.at ≡ min_size) × (max_size ≤ length writer.old.room.now) }
     requires n_bound { n ≤ chunks chunk_size max_length }
-    ensures { Stand format reply.old min_size (node_items hashes.now (sent n c)) reply.new result }
+    ensures { Puts writer.old (node_items hashes.now (sent n c)) writer.new }
 {
-    let mut at: usize = MIN_SIZE;
-    let mut h = pack::levels(n) + 1;
-    while 0 < h {
-        h = h - 1;
-        at = put_sibling(reply, at, format, hashes, n, c, h);
-        at = put_peak(reply, at, format, hashes, n, h);
+    for h in (0..=pack::levels(n)).rev() {
+        put_sibling(writer, hashes, n, c, h);
+        put_peak(writer, hashes, n, h);
     }
-    at
 }
 
 // The datagram of chunk c of n: the hashes that go out with it, in the sending order, then DATA; its length.
@@ -161,12 +136,16 @@ pub fn chunk(
     requires n_bound { n ≤ chunks chunk_size max_length }
     requires bytes_len_bound { length bytes.now ≤ chunk_size }
     requires c_lt_n { c < n }
-    ensures { (result ≡ length (chunk_reply format hashes.now destination n c timestamp bytes.now))
-        × (reply.new
-        ≡ placed reply.old 0 (chunk_reply format hashes.now destination n c timestamp bytes.now)) }
+    ensures { Sends reply.old
+        (chunk_reply format hashes.now destination n c timestamp bytes.now) reply.new result }
 {
-    add::begin(reply, destination);
-    let at = put_hashes(reply, format, hashes, n, c);
-    put::put_data(reply, at, format, c, c, timestamp, 0, bytes.len(), bytes);
-    at + (range::named_size(format) + 8) + bytes.len()
+    let mut writer = Writer {
+        room: reply,
+        at: 0,
+        format,
+    };
+    writer.number32(destination);
+    put_hashes(&mut writer, hashes, n, c);
+    writer.put_data(c, c, timestamp, 0, bytes.len(), bytes);
+    writer.at
 }

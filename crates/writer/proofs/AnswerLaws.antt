@@ -232,6 +232,3 @@ module _ (F : Format) (to len a : ℕ) (o : Options) where
 pub on_accepted : {A : Type 0} (r : Result A Refusal) {P : Type 0} → (answer_of r ≡ 0 → P) → OnOk r P
 on_accepted (Ok x) h = h refl
 on_accepted (Err e) h = tt
-
-pub then_same : {A : Type 0} {x y z : A} → y ≡ z → x ≡ y → x ≡ z
-then_same e d = d ∙ e

@@ -30,7 +30,9 @@ pub use Rattle.writer.specs.Lists.{Item, item_of, encode, HasWidths, AllHaveWidt
 unfoldable pub use Rattle.writer.specs.Lists.{read_from}
 unfoldable pub use Rattle.writer.specs.Steps.{size_of, option_span}
 pub use Rattle.writer.specs.Steps.{allowed, fault_behind}
+pub use Rattle.writer.specs.Writer.{Free, Wrote}
 pub use Rattle.writer.proofs.PlaceLaws.{size32, size_name}
+pub use Rattle.writer.proofs.WriterLaws.{wrote_none, wrote_then, wrote_as, then_same}
 pub use Rattle.writer.proofs.NumberLaws.{be32-fits}
 pub use Rattle.writer.proofs.NameLaws.{ranges_name, bins_name, node-covers, node-nameable, chunk-nameable, not_everything}
 pub use Rattle.writer.proofs.RoundTrips.{Plain, rewritable}

@@ -33,6 +33,10 @@ wrote_then {u} {v} {w} {s} {t} p q = record {
 pub wrote_as : {w v : Writer} {s t : List ℕ} → s ≡ t → Wrote w v s → Wrote w v t
 wrote_as e h = rw e at h
 
+-- What is known of a value, of one that is the same by a proof found last.
+pub then_same : {A : Type 0} {x y z : A} → y ≡ z → x ≡ y → x ≡ z
+then_same e d = d ∙ e
+
 -- ---- one run
 
 -- a slice copied into the room

@@ -3,13 +3,10 @@ use native.Mathlib.Omega.{arith}
 use mathlib.Core.Path.{◌≡◌, sym, ◌∙◌}
 use lib.ListN.{length}
 use borrow.Author.Rules.{rules}
-use Rattle.effects.specs.Effects.{Peer}
+use Rattle.writer.proofs.Promise.{then_same}
 use Rattle.effects.specs.Steps.{peer_in}
 use Rattle.effects.proofs.EffectLaws.{turn-effects, over_effects, effects-none}
 use Rattle.effects.proofs.apply.Goals as goal
-
-then_same : {x y z : Peer} → y ≡ z → x ≡ y → x ≡ z
-then_same e d = d ∙ e
 
 pub returns-in-None : goal.returns-in-None
 returns-in-None c =

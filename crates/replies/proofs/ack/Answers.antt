@@ -1,10 +1,13 @@
 use native.Mathlib.Omega.{arith}
+use mathlib.Core.Path.{refl}
+use borrow.Author.Rules.{rules}
 use Rattle.wire.proofs.Promise.{place_most}
+use Rattle.writer.proofs.Promise.{size32, then_same}
 use Rattle.replies.proofs.ReplyLaws.{ack-done}
 use Rattle.replies.proofs.ack.Goals as goal
 
-pub put_ack-requires : goal.put_ack-requires
-put_ack-requires c = record { format_in_bounds = omega (arith, c.requires.max_size_in_bounds, c.begin.auto, place_most c.args.format); last_value = c.requires.last_value }
+pub put_ack-requires-clause-free : goal.put_ack-requires-clause-free
+put_ack-requires-clause-free c = omega (arith, c.requires.max_size_in_bounds, size32 c.args.destination, place_most c.number32.new.self.format)
 
 pub returns : goal.returns
-returns c = ack-done _ _ _ c.requires.max_size_in_bounds c.begin.ensures _ _ _ c.named_size.ensures.0 c.put_ack.ensures
+returns c = let e = ack-done c.args.destination refl c.number32.ensures _ _ _ c.put_ack.ensures in (e.0, then_same e.1 (search rules))

@@ -1,10 +1,15 @@
 use native.Mathlib.Omega.{arith}
-use Rattle.replies.proofs.ReplyLaws.{handshake_puts, handshake-done}
+use mathlib.Core.Path.{refl}
 use borrow.Author.Rules.{rules}
+use Rattle.writer.proofs.Promise.{size32, then_same}
+use Rattle.replies.proofs.ReplyLaws.{handshake_puts, handshake-done}
 use Rattle.replies.proofs.handshake.Goals as goal
 
-pub put_handshake-requires : goal.put_handshake-requires
-put_handshake-requires c = let h = handshake_puts _ _ (omega (arith, c.requires, c.begin.auto)) (search rules) in record { options_in_bounds = h.0; options_value = h.1 }
+pub put_handshake-requires-clause-free : goal.put_handshake-requires-clause-free
+put_handshake-requires-clause-free c = omega (arith, c.requires, size32 c.args.destination, (handshake_puts _ _ c.requires refl).0)
+
+pub put_handshake-requires-clause-options_value : goal.put_handshake-requires-clause-options_value
+put_handshake-requires-clause-options_value c = (handshake_puts _ _ c.requires (search rules)).1
 
 pub returns : goal.returns
-returns c = handshake-done _ _ _ c.requires c.begin.ensures _ c.bytes-bytes.ensures (search rules) c.put_handshake.ensures
+returns c = let e = handshake-done c.args.destination refl c.number32.ensures _ c.bytes.ensures c.put_handshake.ensures in (e.0, then_same e.1 (search rules))

@@ -1,6 +1,7 @@
 use borrow.Author.Rules.{rules}
 use Rattle.std.proofs.lemmas.Result.{err_from_is_err_and}
-use Rattle.writer.proofs.AnswerLaws.{add-refused, add_done, then_same}
+use Rattle.writer.proofs.AnswerLaws.{add-refused, add_done}
+use Rattle.writer.proofs.WriterLaws.{then_same}
 use Rattle.writer.proofs.add.add.Goals as goal
 
 pub returns-in_err-add_answer : goal.returns-in_err-add_answer
