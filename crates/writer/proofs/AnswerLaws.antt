@@ -25,7 +25,7 @@ use Rattle.wire.specs.declared.message.Message.TheVariants.{Handshake}
 use Rattle.wire.specs.Layout.{Layout}
 use Rattle.wire.specs.Layout.{Fault, HandshakeAlone, Messages, MessagesAndData}
 use Rattle.wire.proofs.LayoutLaws.{layout_unsized}
-use Rattle.wire.proofs.SurveyLaws.{front-layout}
+use Rattle.wire.proofs.Promise.{front-layout}
 use Rattle.wire.proofs.ExtendLaws.{Extended}
 use Rattle.wire.proofs.FaultLaws.{Passed, passed, numbered, too_long}
 use Rattle.wire.proofs.CountLaws.{Says, entries_fit}
