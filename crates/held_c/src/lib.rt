@@ -15,5 +15,5 @@ pub extern "C" fn held_interval(addressing: u32, map: &[u32], n: u32, c: u32) ->
         + (complete_interval (format_of addressing) map.now n c).first }
 {
     let found = interval::complete_interval(format::of_method(addressing), map, n, c);
-    (found.last as u64 * 0x1_0000_0000) + found.first as u64
+    u64::from(found.last) * 0x1_0000_0000 + u64::from(found.first)
 }

@@ -20,8 +20,8 @@ use Rattle.tree.specs.Tree.{climb}
 use Rattle.tree.specs.State.{State, is_peak}
 use Rattle.tree.proofs.Sound.{on_path, adopted, hung, Sound, counted, after_by, after}
 use Rattle.tree.specs.Verdicts.{every, peaks_trusted, verdict}
-use Rattle.tree.specs.declared.verdict.Verdict.{Verdict}
-use Rattle.tree.specs.declared.verdict.Verdict.TheVariants.{Fits}
+use Rattle.tree.specs.Verdicts.{Verdict}
+use Rattle.std.specs.Prelude.{Ok}
 use Rattle.verdict.specs.Room.{filler, Digest, hash_in, put_hash}
 use Rattle.verdict.specs.Integrity.{Integrity, came_from}
 use Rattle.verdict.specs.Rooms.{Rooms, state_of}
@@ -187,8 +187,8 @@ module _ (L : ℕ) (w : Rooms) (N c : ℕ) (d r : List ℕ) (o : Integrity) (R :
   seen_here x e = sym (verdict_sees N r w.hashes w.trusted c d o L w.bytes w.map) ∙ e
 
   -- where the chunk fits the rooms hold what the theory says
-  taken-agrees : (t : ℕ) → room_verdict N r w.hashes w.trusted c d o ≡ Fits t
-      → Agrees N (after_by sha256 filler N r (state_of L w) c d (came_from o) (Fits t)) (state_of L (store_spec w N c t d o))
+  taken-agrees : (t : ℕ) → room_verdict N r w.hashes w.trusted c d o ≡ Ok t
+      → Agrees N (after_by sha256 filler N r (state_of L w) c d (came_from o) (Ok t)) (state_of L (store_spec w N c t d o))
   unfolding store_spec counted peaks_trusted
   taken-agrees t e = go (bit_at w.map c)
     where
@@ -200,10 +200,10 @@ module _ (L : ℕ) (w : Rooms) (N c : ℕ) (d r : List ℕ) (o : Integrity) (R :
       go false = stored-agrees L w N c t d o R (fits-within N r w.hashes w.trusted c d o t R.chunk_within e)
 
   -- so a sound store stays sound
-  pub taken-sound : (t : ℕ) → room_verdict N r w.hashes w.trusted c d o ≡ Fits t → SoundRooms L r w → SoundRooms L r (store_spec w N c t d o)
+  pub taken-sound : (t : ℕ) → room_verdict N r w.hashes w.trusted c d o ≡ Ok t → SoundRooms L r w → SoundRooms L r (store_spec w N c t d o)
   unfolding SoundRooms after
   taken-sound t e S =
-      let v = Fits t in
+      let v = Ok t in
       let T : Sound sha256 filler N r (state_of L w) = rw R.pack_is S in
       let G = taken-agrees t e in
       let A = after-sound sha256 filler N r (state_of L w) T c R.chunk_within d (came_from o) in

@@ -220,7 +220,7 @@ rooms_eq e f g i = cc
 pub built_is : (chunks map hashes trusted s : List ℕ) (N top p : ℕ) {c' m' h1 h2 t1 t2 t3 v : List ℕ} → N ≡ count_of (length s) → top ≡ levels N → p ≡ 2 ^ top → 16 * N ≤ length hashes + 8
     → c' ≡ copied chunks 0 s
     → (m' ≡ set_range (clear_row map N) 0 N) × (t1 ≡ clear_row trusted (2 * p))
-    → (h1 ≡ put_levels put_hash (tree_of s) N (suc top) hashes) × (t2 ≡ put_levels mark (tree_of s) N (suc top) t1)
+    → (h1 ≡ put_levels put_hash (tree_of s) N (suc (levels N)) hashes) × (t2 ≡ put_levels mark (tree_of s) N (suc (levels N)) t1)
     → v ≡ given sha256 filler N (held_by h1) top 0
     → (h2 ≡ put_hash h1 (p - 1) v) × (t3 ≡ mark t2 (p - 1) v)
     → (v ≡ root_of s) × (rooms_of c' m' h2 t3 ≡ build_rooms (rooms_of chunks map hashes trusted) (count_of (length s)) s)
@@ -229,14 +229,14 @@ built_is chunks map hashes trusted s N top p {h1 = h1} {v = v} n l q r ce me he 
     let T : top ≡ levels (count_of (length s)) = l ∙ ap levels n in
     let P : p ≡ 2 ^ levels (count_of (length s)) = q ∙ ap (λ (x : ℕ). 2 ^ x) T in
     let b : p - 1 ≡ bin (levels (count_of (length s))) 0 = omega arith in
-    let H : h1 ≡ put_levels put_hash (tree_of s) (count_of (length s)) (suc (levels (count_of (length s)))) hashes = he.0 ∙ ap₂ (λ (x y : ℕ). put_levels put_hash (tree_of s) x (suc y) hashes) n T in
-    let F : Filled h1 (tree_of s) N (suc (levels N)) = rw (he.0, ← l) (filled-levels s N (suc top) hashes r) in
+    let H : h1 ≡ put_levels put_hash (tree_of s) (count_of (length s)) (suc (levels (count_of (length s)))) hashes = he.0 ∙ ap (λ (x : ℕ). put_levels put_hash (tree_of s) x (suc (levels x)) hashes) n in
+    let F : Filled h1 (tree_of s) N (suc (levels N)) = rw he.0 (filled-levels s N (suc (levels N)) hashes r) in
     let R : v ≡ root_of s = ve ∙ ap (λ (x : ℕ). given sha256 filler N (held_by h1) x 0) l ∙ root-filled s h1 N n F in (
       R,
       rooms_eq ce
           (me.0 ∙ ap (λ (x : ℕ). set_range (clear_row map x) 0 x) n)
           (te.0 ∙ put3 H b R ∙ sym (built-each put_hash s hashes))
-          (te.1 ∙ ap₂ set_bit (he.1 ∙ marks (me.1 ∙ ap (λ (x : ℕ). clear_row trusted (2 * x)) P) n T) b
+          (te.1 ∙ ap₂ set_bit (he.1 ∙ marks (me.1 ∙ ap (λ (x : ℕ). clear_row trusted (2 * x)) P) n (ap levels n)) b
           ∙ sym (built-each mark s (clear_row trusted (2 * leaf_places (count_of (length s)))))),
     )
   where

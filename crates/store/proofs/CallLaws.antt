@@ -1,9 +1,9 @@
 -- The calls on the rooms, return by return as the code has them. Assumes nothing.
 use mathlib.Core.Path.{◌≡◌, refl, sym, ap, ap₂, ◌∙◌}
-use mathlib.Core.Logic.{◌≢◌, ◌⊎◌, inl, inr}
+use mathlib.Core.Logic.{◌≢◌}
 use mathlib.Core.Bool.{Bool, true, false, not}
 use mathlib.Core.List.{List, []}
-use Prim.Native.Nat.{ℕ, ◌+◌, ◌*◌, ◌≤◌, ◌<◌}
+use Prim.Native.Nat.{ℕ, zero, suc, ◌+◌, ◌*◌, ◌≤◌, ◌<◌}
 use native.Mathlib.Omega.{arith}
 use borrow.Author.Tests.{eqb-true}
 use lib.Dec.{eqb}
@@ -12,26 +12,27 @@ use Rattle.base.specs.Pick.{pick}
 use Rattle.bits.proofs.Promise.{set_bit}
 use Rattle.hash.proofs.Promise.{sha256}
 use Rattle.tree.specs.Pack.{chunk_size, max_length, leaf_places, root_node}
-use Rattle.tree.specs.Verdicts.{number, named, peaks_trusted, reached}
+use Rattle.tree.specs.Verdicts.{number, named, peaks_trusted, reached, refusal_of}
 use Rattle.tree.specs.Verdicts as theory
-use Rattle.tree.specs.declared.verdict.Verdict.{Verdict}
-use Rattle.tree.specs.declared.verdict.Verdict.TheVariants.{Fits, WrongPeaks, WrongClimb}
+use Rattle.tree.specs.Verdicts.{Verdict}
+use Rattle.std.specs.Prelude.{Result, Ok, Err, IsErrAnd}
+use Rattle.tree.specs.declared.verdict.Fault.{Fault}
+use Rattle.tree.proofs.NamedLaws.{refusal-number, refusal-node}
 use Rattle.verdict.specs.Room.{filler, put_hash}
 use Rattle.verdict.specs.Integrity.{Integrity, came_from}
 use Rattle.verdict.specs.Rooms.{Rooms, rooms_of, count_of, state_of}
 use Rattle.verdict.specs.Steps.{room_reached, room_verdict}
 use Rattle.store.specs.Storing.{store_spec}
-use Rattle.store.specs.Building.{clear_row, start_rooms}
+use Rattle.store.specs.Building.{clear_row, start_rooms, build_rooms}
 use Rattle.store.specs.Answers.{earlier, length_answer, content_answer, room_answer, order_answer, chunk_answer}
-use Rattle.store.specs.Calls.{rooms_answer, start_spec, build_answer, take_spec}
+use Rattle.store.specs.Calls.{rooms_answer, start_spec, build_answer, build_spec, take_spec}
 use Rattle.store.specs.Steps.{store_if_fits}
 use Rattle.base.proofs.OutLaws.{at-not, at_done, at_zero, at-unaltered, unless-done, unless-zero, done-unaltered, unless-unaltered, refusal_number}
-use Rattle.base.specs.Out.{Out, out_at, out_of, unless_at, unless}
+use Rattle.base.specs.Out.{out_by, Out, out_at, out_of, unless_at, unless}
 use Rattle.base.specs.Out.{Named}
 use Rattle.base.specs.Refusal as refusal
 use Rattle.base.specs.declared.Refusal.{Refusal}
-use Rattle.base.specs.declared.Refusal.TheVariants.{HashWrong}
-use Rattle.std.specs.Prelude.{Some}
+use Rattle.std.specs.Prelude.{None}
 use Rattle.store.proofs.AnswerLaws.{both_zero, length_facts, room_facts, chunk_facts}
 use Rattle.tree.proofs.ChunkLaws.{chunk_inside}
 use Rattle.verdict.proofs.VerdictLaws.{fits_reached, verdict_sees}
@@ -44,6 +45,14 @@ module _ (n : ℕ) (w x : Rooms) where
 
   pub unless-new : (unless n w (out_of 0 0 x)).answer ≡ 0 → (n ≡ 0) × ((unless n w (out_of 0 0 x)).after ≡ x)
   unless-new e = let z = (unless-zero n w (out_of 0 0 x) e).0 in (z, rw z)
+
+  -- No node is named.
+  pub unless-nameless : (unless n w (out_of 0 0 x)).node ≡ None
+  unless-nameless = go n
+    where
+      go : (m : ℕ) → (unless m w (out_of 0 0 x)).node ≡ None
+      go zero = refl
+      go (suc m) = refl
 
 -- with a second number, which may name a node
 module _ (m n : ℕ) (b : Named) (w x : Rooms) where
@@ -74,7 +83,16 @@ start-done w r L n {m} {h} {t} z ne e =
         → rooms_of w.bytes m h t ≡ start_rooms w n r
     whole p q s = cc
 
+pub start-nameless : (w : Rooms) (r : List ℕ) (L : ℕ) → (start_spec w r L).node ≡ None
+unfolding start_spec
+start-nameless w r L = unless-nameless (rooms_answer L w) w (start_rooms w (count_of L) r)
+
 -- ---- building
+
+pub build-nameless : (w : Rooms) (L : ℕ) (s : List ℕ) → (build_spec w L s).node ≡ None
+unfolding build_spec
+build-nameless w L s =
+    unless-nameless (build_answer L (length s) (length w.bytes) (length w.map) (length w.hashes) (length w.trusted)) w (build_rooms w (count_of (length s)) s)
 
 pub content_long : (L n : ℕ) → content_answer L n ≡ 0 → n ≡ L
 content_long L n e = go (eqb n L) refl e
@@ -103,11 +121,11 @@ unfolding room_reached reached peaks_trusted
 reached_in w L N c = refl
 
 -- a chunk that fits does so below the node reached
-pub fits-at : (w : Rooms) (r : List ℕ) (L N c : ℕ) (d : List ℕ) (o : Integrity) (t : ℕ) → room_verdict N r w.hashes w.trusted c d o ≡ Fits t → t ≡ reached N (state_of L w) c
+pub fits-at : (w : Rooms) (r : List ℕ) (L N c : ℕ) (d : List ℕ) (o : Integrity) (t : ℕ) → room_verdict N r w.hashes w.trusted c d o ≡ Ok t → t ≡ reached N (state_of L w) c
 fits-at w r L N c d o t e = fits_reached N r w.hashes w.trusted c d o t e ∙ reached_in w L N c
 
 module _ (w : Rooms) (r : List ℕ) (N c : ℕ) (d : List ℕ) (o : Integrity) (v : Verdict) (vo : v ≡ room_verdict N r w.hashes w.trusted c d o) where
-  pub if-fits : (t : ℕ) (w' : Rooms) → v ≡ Fits t → w' ≡ store_spec w N c t d o → out_of 0 0 w' ≡ store_if_fits w r N c d o
+  pub if-fits : (t : ℕ) (w' : Rooms) → v ≡ Ok t → w' ≡ store_spec w N c t d o → out_of 0 0 w' ≡ store_if_fits w r N c d o
   unfolding store_if_fits
   if-fits t w' e f =
       ap (out_of 0 0) (f ∙ ap (λ (h : ℕ). store_spec w N c h d o) (fits-at w r 0 N c d o t (sym vo ∙ e)))
@@ -121,9 +139,10 @@ module _ (w : Rooms) (r : List ℕ) (N c : ℕ) (d : List ℕ) (o : Integrity) (
       ap₂ (λ (x : ℕ) (y : Named). out_at x 0 y w) (sym p ∙ ap number vo) (sym q ∙ ap named vo)
       ∙ at-not _ _ w _ (λ z. refusal_number e (sym p ∙ ap number vo ∙ z))
 
-  pub if-wrong : (b : ℕ) → (v ≡ WrongPeaks b) ⊎ (v ≡ WrongClimb b) → out_at 10 0 (Some b) w ≡ store_if_fits w r N c d o
-  if-wrong b (inl e) = if-refused (HashWrong b) (ap number e) (ap named e)
-  if-wrong b (inr e) = if-refused (HashWrong b) (ap number e) (ap named e)
+  pub if-faulty : (f : Fault) (x : Result (Unit {0}) Refusal) → v ≡ Err f → IsErrAnd x (λ e. e ≡ refusal_of f) → out_by x 0 w ≡ store_if_fits w r N c d o
+  if-faulty f (Ok y) p q = absurd q
+  if-faulty f (Err e) p q =
+      if-refused e (ap number p ∙ refusal-number f ∙ ap refusal.number (sym q)) (ap named p ∙ refusal-node f ∙ ap refusal.node (sym q))
 
 module _ (w : Rooms) (r : List ℕ) (L c : ℕ) (d : List ℕ) (o : Integrity) (z : 0 ≡ earlier (rooms_answer L w) (chunk_answer L c (length d))) where
   -- What follows the tests before the verdict.

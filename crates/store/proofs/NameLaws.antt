@@ -17,8 +17,9 @@ use Rattle.std.specs.Prelude.{Some}
 use Rattle.tree.specs.Node.{Node, num}
 use Rattle.tree.specs.Pack.{max_length, leaf_places}
 use Rattle.tree.specs.Verdicts.{is_there, needed, first_missing, number, named, verdict}
-use Rattle.tree.specs.declared.verdict.Verdict.{Verdict}
-use Rattle.tree.specs.declared.verdict.Verdict.TheVariants.{Fits, Missing, WrongPeaks, WrongClimb}
+use Rattle.tree.specs.Verdicts.{Verdict}
+use Rattle.std.specs.Prelude.{Ok, Err}
+use Rattle.tree.specs.declared.verdict.Fault.TheVariants.{Missing, WrongPeaks, WrongClimb}
 use Rattle.tree.proofs.PackLaws.{places_small}
 use Rattle.tree.proofs.NamedLaws.{missing-named, peaks-named, climb-named, named-inside, none-missing}
 use Rattle.tree.proofs.EachLaws.{each_in}
@@ -100,10 +101,10 @@ module _ (w : Rooms) (r : List ℕ) (L c : ℕ) (d : List ℕ) (o : Integrity) w
   -- A node is named with 9 and 10, and with no other number.
   named-told : (v : Verdict) → is_named (named v) ≡ among (9 ∷ 10 ∷ []) (number v)
   unfolding among
-  named-told (Fits t) = refl
-  named-told (Missing b) = refl
-  named-told (WrongPeaks b) = refl
-  named-told (WrongClimb b) = refl
+  named-told (Ok t) = refl
+  named-told (Err (Missing b)) = refl
+  named-told (Err (WrongPeaks b)) = refl
+  named-told (Err (WrongClimb b)) = refl
 
   pub take-named : is_named (take_spec w r L c d o).node ≡ among (9 ∷ 10 ∷ []) (take_spec w r L c d o).answer
   unfolding take_spec among
@@ -129,10 +130,10 @@ module _ (w : Rooms) (r : List ℕ) (L c : ℕ) (d : List ℕ) (o : Integrity) w
   -- 9
   nine-told : (v : Verdict) → told ≡ v → number v ≡ 9 → (b : ℕ) × (named v ≡ Some b) × NamesMissing L w c o b
   unfolding NamesMissing
-  nine-told (Fits t) e z = absurd (omega arith)
-  nine-told (Missing b) e z = (b, refl, missing-named sha256 filler N r (state_of L w) c d (came_from o) b e)
-  nine-told (WrongPeaks b) e z = absurd (omega arith)
-  nine-told (WrongClimb b) e z = absurd (omega arith)
+  nine-told (Ok t) e z = absurd (omega arith)
+  nine-told (Err (Missing b)) e z = (b, refl, missing-named sha256 filler N r (state_of L w) c d (came_from o) b e)
+  nine-told (Err (WrongPeaks b)) e z = absurd (omega arith)
+  nine-told (Err (WrongClimb b)) e z = absurd (omega arith)
 
   pub take-missing : (take_spec w r L c d o).answer ≡ 9
       → (b : ℕ) × ((take_spec w r L c d o).node ≡ Some b) × NamesMissing L w c o b
@@ -145,12 +146,12 @@ module _ (w : Rooms) (r : List ℕ) (L c : ℕ) (d : List ℕ) (o : Integrity) w
   -- 10
   ten-told : c < N → (v : Verdict) → told ≡ v → number v ≡ 10 → (b : ℕ) × (named v ≡ Some b) × NamesMissed L r w c d o b
   unfolding NamesMissed AllCame
-  ten-told l (Fits t) e z = absurd (omega arith)
-  ten-told l (Missing b) e z = absurd (omega arith)
-  ten-told l (WrongPeaks b) e z =
+  ten-told l (Ok t) e z = absurd (omega arith)
+  ten-told l (Err (Missing b)) e z = absurd (omega arith)
+  ten-told l (Err (WrongPeaks b)) e z =
       let k = peaks-named sha256 filler N r (state_of L w) c d (came_from o) b e in
       (b, refl, (k.1, inl (k.0, k.2)))
-  ten-told l (WrongClimb b) e z =
+  ten-told l (Err (WrongClimb b)) e z =
       let k = climb-named sha256 filler N r (state_of L w) c d (came_from o) b l e in
       (b, refl, (k.2, inr (k.0, k.1, k.3)))
 

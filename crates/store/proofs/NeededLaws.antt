@@ -14,7 +14,7 @@ use Rattle.tree.specs.Pack.{chunk_size, levels}
 use Rattle.tree.specs.Peaks.{peaks}
 use Rattle.tree.specs.Tree.{climb}
 use Rattle.tree.specs.Verdicts.{every, number, named, peaks_trusted, reached, verdict}
-use Rattle.tree.specs.declared.verdict.Verdict.{Verdict}
+use Rattle.tree.specs.Verdicts.{Verdict}
 use Rattle.tree.proofs.PeakTests.{bit-peak}
 use Rattle.tree.proofs.TrueLaws as truth
 use Rattle.tree.proofs.NeededLaws as theory

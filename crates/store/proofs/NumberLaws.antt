@@ -11,8 +11,9 @@ use Rattle.base.proofs.AmongLaws.{all_among, pick-one, earlier-one, one_of_more}
 use Rattle.hash.proofs.Promise.{sha256}
 use Rattle.tree.specs.Pack.{chunk_size, max_length, size}
 use Rattle.tree.specs.Verdicts.{number, named, verdict}
-use Rattle.tree.specs.declared.verdict.Verdict.{Verdict}
-use Rattle.tree.specs.declared.verdict.Verdict.TheVariants.{Fits, Missing, WrongPeaks, WrongClimb}
+use Rattle.tree.specs.Verdicts.{Verdict}
+use Rattle.std.specs.Prelude.{Ok, Err}
+use Rattle.tree.specs.declared.verdict.Fault.TheVariants.{Missing, WrongPeaks, WrongClimb}
 use Rattle.verdict.specs.Room.{filler}
 use Rattle.verdict.specs.Integrity.{Integrity, came_from}
 use Rattle.verdict.specs.Rooms.{Rooms, count_of, state_of}
@@ -60,10 +61,10 @@ chunk-one L c n =
 
 verdict_one : (v : Verdict) → OneOf chunk_numbers (number v)
 unfolding among
-verdict_one (Fits t) = refl
-verdict_one (Missing b) = refl
-verdict_one (WrongPeaks b) = refl
-verdict_one (WrongClimb b) = refl
+verdict_one (Ok t) = refl
+verdict_one (Err (Missing b)) = refl
+verdict_one (Err (WrongPeaks b)) = refl
+verdict_one (Err (WrongClimb b)) = refl
 
 -- Where the rooms suffice.
 pub take-one : (w : Rooms) (r : List ℕ) (L c : ℕ) (d : List ℕ) (o : Integrity) → rooms_answer L w ≡ 0 → OneOf (0 ∷ 7 ∷ 8 ∷ 9 ∷ 10 ∷ []) (take_spec w r L c d o).answer

@@ -12,7 +12,7 @@ use Rattle.bits.proofs.Promise.{bit_at, row_words}
 use Rattle.base.specs.Pick.{pick}
 use Rattle.base.specs.Among.{among, OneOf}
 use Rattle.base.specs.Out.{is_named, no_node}
-use Rattle.std.specs.Prelude.{Some}
+use Rattle.std.specs.Prelude.{Some, None}
 use Rattle.tree.specs.Pack.{chunk_size, max_length, size, leaf_places, root_node}
 use Rattle.verdict.proofs.RoomLaws.{digest_words}
 use Rattle.store.proofs.BegunLaws.{enough-order, start-running, start-not-same, start-same-sizes, start-empty, build-running, build-not-same, build-same-sizes, build-bytes, build-whole}
@@ -20,6 +20,7 @@ use Rattle.store.proofs.TakenLaws.{take-refused-same, take-means, take-sizes, ta
 use Rattle.store.proofs.AlikeLaws.{hangs, alike}
 use Rattle.store.proofs.NeededLaws.{take_same}
 use Rattle.store.proofs.TrueLaws.{start-true, take_true, keep-true}
+use Rattle.store.proofs.CallLaws.{start-nameless, build-nameless}
 use Rattle.store.proofs.AnswerLaws as answers
 use Rattle.store.proofs.AcceptLaws as accept
 use Rattle.store.proofs.NumberLaws as numbers
@@ -163,6 +164,13 @@ built-whole = build-whole
 -- A refused building changes nothing.
 pub build-refused-same : (w : Rooms) (L : ℕ) (s : List ℕ) → (build_spec w L s).answer ≢ 0 → (build_spec w L s).after ≡ w
 build-refused-same = build-not-same
+
+-- Neither starting nor building names a node.
+pub start_nameless : (w : Rooms) (r : List ℕ) (L : ℕ) → (start_spec w r L).node ≡ None
+start_nameless = start-nameless
+
+pub build_nameless : (w : Rooms) (L : ℕ) (s : List ℕ) → (build_spec w L s).node ≡ None
+build_nameless = build-nameless
 
 -- ---- taking
 

@@ -92,20 +92,20 @@ rooms_eq : {c c' m m' h h' t t' : List ℕ} → c ≡ c' → m ≡ m' → h ≡ 
 rooms_eq e f g i = cc
 
 -- what the code puts into the two rooms
-abbrev pub hung : Bool → ℕ → ℕ → ℕ → ℕ → List ℕ → Integrity → Put → List ℕ → List ℕ
-hung opened N top c t scratch o put l = put_path put (hash_in scratch) (got_by o) c t (pick opened l (put_peaks put (got_by o) N (suc top) l))
+abbrev pub hung : Bool → ℕ → ℕ → ℕ → List ℕ → Integrity → Put → List ℕ → List ℕ
+hung opened N c t scratch o put l = put_path put (hash_in scratch) (got_by o) c t (pick opened l (put_peaks put (got_by o) N (suc (levels N)) l))
 
-pub stored_is : (chunks map : List ℕ) (r s : Nodes) (N c t : ℕ) (d : List ℕ) (o : Integrity) {chunks' map' : List ℕ} (scratch : List ℕ) {top : ℕ} {opened : Bool}
-    → chunks' ≡ copied chunks (chunk_size * c) d → map' ≡ set_bit map c → top ≡ levels N → opened ≡ every (trusted_in r.trusted.now) (peaks N)
-    → Climbed scratch (got_by o) (sha256 d) c t → Puts (hung opened N top c t scratch o) r s
+pub stored_is : (chunks map : List ℕ) (r s : Nodes) (N c t : ℕ) (d : List ℕ) (o : Integrity) {chunks' map' : List ℕ} (scratch : List ℕ) {opened : Bool}
+    → chunks' ≡ copied chunks (chunk_size * c) d → map' ≡ set_bit map c → opened ≡ every (trusted_in r.trusted.now) (peaks N)
+    → Climbed scratch (got_by o) (sha256 d) c t → Puts (hung opened N c t scratch o) r s
     → rooms_of chunks' map' s.hashes.now s.trusted.now ≡ stored (rooms_of chunks map r.hashes.now r.trusted.now) N c t d o
 unfolding stored Climbed peaks_trusted
-stored_is chunks map r s N c t d o scratch {top} {opened} e f g b K p =
+stored_is chunks map r s N c t d o scratch {opened} e f b K p =
     rooms_eq e f (p.hashes ∙ climbed put_hash r.hashes.now) (p.trusted ∙ climbed mark r.trusted.now)
   where
-    climbed : (put : Put) (l : List ℕ) → hung opened N top c t scratch o put l ≡ put_all put (every (trusted_in r.trusted.now) (peaks N)) N c t d (got_by o) l
+    climbed : (put : Put) (l : List ℕ) → hung opened N c t scratch o put l ≡ put_all put (every (trusted_in r.trusted.now) (peaks N)) N c t d (got_by o) l
     climbed put l =
-        path-alike put (got_by o) (got_by o) (hash_in scratch) _ c t (rw (b, g) refl) K (λ h u. refl)
+        path-alike put (got_by o) (got_by o) (hash_in scratch) _ c t (rw b refl) K (λ h u. refl)
         ∙ sym (all-is put (every (trusted_in r.trusted.now) (peaks N)) N c t d (got_by o) l)
 
 module _ (w : Rooms) (N c t : ℕ) (d : List ℕ) (o : Integrity) where

@@ -18,8 +18,9 @@ use Rattle.tree.specs.Peaks.{peaks}
 use Rattle.tree.specs.State.{State}
 use Rattle.tree.proofs.Sound.{adopted}
 use Rattle.tree.specs.Verdicts.{every, number, named, peaks_trusted, reached, verdict}
-use Rattle.tree.specs.declared.verdict.Verdict.{Verdict}
-use Rattle.tree.specs.declared.verdict.Verdict.TheVariants.{Fits, Missing, WrongPeaks, WrongClimb}
+use Rattle.tree.specs.Verdicts.{Verdict}
+use Rattle.std.specs.Prelude.{Ok, Err}
+use Rattle.tree.specs.declared.verdict.Fault.TheVariants.{Missing, WrongPeaks, WrongClimb}
 use Rattle.verdict.specs.Room.{filler, put_hash}
 use Rattle.verdict.specs.Integrity.{Integrity, came_from}
 use Rattle.verdict.specs.Rooms.{Rooms, count_of, chunk_in, state_of}
@@ -62,17 +63,17 @@ module _ (w : Rooms) (r : List ℕ) (L c : ℕ) (d : List ℕ) (o : Integrity) w
   pub record Taken : Type 0 where
     pub answers-right : answer-before ≡ 0
     pub height : ℕ
-    pub fits-there : room_verdict (count_of L) r w.hashes w.trusted c d o ≡ Fits height
+    pub fits-there : room_verdict (count_of L) r w.hashes w.trusted c d o ≡ Ok height
     pub stored-so : left ≡ store_spec w (count_of L) c height d o
 
   told_is : room_verdict (count_of L) r w.hashes w.trusted c d o ≡ told
   told_is = verdict_sees (count_of L) r w.hashes w.trusted c d o L w.bytes w.map
 
-  fits-zero : (v : Verdict) → told ≡ v → number v ≡ 0 → room_verdict (count_of L) r w.hashes w.trusted c d o ≡ Fits height-reached
-  fits-zero (Fits t) e z = told_is ∙ e ∙ ap Fits (fits-at w r L (count_of L) c d o t (told_is ∙ e))
-  fits-zero (Missing b) e z = absurd (omega arith)
-  fits-zero (WrongPeaks b) e z = absurd (omega arith)
-  fits-zero (WrongClimb b) e z = absurd (omega arith)
+  fits-zero : (v : Verdict) → told ≡ v → number v ≡ 0 → room_verdict (count_of L) r w.hashes w.trusted c d o ≡ Ok height-reached
+  fits-zero (Ok t) e z = told_is ∙ e ∙ ap Ok (fits-at w r L (count_of L) c d o t (told_is ∙ e))
+  fits-zero (Err (Missing b)) e z = absurd (omega arith)
+  fits-zero (Err (WrongPeaks b)) e z = absurd (omega arith)
+  fits-zero (Err (WrongClimb b)) e z = absurd (omega arith)
 
   pub taken : (take_spec w r L c d o).answer ≡ 0 → Taken
   unfolding take_spec

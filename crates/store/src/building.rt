@@ -106,16 +106,15 @@ impl Nodes<'_> {
         }
     }
 
-    // Every node inside the pack, of a tree of `top` levels.
-    fn put_levels(&mut self, content: &[u8], n: u32, top: u32)
-        requires { (top ≤ 32)
-            × (n ≡ count_of (length content.now))
+    // Every node inside the pack.
+    fn put_levels(&mut self, content: &[u8], n: u32)
+        requires { (n ≡ count_of (length content.now))
             × (16 * n ≤ length self.old.hashes.now + 8) }
         ensures kept { Kept self.old self.new }
-        ensures puts { Puts (λ put. put_levels put (tree_of content.now) n (suc top))
+        ensures puts { Puts (λ put. put_levels put (tree_of content.now) n (suc (levels n)))
             self.old self.new }
     {
-        for h in 0..=top {
+        for h in 0..=tree::pack::levels(n) {
             self.put_level(content, n, h);
         }
     }
@@ -149,14 +148,13 @@ pub fn build(
         ≡ build_rooms (rooms_of chunks.old map.old nodes.old.hashes.now nodes.old.trusted.now)
         (count_of (length content.now)) content.now }
 {
-    let top = tree::pack::levels(n);
-    let w = tree::bin::pow2(top);
+    let w = tree::pack::leaf_places(n);
     storing::copy_in(chunks, 0, content);
     mark_all(map, nodes.trusted, n, w);
-    nodes.put_levels(content, n, top);
+    nodes.put_levels(content, n);
     let hashes = &mut *nodes.hashes;
     let held: &[u32] = hashes;
-    let root = peaks::root_of_peaks(&held, n, top);
+    let root = peaks::root_of_peaks(&held, n);
     nodes.trust(w - 1, root);
     root
 }

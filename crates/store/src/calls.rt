@@ -17,8 +17,8 @@ use base::Refusal;
 use hash::value::HashValue;
 use order::Order;
 use tree::pack;
-use tree::verdict::Verdict;
 use verdict::integrity::Integrity;
+use verdict::verdicts::Place;
 use verdict::{peaks, verdicts};
 
 // Starts a store under an order.
@@ -80,41 +80,13 @@ fn store_if_fits(
         ≡ store_if_fits (rooms_of chunks.old map.old hashes.old trusted.old)
         (bytes_of root.words) n c chunk.now (integrity_in integrity.entry) }
 {
-    let top = pack::levels(n);
-    let opened = peaks::all_trusted(trusted, n, top);
+    let opened = peaks::all_trusted(trusted, n);
+    let place = Place { n, c, opened };
     let mut scratch = [0u32; verdicts::SCRATCH];
-    let v = verdicts::judge(
-        &mut scratch,
-        hashes,
-        trusted,
-        opened,
-        root,
-        n,
-        top,
-        c,
-        chunk,
-        integrity,
-    );
-    match v {
-        Verdict::Fits(t) => {
-            storing::store(
-                chunks,
-                map,
-                &mut Nodes { hashes, trusted },
-                opened,
-                n,
-                top,
-                c,
-                t,
-                &scratch,
-                chunk,
-                integrity,
-            );
-            Ok(())
-        }
-        Verdict::Missing(b) => Err(Refusal::HashMissing(b)),
-        Verdict::WrongPeaks(b) | Verdict::WrongClimb(b) => Err(Refusal::HashWrong(b)),
-    }
+    let t = verdicts::judge(&mut scratch, hashes, trusted, place, root, chunk, integrity)?;
+    let nodes = &mut Nodes { hashes, trusted };
+    storing::store(chunks, map, nodes, place, t, &scratch, chunk, integrity);
+    Ok(())
 }
 
 // Takes chunk c with the hashes that came: stores it if it fits.

@@ -21,7 +21,7 @@ use hash::value::HashValue;
 use tree::pack::CHUNK_SIZE;
 use verdict::integrity::Integrity;
 use verdict::room;
-use verdict::verdicts::SCRATCH;
+use verdict::verdicts::{Place, SCRATCH};
 
 // The bytes of src into dst from a place on.
 pub fn copy_in(dst: &mut [u8], at: usize, src: &[u8])
@@ -39,20 +39,18 @@ impl Nodes<'_> {
         ensures puts { Puts (λ put l. put_if put (peak_bit n h) l (bin h (above (suc h) n))
             (got_by (integrity_in integrity.entry) h (above (suc h) n))) self.old self.new }
     {
-        if tree::peaks::side(n, h) == 1 {
-            let b = tree::peaks::peak(n, h);
+        if let Some(b) = tree::peaks::peak(n, h) {
             self.trust(b, integrity.get(b));
         }
     }
 
-    // All of them, in a tree of `top` levels.
-    fn put_peaks(&mut self, integrity: Integrity, n: u32, top: u32)
-        requires { top ≤ 32 }
+    // All of them.
+    fn put_peaks(&mut self, integrity: Integrity, n: u32)
         ensures kept { Kept self.old self.new }
-        ensures puts { Puts (λ put. put_peaks put (got_by (integrity_in integrity.entry)) n (suc top))
+        ensures puts { Puts (λ put. put_peaks put (got_by (integrity_in integrity.entry)) n (suc (levels n)))
             self.old self.new }
     {
-        for h in 0..=top {
+        for h in 0..=tree::pack::levels(n) {
             self.put_peak(integrity, n, h);
         }
     }
@@ -84,39 +82,35 @@ impl Nodes<'_> {
     }
 }
 
-// Stores chunk c of n, found to fit below the trusted node of height t, with the hashes of its climb in the scratch;
-// `opened` says whether the peaks are trusted. A chunk already held changes nothing.
+// Stores a chunk, found to fit below the trusted node of height t, with the hashes of its climb in the scratch. A chunk
+// already held changes nothing.
 pub fn store(
     chunks: &mut [u8],
     map: &mut [u32],
     nodes: &mut Nodes<'_>,
-    opened: bool,
-    n: u32,
-    top: u32,
-    c: u32,
+    place: Place,
     t: u32,
     scratch: &[u32; SCRATCH],
     chunk: &[u8],
     integrity: Integrity,
 )
     requires t_bound { (t ≤ 33)
-        × (chunk_size * c + length chunk.now ≤ length chunks.old)
-        × Climbed scratch.now (got_by (integrity_in integrity)) (sha256 chunk.now) c t }
-    requires top_value { (top ≡ levels n) × (top ≤ 32)
-        × (opened ≡ every (trusted_in nodes.old.trusted.now) (peaks n)) }
+        × (chunk_size * place.c + length chunk.now ≤ length chunks.old)
+        × Climbed scratch.now (got_by (integrity_in integrity)) (sha256 chunk.now) place.c t }
+    requires opened_value { place.opened ≡ every (trusted_in nodes.old.trusted.now) (peaks place.n) }
     ensures kept { Kept nodes.old nodes.new }
     ensures rooms { rooms_of chunks.new map.new nodes.new.hashes.now nodes.new.trusted.now
-        ≡ store_spec (rooms_of chunks.old map.old nodes.old.hashes.now nodes.old.trusted.now) n c
-        t chunk.now (integrity_in integrity.entry) }
+        ≡ store_spec (rooms_of chunks.old map.old nodes.old.hashes.now nodes.old.trusted.now) place.n
+        place.c t chunk.now (integrity_in integrity.entry) }
 {
-    let i = c as usize;
+    let i = place.c as usize;
     if bits::test(map, i) {
         return;
     }
     copy_in(chunks, CHUNK_SIZE as usize * i, chunk);
     bits::set(map, i);
-    if !opened {
-        nodes.put_peaks(integrity, n, top);
+    if !place.opened {
+        nodes.put_peaks(integrity, place.n);
     }
-    nodes.put_path(scratch, integrity, c, t);
+    nodes.put_path(scratch, integrity, place.c, t);
 }

@@ -3,14 +3,15 @@ use mathlib.Core.Path.{◌≡◌, refl, sym, ap, ◌∙◌}
 use mathlib.Core.Logic.{◌≢◌}
 use mathlib.Core.List.{List}
 use Prim.Native.Nat.{ℕ, zero, suc}
-use native.Mathlib.Omega.{arith}
 use borrow.Author.Tests.{eq-eqb, ne_eqb}
 use lib.ListN.{length}
 use Rattle.base.specs.Out.{Out, out_at, out_of, node_number, named_by}
 use Rattle.base.specs.Out.{Named}
-use Rattle.base.proofs.OutLaws.{named_back}
-use Rattle.verdict.specs.Room.{put_hash}
-use Rattle.store.proofs.Promise.{Rooms, Integrity, hash_in, found_root, take_spec, named_small}
+use Rattle.base.specs.Refusal.{number}
+use Rattle.base.specs.declared.Refusal.{Refusal}
+use Rattle.base.proofs.OutLaws.{named_back, refusal_number}
+use Rattle.std.specs.Prelude.{None}
+use Rattle.store.proofs.Promise.{Rooms, Integrity, hash_in, take_spec, named_small}
 use Rattle.store_c.specs.Root.{rooted, root_put}
 
 pub rooted_not : (root : List ℕ) (w : Rooms) (out : Out Rooms) → length root ≢ 8 → out_of 11 0 w ≡ rooted root w out
@@ -26,14 +27,17 @@ pub rooted_by : (f : List ℕ → Out Rooms) (root : List ℕ) (w : Rooms) {v : 
     → length root ≡ 8 → v ≡ hash_in root 0 → got ≡ f v → got ≡ rooted root w (f (hash_in root 0))
 rooted_by f root w e v g = rooted-done root w e (g ∙ ap f v)
 
-pub put_not : (n : ℕ) (root found : List ℕ) → n ≢ 0 → root ≡ root_put n root found
-put_not zero root found d = absurd (d refl)
-put_not (suc n) root found d = refl
+-- a call that names no node, by its number alone
+pub nameless : {n : ℕ} {b : Named} {w : Rooms} {out : Out Rooms} → out.node ≡ None → out_at n 0 b w ≡ out → out_of n 0 w ≡ out
+nameless {n} {b} {w} z e = ap (λ (y : Named). out_at n 0 y w) (sym (ap (λ (u : Out Rooms). u.node) e ∙ z)) ∙ e
 
-pub put-done : (n : ℕ) (root found : List ℕ) {v after : List ℕ} → n ≡ 0 → v ≡ found_root n found → after ≡ put_hash root 0 v
-    → after ≡ root_put n root found
-put-done zero root found z ve e = rw (e, ve)
-put-done (suc n) root found z ve e = absurd (omega arith)
+-- a refusal leaves the root's slice as it was
+pub put_not : (e : Refusal) (root found : List ℕ) → root ≡ root_put (number e) root found
+put_not e root found = go (number e) (refusal_number e)
+  where
+    go : (n : ℕ) → n ≢ 0 → root ≡ root_put n root found
+    go zero d = absurd (d refl)
+    go (suc n) d = refl
 
 -- the node that taking a chunk names, by its number
 pub node_by : (w : Rooms) (r : List ℕ) (L c : ℕ) (d : List ℕ) (o : Integrity) {n b : ℕ} {x : Named} {after : Rooms}

@@ -10,9 +10,10 @@ ghost use Rattle.store_c.specs.Root.{rooted, root_put};
 
 pub mod nodes;
 
-use base::NO_NODE;
+use base::{NO_NODE, Refusal};
 use order::Order;
 use store::calls;
+use verdict::integrity::Integrity;
 use verdict::room;
 
 // Starts a store under an order.
@@ -33,14 +34,17 @@ pub extern "C" fn store_start(
         (hash_in root.now 0) length) }
 {
     if root.len() != 8 {
-        return 11;
+        return Refusal::RoomTooSmall.number();
     }
     let order = Order {
         root: room::read(root, 0),
-        length: length,
+        length,
         method: format::RANGES,
     };
-    calls::start(order, chunks, map, hashes, trusted)
+    match calls::start(order, chunks, map, hashes, trusted) {
+        Ok(()) => 0,
+        Err(refusal) => refusal.number(),
+    }
 }
 
 // Builds a whole store of a length from its content, and writes its root.
@@ -63,16 +67,15 @@ pub extern "C" fn store_build(
         × (root.new ≡ root_put result root.old (root_of content.now)) }
 {
     if root.len() != 8 {
-        return 11;
+        return Refusal::RoomTooSmall.number();
     }
-    let built = calls::build(length, chunks, map, hashes, trusted, content);
-    let answer = built.answer;
-    let found = built.root;
-    if answer != 0 {
-        return answer;
+    match calls::build(length, chunks, map, hashes, trusted, content) {
+        Ok(found) => {
+            room::write(root, 0, found);
+            0
+        }
+        Err(refusal) => refusal.number(),
     }
-    room::write(root, 0, found);
-    answer
 }
 
 // Takes chunk c with the hashes that came: entries has a node's number and the place of its hash in bytes in turn. The
@@ -101,17 +104,22 @@ pub extern "C" fn store_take(
 {
     if root.len() != 8 {
         *node = NO_NODE;
-        return 11;
+        return Refusal::RoomTooSmall.number();
     }
     let order = Order {
         root: room::read(root, 0),
-        length: length,
+        length,
         method: format::RANGES,
     };
-    let taken = calls::take(
-        order, chunks, map, hashes, trusted, c, chunk, entries, bytes,
-    );
-    let named = taken.node;
-    *node = base::node_number(named);
-    taken.answer
+    let integrity = Integrity { entries, bytes };
+    match calls::take(order, chunks, map, hashes, trusted, c, chunk, integrity) {
+        Ok(()) => {
+            *node = NO_NODE;
+            0
+        }
+        Err(refusal) => {
+            *node = base::node_number(refusal.node());
+            refusal.number()
+        }
+    }
 }

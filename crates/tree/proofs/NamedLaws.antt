@@ -14,11 +14,13 @@ use Rattle.tree.specs.Tree.{combined}
 use Rattle.tree.specs.State.{State}
 use Rattle.tree.specs.Steps.{peak_bit, peak_at}
 use Rattle.tree.specs.Verdicts.{Came, is_there, is_missing, got, Each, peaks_trusted, counted_hash, reached, needed}
-use Rattle.tree.specs.Verdicts.{first_missing, rooted, met, verdict, named}
+use Rattle.tree.specs.Verdicts.{first_missing, rooted, met, verdict, number, named, refusal_of}
 use Rattle.tree.specs.Named.{FirstMissing, MissesRoot, MissesNode}
 use Rattle.tree.specs.Verdicts.{Verdict}
 use Rattle.std.specs.Prelude.{Ok, Err}
+use Rattle.tree.specs.declared.verdict.Fault.{Fault}
 use Rattle.tree.specs.declared.verdict.Fault.TheVariants.{Missing, WrongPeaks, WrongClimb}
+use Rattle.base.specs.Refusal as refusal
 use Rattle.tree.proofs.Below.{peaks_below}
 use Rattle.tree.proofs.EachLaws.{each_map, each_append, each_in, each-sort, sort-each, siblings-each}
 use Rattle.tree.proofs.FirstLaws.{first-none, none_first, first-in, first_passes, first-least}
@@ -153,3 +155,15 @@ module _ (H : List ℕ → List ℕ) (Z : List ℕ) (N : ℕ) (r : List ℕ) (s 
           let k = verdict-means H Z N r s c d m (Err (WrongClimb x)) p in
           let t = reached N s c in
           says x e (rw k.0 (inner_number N (node t (above t c)) (reached_inside N s c l)))
+
+-- ---- the refusal that a chunk gets has the verdict's number and node
+
+pub refusal-number : (f : Fault) → number (Err f) ≡ refusal.number (refusal_of f)
+refusal-number (Missing b) = refl
+refusal-number (WrongPeaks b) = refl
+refusal-number (WrongClimb b) = refl
+
+pub refusal-node : (f : Fault) → named (Err f) ≡ refusal.node (refusal_of f)
+refusal-node (Missing b) = refl
+refusal-node (WrongPeaks b) = refl
+refusal-node (WrongClimb b) = refl

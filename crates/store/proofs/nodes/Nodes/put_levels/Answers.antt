@@ -2,6 +2,7 @@ use mathlib.Core.Path.{◌≡◌, refl}
 use Prim.Native.Nat.{suc, ◌+◌}
 use native.Mathlib.Omega.{arith}
 use Rattle.std.proofs.Common.{rules}
+use Rattle.tree.specs.Pack.{levels}
 use Rattle.store.specs.Building.{tree_of}
 use Rattle.store.specs.Steps.{put_levels}
 use Rattle.store.proofs.BuildingLaws.{filled-levels}
@@ -14,7 +15,7 @@ loop-h-init c = record { kept = search rules; puts = record { hashes = refl; tru
 
 pub put_level-requires-clause-filled : goal.put_level-requires-clause-filled
 put_level-requires-clause-filled c =
-    rw c.loop-h.invariant.puts.hashes (filled-levels c.args.content.now c.args.n c.loop-h.h c.args.self.now.hashes.now c.requires.2)
+    rw c.loop-h.invariant.puts.hashes (filled-levels c.args.content.now c.args.n c.loop-h.h c.args.self.now.hashes.now c.requires.1)
 
 pub loop-h-preserved : goal.loop-h-preserved
 loop-h-preserved c = record {
@@ -23,5 +24,5 @@ loop-h-preserved c = record {
 }
 
 pub returns-2-clause-puts : goal.returns-2-clause-puts
-returns-2-clause-puts c = let e : c.loop-h.h + 1 ≡ suc c.args.top = omega arith in
+returns-2-clause-puts c = let e : c.loop-h.h + 1 ≡ suc (levels c.args.n) = omega (arith, c.levels-h-end.ensures.0) in
     puts_then _ c.put_level.ensures.puts c.loop-h.invariant.puts (λ put l. rw (← e) (levels-more (tree_of c.args.content.now) put l c.args.n c.loop-h.h))

@@ -2,6 +2,7 @@ use mathlib.Core.Path.{◌≡◌, refl}
 use Prim.Native.Nat.{suc, ◌+◌}
 use native.Mathlib.Omega.{arith}
 use Rattle.std.proofs.Common.{rules}
+use Rattle.tree.specs.Pack.{levels}
 use Rattle.verdict.specs.Integrity.{integrity_in}
 use Rattle.verdict.specs.Steps.{got_by}
 use Rattle.store.specs.Steps.{put_peaks}
@@ -19,5 +20,5 @@ loop-h-preserved c = record {
 }
 
 pub returns-2-clause-puts : goal.returns-2-clause-puts
-returns-2-clause-puts c = let e : c.loop-h.h + 1 ≡ suc c.args.top = omega arith in
+returns-2-clause-puts c = let e : c.loop-h.h + 1 ≡ suc (levels c.args.n) = omega (arith, c.levels-h-end.ensures.0) in
     puts_then _ c.put_peak.ensures.puts c.loop-h.invariant.puts (λ put l. rw (← e) (peaks-more (got_by (integrity_in c.args.integrity)) put l c.args.n c.loop-h.h))
