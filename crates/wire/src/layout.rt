@@ -34,11 +34,11 @@ fn seen_among(entries: &[u64], node: u64) -> bool
     ensures { result ≡ seen node entries.now }
 {
     let mut rest = entries;
-    while 2 <= rest.len() {
-        if rest[0] == node {
+    while let [first, _, behind @ ..] = rest {
+        if *first == node {
             return true;
         }
-        rest = &rest[2..];
+        rest = behind;
     }
     false
 }
@@ -48,20 +48,11 @@ pub fn seen(entries: &[u64], node: u64) -> bool
     ensures { result ≡ seen node entries.now }
 {
     let mut rest = entries;
-    while 8 <= rest.len() {
-        if rest[0] == node {
+    while let [a, _, b, _, c, _, d, _, behind @ ..] = rest {
+        if *a == node || *b == node || *c == node || *d == node {
             return true;
         }
-        if rest[2] == node {
-            return true;
-        }
-        if rest[4] == node {
-            return true;
-        }
-        if rest[6] == node {
-            return true;
-        }
-        rest = &rest[8..];
+        rest = behind;
     }
     seen_among(rest, node)
 }
