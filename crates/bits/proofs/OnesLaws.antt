@@ -5,17 +5,14 @@ use native.Mathlib.Nat.{add-suc, add-zero, mul-one, mul_assoc, mul-mod_left, mod
 use native.Mathlib.Nat.{lt_of_lt_of_le, pow-suc}
 use native.Mathlib.Numerals.{add-one}
 use native.Mathlib.Omega.{arith}
-use native.Mathlib.Decide.{dec_lt}
 use mathlib.Core.Path.{◌≡◌, refl, sym, ap, ◌∙◌}
 use mathlib.Core.List.{List}
-use mathlib.Core.Bool.{false}
-use borrow.Author.Tests.{eqb-false}
-use lib.ListN.{length, get_or}
+use lib.ListN.{get_or}
 use lib.Dec.{eqb}
 use lib.Pow.{pow_pos, pow_mono, shr_lt, shr-shr, shl-shr, field}
 use lib.Count.{count_trailing_zeros, count_leading_zeros, under, trailing_le, leading_top, leading_unique}
 use Rattle.bits.specs.Bits.{bit, bit_at, longer, held_below, held_from}
-use Rattle.bits.proofs.HeldLaws.{below_at, held-from_le, from_at, from_past}
+use Rattle.bits.proofs.HeldLaws.{below_at, from_at}
 
 -- ---- the zeros at an end of a number
 
@@ -128,18 +125,6 @@ module _ (ws : List ℕ) where
       let at : 32 * (w - 1) + 32 ≡ 32 * w = omega arith in
       rw (at, mul-one (get_or ws (w - 1) 0), mod-eq_of_lt l) at (high_ones ws _ _ (word_bits ws (w - 1)) 32 0 refl)
 
-  -- The run from word w on ends in that word where the loop up to word `end` found a gap there, or came to its end.
-  module _ (w u : ℕ) {end : ℕ} (e : end ≡ min (u / 32) (length ws)) where
-    pub short-at-gap : get_or ws w 0 < 2 ^ 32 → w < end → eqb (count_trailing_zeros 32 (2 ^ 32 - 1 - get_or ws w 0)) 32 ≡ false
-        → held_from ws (u - 32 * w) (32 * w) < 32
-    short-at-gap l h t = omega (arith, eqb-false, low-ones-word w (u - 32 * w) l (omega arith))
-
-    pub short-at-end : end ≤ w → held_from ws (u - 32 * w) (32 * w) < 32
-    short-at-end h = elim (dec_lt w (length ws)) [
-      | yes l ↦ omega (arith, held-from_le ws (u - 32 * w) (32 * w))
-      | no l ↦ omega (arith, from_past ws (u - 32 * w) (32 * w) (omega arith))
-    ]
-
   -- The run from place x on that came to word w goes on by that word, or ends in it.
   module _ (x w u : ℕ) (h : x ≤ 32 * w) (l : 32 * w - x ≤ held_from ws (u - x) x) where
     pub word_more : 32 ≤ held_from ws (u - 32 * w) (32 * w) → 32 * (w + 1) - x ≤ held_from ws (u - x) x
@@ -153,7 +138,3 @@ module _ (ws : List ℕ) where
   pub word-more-below : (c w : ℕ) → 0 < w → 32 * w ≤ c → c - 32 * w ≤ held_below ws c → 32 ≤ held_below ws (32 * w)
       → c - 32 * (w - 1) ≤ held_below ws c
   word-more-below c w p h l m = omega (arith, below_at ws c (32 * w) h l)
-
--- A loop over words comes nearer to its end.
-pub words_left : (w end n : ℕ) → 0 < n → w < end → end - (w + n) < end - w
-words_left w end n h l = omega arith

@@ -1,7 +1,9 @@
 // The run of set bits around a place, by words.
-ghost use Rattle.std.specs.Prelude.{◌≡◌, ◌+◌, ◌-◌, ◌%◌, ◌^◌, ◌≤◌, min, eqb, length};
+ghost use Rattle.std.specs.Prelude.{◌≡◌, ◌+◌, ◌-◌, ◌%◌, min};
+ghost use Rattle.std.specs.List.{prefix_len};
+ghost use mathlib.Core.List.{reverse};
 ghost use Rattle.bits.specs.Bits.{held_from, held_below};
-ghost use Rattle.bits.specs.Steps.{in_all};
+ghost use Rattle.bits.specs.Steps.{is_ones, is_block, front_blocks, end_blocks, OnesInFront, OnesAtEnd};
 
 // The place behind the set bits from place i on, one after another, below place `upto` and in the word of place i.
 fn stop_in_word(ws: &[u32], i: usize, upto: usize) -> usize
@@ -15,16 +17,51 @@ fn stop_in_word(ws: &[u32], i: usize, upto: usize) -> usize
     i + ones.min(upto - i)
 }
 
-// Whether the eight words from word w on are all ones.
-fn block_full(ws: &[u32], w: usize) -> bool
-    requires { w + 8 ≤ length ws.now }
-    ensures { result ≡ eqb (in_all ws.now w 8) (2 ^ 32 - 1) }
+// How many blocks of eight words in front are all ones, one after another, and how many at the end.
+fn blocks_in_front(ws: &[u32]) -> usize
+    ensures { result ≡ prefix_len is_block (front_blocks ws.now) }
 {
-    let mut all = u32::MAX;
-    for j in 0..8 {
-        all &= ws[w + j];
-    }
-    all == u32::MAX
+    let (blocks, _) = ws.as_chunks::<8>();
+    blocks.iter().take_while(|b| **b == [u32::MAX; 8]).count()
+}
+
+fn blocks_at_end(ws: &[u32]) -> usize
+    ensures { result ≡ prefix_len is_block (reverse (end_blocks ws.now)) }
+{
+    let (_, blocks) = ws.as_rchunks::<8>();
+    blocks
+        .iter()
+        .rev()
+        .take_while(|b| **b == [u32::MAX; 8])
+        .count()
+}
+
+// How many words in front are all ones, one after another, and how many at the end.
+fn words_in_front(ws: &[u32]) -> usize
+    ensures { result ≡ prefix_len is_ones ws.now }
+{
+    ws.iter().take_while(|x| **x == u32::MAX).count()
+}
+
+fn words_at_end(ws: &[u32]) -> usize
+    ensures { result ≡ prefix_len is_ones (reverse ws.now) }
+{
+    ws.iter().rev().take_while(|x| **x == u32::MAX).count()
+}
+
+// The same words, first by blocks, for speed, and then one by one.
+fn ones_in_front(ws: &[u32]) -> usize
+    ensures { OnesInFront ws.now result }
+{
+    let n = 8 * blocks_in_front(ws);
+    n + words_in_front(&ws[n..])
+}
+
+fn ones_at_end(ws: &[u32]) -> usize
+    ensures { OnesAtEnd ws.now result }
+{
+    let n = 8 * blocks_at_end(ws);
+    n + words_at_end(&ws[..ws.len() - n])
 }
 
 // How many bits from place x on are set, one after another, below place `upto`.
@@ -35,15 +72,14 @@ pub fn run_from(ws: &[u32], x: usize, upto: usize) -> usize
     if stop % 32 != 0 {
         return stop - x;
     }
+    let w = stop / 32;
     let end = ws.len().min(upto / 32);
-    let mut w = stop / 32;
-    while w + 8 <= end && block_full(ws, w) {
-        w += 8;
-    }
-    while w < end && (!ws[w]).trailing_zeros() == 32 {
-        w += 1;
-    }
-    stop_in_word(ws, 32 * w, upto) - x
+    let ones = if w < end {
+        ones_in_front(&ws[w..end])
+    } else {
+        0
+    };
+    stop_in_word(ws, 32 * (w + ones), upto) - x
 }
 
 // How many bits are set directly below place c, one after another.
@@ -54,7 +90,7 @@ pub fn run_below(ws: &[u32], c: usize) -> usize
         return 0;
     }
     let top = c - 1;
-    let mut w = top / 32;
+    let w = top / 32;
     if ws.len() <= w {
         return 0;
     }
@@ -62,15 +98,9 @@ pub fn run_below(ws: &[u32], c: usize) -> usize
     if head <= top % 32 {
         return head;
     }
-    while 8 <= w && block_full(ws, w - 8) {
-        w -= 8;
+    let left = w - ones_at_end(&ws[..w]);
+    if left == 0 {
+        return c;
     }
-    while 0 < w {
-        let ones = (!ws[w - 1]).leading_zeros();
-        if ones != 32 {
-            return c - 32 * w + ones as usize;
-        }
-        w -= 1;
-    }
-    c
+    c - 32 * left + (!ws[left - 1]).leading_zeros() as usize
 }
