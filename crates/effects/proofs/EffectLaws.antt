@@ -38,11 +38,6 @@ two_or_three (suc (suc zero)) l h = inl refl
 two_or_three (suc (suc (suc zero))) l h = inr refl
 two_or_three (suc (suc (suc (suc k)))) l h = absurd (omega arith)
 
--- HAVE sets has-bits and clears wants.
-pub have_sets : (has wants : List ℕ) (k : Bool) (from upto : ℕ) {h w : List ℕ} → h ≡ set_range has from upto → w ≡ clear_range wants from upto
-    → peer_of h w k ≡ have from upto (peer_of has wants k)
-have_sets has wants k from upto d e = rw (d, e)
-
 module _ (F : Format) (N b : ℕ) (has wants : List ℕ) (k : Bool) (t : List ℕ) where
   -- CHOKE and UNCHOKE set and clear the mark.
   pub mark-does : 9 < get_or t 0 0 → peer_of has wants (eqb (get_or t 0 0) 10) ≡ effect N b (plain_message F t) (peer_of has wants k)

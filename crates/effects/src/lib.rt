@@ -10,7 +10,7 @@ ghost use Rattle.effects.specs.Steps.{peer_in, Kept, turn_of, turned};
 
 use format::Format;
 use wire::limits::MIN_SIZE;
-use wire::message::{Cursor, Step};
+use wire::message::{ACK, CANCEL, CHOKE, Cursor, HAVE, REQUEST, Step};
 use wire::{plain, range, read};
 
 // The end of chunks up to `last` of n: their part inside the pack.
@@ -51,8 +51,8 @@ impl Channel<'_> {
             ≡ effect self.old.n self.old.base (plain_message format rest.now) (peer_in self.old) }
     {
         let kind = rest[0];
-        if 9 < kind {
-            self.choked = kind == 10;
+        if CANCEL < kind {
+            self.choked = kind == CHOKE;
             return;
         }
         if range::is_empty(format, rest) {
@@ -62,8 +62,8 @@ impl Channel<'_> {
         let from = self.base + chunks.first as usize;
         let upto = self.base + inside(self.n, chunks.last);
         match kind {
-            2 | 3 => self.have(from, upto),
-            8 => bits::set_range(self.wants, from, upto),
+            ACK | HAVE => self.have(from, upto),
+            REQUEST => bits::set_range(self.wants, from, upto),
             _ => bits::clear_range(self.wants, from, upto),
         }
     }

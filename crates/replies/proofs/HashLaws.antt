@@ -10,7 +10,7 @@ use lib.Pow.{pow_pos}
 use lib.Seq.{take_all, length-take-le}
 use Rattle.format.specs.declared.Format.{Format}
 use Rattle.hash.proofs.Promise.{words, bytes_of as word_bytes, words-length, bytes-length, bytes_zeros, bytes-more}
-use Rattle.tree.proofs.Promise.{bin, first, last, first_chunk, first_plus_last}
+use Rattle.tree.proofs.Promise.{first, last}
 use Rattle.store.proofs.Promise.{hash_in, hash-length, hash-words}
 use Rattle.wire.proofs.Promise.{integrity_size, place_most}
 use Rattle.wire.specs.declared.message.Message.TheVariants.{Integrity}
@@ -91,27 +91,11 @@ module _ (F : Format) (hashes : List ℕ) where
 
 -- ---- a node into a room
 
--- The chunks of the k-th node of height h, as the code has them, and its number.
-module _ (h k : ℕ) {f l : ℕ} (e : f ≡ k * 2 ^ h) (g : l ≡ f + (2 ^ h - 1)) where
-  node-first : f ≡ first (bin h (k * 2 ^ h))
-  node-first = e ∙ sym (first_chunk h k)
-
-  node-number : f + l ≡ bin h (k * 2 ^ h)
-  node-number = omega (arith, pow_pos h)
-
-  node-last : l ≡ last (bin h (k * 2 ^ h))
-  node-last = omega (arith, node-first, node-number, first_plus_last (bin h (k * 2 ^ h)))
-
-  -- Each method names them.
-  pub node-names : (F : Format) → k * 2 ^ h + 2 ^ h ≤ 2 ^ 31 → nameable F f l ≡ true
-  node-names F s = rw (node-first, node-last) (node-nameable F (bin h (k * 2 ^ h)) (omega (arith, s, pow_pos h)))
-
-  -- They and its hash, one behind the other, are its item.
-  pub node-put : (hashes : List ℕ) {w v u : Writer} → Wrote w v (name_bytes w.format 4 f l) → Wrote v u (hash_in hashes (f + l))
-      → Puts w (hash_item hashes (bin h (k * 2 ^ h)) ∷ []) u
-  unfolding hash_item
-  node-put hashes {w} p q =
-      let b = bin h (k * 2 ^ h) in
-      puts_one w (hash_item hashes b)
-      (wrote_as (sym (integrity-bytes w.format (hash_in hashes b) (first b) (last b) (hash-length hashes b)))
-      (wrote_then (rw (node-first, node-last) at p) (rw node-number at q)))
+-- Its chunks and its hash, one behind the other, are its item.
+pub node-put : (hashes : List ℕ) (b : ℕ) {f l : ℕ} → f ≡ first b → l ≡ last b → {w v u : Writer} → Wrote w v (name_bytes w.format 4 f l)
+    → Wrote v u (hash_in hashes b) → Puts w (hash_item hashes b ∷ []) u
+unfolding hash_item
+node-put hashes b e g {w} p q =
+    puts_one w (hash_item hashes b)
+    (wrote_as (sym (integrity-bytes w.format (hash_in hashes b) (first b) (last b) (hash-length hashes b)))
+    (wrote_then (rw (e, g) at p) q))

@@ -2,16 +2,19 @@
 use Prim.Native.Nat.{ℕ, suc, ◌+◌, ◌-◌, ◌*◌, ◌/◌, ◌%◌, ◌^◌, ◌<◌, ◌≤◌}
 use native.Mathlib.Omega.{arith}
 use native.Mathlib.Numerals.{add-one}
-use mathlib.Core.Path.{◌≡◌, sym, ap, ◌∙◌}
+use mathlib.Core.Path.{◌≡◌, refl, sym, ap, ◌∙◌}
 use mathlib.Core.Bool.{Bool, true, false}
 use mathlib.Core.List.{List, [], ◌∷◌, ◌++◌, map, map-append, append_assoc, append-nil}
 use borrow.Author.Tests.{eq-eqb, ne_eqb}
 use lib.Dec.{leb}
 use lib.ListN.{length, get_or, length-append, length-map}
+use Rattle.std.specs.Prelude.{Option, IfSome}
+use Rattle.std.specs.Option.{option_to_list}
+use Rattle.std.specs.Bool.{then_some}
 use Rattle.base.specs.Pick.{pick}
 use Rattle.format.specs.declared.Format.{Format}
 use Rattle.tree.proofs.Promise as tree
-use Rattle.tree.proofs.Promise.{chunk_size, max_length, chunks, levels, Node, num, bin, above, sibling_from, sent, sent_below, sent_heights, sent-none, sent-at, sibling_at, peak_turn, sibling_turn}
+use Rattle.tree.proofs.Promise.{chunk_size, max_length, chunks, levels, Node, num, above, sent, sent_below, sent_heights, sent-none, sent-at, peak_bit, peak_at, sibling_at, peak_turn, sibling_turn}
 use Rattle.wire.proofs.Promise.{everything_bin}
 use Rattle.writer.specs.declared.place.Writer.{Writer}
 use Rattle.writer.proofs.Promise.{Item, encode}
@@ -94,38 +97,29 @@ module _ (hashes : List ℕ) (N c : ℕ) {w : Writer} where
 
 -- ---- one node, or none
 
-module _ (hashes : List ℕ) {w : Writer} (n : Node) (t : Bool) where
-  turn-none : t ≡ false → Puts w (node_items hashes (pick t (n ∷ []) [])) w
-  turn-none f = rw f (puts_none w)
+module _ (hashes : List ℕ) {w v : Writer} where
+  turn-put : (n : Node) (t : Bool) → Puts w (map (hash_item hashes) (option_to_list (then_some t (num n)))) v → Puts w (node_items hashes (pick t (n ∷ []) [])) v
+  turn-put n true s = s
+  turn-put n false s = s
 
-  turn-put : t ≡ true → {b : ℕ} → b ≡ num n → {v : Writer} → Puts w (hash_item hashes b ∷ []) v → Puts w (node_items hashes (pick t (n ∷ []) [])) v
-  turn-put f e s = rw (f, ← e) s
+  -- The sibling of height h.
+  pub sibling-put : (N c h : ℕ) {o : Option ℕ} → o ≡ then_some (leb (above (suc h) c + 2 ^ suc h) N) (num (sibling_at c h))
+      → Puts w (map (hash_item hashes) (option_to_list o)) v → Puts w (node_items hashes (sibling_turn N c h)) v
+  sibling-put N c h e s = turn-put (sibling_at c h) _ (rw e at s)
 
--- The sibling of height h, by the code's test.
-module _ (N c h : ℕ) {t : Bool} (e : t ≡ leb (above (h + 1) c + 2 ^ (h + 1)) N) where
-  test : t ≡ leb (above (suc h) c + 2 ^ suc h) N
-  test = rw add-one at e
+  -- The peak of height h.
+  pub peak-put : (N h : ℕ) {o : Option ℕ} → o ≡ then_some (peak_bit N h) (num (peak_at N h))
+      → Puts w (map (hash_item hashes) (option_to_list o)) v → Puts w (node_items hashes (peak_turn N h)) v
+  peak-put N h e s = turn-put (peak_at N h) _ (rw e at s)
 
-  pub sibling-fits : t ≡ true → (k : ℕ) → k * 2 ^ h ≡ sibling_from h c → k * 2 ^ h + 2 ^ h ≤ N
-  sibling-fits f k i = rw i (tree.sibling-inside N c h (sym test ∙ f))
+-- Their numbers are small.
+turn-small : (b : ℕ) (t : Bool) → (t ≡ true → b < 2 ^ 31) → IfSome (then_some t b) (λ (x : ℕ). x < 2 ^ 31)
+turn-small b true f = f refl
+turn-small b false f = tt
 
-  module _ (hashes : List ℕ) {w : Writer} where
-    pub sibling-none : t ≡ false → Puts w (node_items hashes (sibling_turn N c h)) w
-    sibling-none f = turn-none hashes _ _ (sym test ∙ f)
+module _ (N : ℕ) (l : N ≤ chunks chunk_size max_length) where
+  pub sibling-small : (c h : ℕ) {o : Option ℕ} → o ≡ then_some (leb (above (suc h) c + 2 ^ suc h) N) (num (sibling_at c h)) → IfSome o (λ (x : ℕ). x < 2 ^ 31)
+  sibling-small c h e = rw e (turn-small (num (sibling_at c h)) _ (λ t. omega (arith, tree.sibling-inside N c h t)))
 
-    pub sibling-put : t ≡ true → (k : ℕ) → k * 2 ^ h ≡ sibling_from h c → {v : Writer}
-        → Puts w (hash_item hashes (bin h (k * 2 ^ h)) ∷ []) v → Puts w (node_items hashes (sibling_turn N c h)) v
-    sibling-put f k i s = turn-put hashes _ _ (sym test ∙ f) (ap (bin h) i) s
-
--- The peak of height h, likewise.
-module _ (N h : ℕ) {s : ℕ} (e : s ≡ N / 2 ^ h % 2) where
-  pub peak-fits : s ≡ 1 → (k : ℕ) → k * 2 ^ h ≡ above (suc h) N → k * 2 ^ h + 2 ^ h ≤ N
-  peak-fits f k i = rw i (tree.peak-inside N h (eq-eqb (N / 2 ^ h % 2) 1 (sym e ∙ f)))
-
-  module _ (hashes : List ℕ) {w : Writer} where
-    pub peak-none : (s ≡ 1 → ⊥) → Puts w (node_items hashes (peak_turn N h)) w
-    peak-none f = turn-none hashes _ _ (ne_eqb (N / 2 ^ h % 2) 1 (λ g. f (e ∙ g)))
-
-    pub peak-put : s ≡ 1 → (k : ℕ) → k * 2 ^ h ≡ above (suc h) N → {v : Writer}
-        → Puts w (hash_item hashes (bin h (k * 2 ^ h)) ∷ []) v → Puts w (node_items hashes (peak_turn N h)) v
-    peak-put f k i p = turn-put hashes _ _ (eq-eqb (N / 2 ^ h % 2) 1 (sym e ∙ f)) (ap (bin h) i) p
+  pub peak-small : (h : ℕ) {o : Option ℕ} → o ≡ then_some (peak_bit N h) (num (peak_at N h)) → IfSome o (λ (x : ℕ). x < 2 ^ 31)
+  peak-small h e = rw e (turn-small (num (peak_at N h)) _ (λ t. omega (arith, tree.peak-inside N h t)))

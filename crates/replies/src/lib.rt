@@ -2,9 +2,10 @@
 // the reply room, and what stands past it stays.
 #![tactic(auto)]
 
-ghost use Rattle.std.specs.Prelude.{◌≡◌, [], ◌∷◌, true, ◌*◌, ◌+◌, ◌≤◌, ◌<◌, ◌^◌, length};
+ghost use Rattle.std.specs.Prelude.{◌≡◌, true, ◌≤◌, ◌<◌, ◌^◌, length, map, IfSome};
+ghost use Rattle.std.specs.Option.{option_to_list};
 ghost use Rattle.hash.proofs.Promise.{bytes_of};
-ghost use Rattle.tree.proofs.Promise.{bin, chunk_size, chunks, max_length, sent, sibling_turn, peak_turn};
+ghost use Rattle.tree.proofs.Promise.{chunk_size, chunks, max_length, sent};
 ghost use Rattle.store.proofs.Promise.{hash_in};
 ghost use Rattle.wire.proofs.Promise.{min_size, max_size, integrity_size};
 ghost use Rattle.writer.proofs.Promise.{Free, Wrote, nameable};
@@ -16,7 +17,7 @@ use hash::value;
 use hash::value::HashValue;
 use tree::{bin, pack, peaks};
 use verdict::room;
-use wire::message::Options;
+use wire::message::{INTEGRITY, Options};
 use writer::place::Writer;
 
 // Our HANDSHAKE from a source channel, with the fixed options around the root; its length.
@@ -74,38 +75,15 @@ fn put_hash(writer: &mut Writer<'_>, hashes: &[u32], b: u64)
     }
 }
 
-// The INTEGRITY of the k-th node of height h.
-fn put_node(writer: &mut Writer<'_>, hashes: &[u32], h: u32, k: u64)
+// The INTEGRITY of a node, if there is one.
+fn put_node(writer: &mut Writer<'_>, hashes: &[u32], node: Option<u64>)
     requires free { Free writer.old (integrity_size writer.old.format) }
-    requires h_bound { (h < 60) × (k * 2 ^ h + 2 ^ h ≤ 2 ^ 31) }
-    ensures { Puts writer.old (hash_item hashes.now (bin h (k * 2 ^ h)) ∷ []) writer.new }
+    requires node_bound { IfSome node (λ b. b < 2 ^ 31) }
+    ensures { Puts writer.old (map (hash_item hashes.now) (option_to_list node)) writer.new }
 {
-    let w = bin::pow2(h);
-    let first = k * w;
-    let last = first + (w - 1);
-    writer.name(4, first as u32, last as u32);
-    put_hash(writer, hashes, first + last);
-}
-
-// The sibling of height h, if it goes out with chunk c of n.
-fn put_sibling(writer: &mut Writer<'_>, hashes: &[u32], n: u32, c: u32, h: u32)
-    requires free { Free writer.old (integrity_size writer.old.format) × (h < 59) }
-    requires n_bound { n ≤ chunks chunk_size max_length }
-    ensures { Puts writer.old (node_items hashes.now (sibling_turn n c h)) writer.new }
-{
-    if peaks::inside(n, c, h + 1) {
-        put_node(writer, hashes, h, peaks::sibling_index(c, h));
-    }
-}
-
-// The peak of height h, if n has one.
-fn put_peak(writer: &mut Writer<'_>, hashes: &[u32], n: u32, h: u32)
-    requires free { Free writer.old (integrity_size writer.old.format) × (h < 59) }
-    requires n_bound { n ≤ chunks chunk_size max_length }
-    ensures { Puts writer.old (node_items hashes.now (peak_turn n h)) writer.new }
-{
-    if peaks::side(n, h) == 1 {
-        put_node(writer, hashes, h, peaks::peak_index(n, h));
+    if let Some(b) = node {
+        writer.name(INTEGRITY, bin::first(b as u32), bin::last(b as u32));
+        put_hash(writer, hashes, b);
     }
 }
 
@@ -116,8 +94,8 @@ fn put_hashes(writer: &mut Writer<'_>, hashes: &[u32], n: u32, c: u32)
     ensures { Puts writer.old (node_items hashes.now (sent n c)) writer.new }
 {
     for h in (0..=pack::levels(n)).rev() {
-        put_sibling(writer, hashes, n, c, h);
-        put_peak(writer, hashes, n, h);
+        put_node(writer, hashes, peaks::sent_sibling(n, c, h));
+        put_node(writer, hashes, peaks::peak(n, h));
     }
 }
 

@@ -18,7 +18,7 @@ unfoldable pub use Rattle.tree.specs.Range.{covers, node_of_range}
 pub use Rattle.tree.specs.Pack.{chunk_size, max_length, chunks, size, levels, leaf_places, root_node}
 -- The peaks and siblings that go out with a chunk, in the sending order.
 pub use Rattle.tree.specs.Peaks.{sent}
-pub use Rattle.tree.specs.Steps.{peak_bit, sibling_at, peak_turn, sibling_turn}
+pub use Rattle.tree.specs.Steps.{peak_bit, peak_at, sibling_at, peak_turn, sibling_turn}
 pub use Rattle.tree.proofs.Below.{sent_below}
 pub use Rattle.tree.proofs.StepLaws.{sent-none, sent-at}
 pub use Rattle.tree.proofs.SentNumberLaws.{Differs, Distinct}

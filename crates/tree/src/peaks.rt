@@ -95,7 +95,7 @@ pub fn is_peak(n: u32, c: u32, h: u32) -> bool
 }
 
 // The sibling of height h, if it goes out with chunk c of n.
-fn sent_sibling(n: u32, c: u32, h: u32) -> Option<u64>
+pub fn sent_sibling(n: u32, c: u32, h: u32) -> Option<u64>
     requires { h < 59 }
     ensures { result ≡ then_some (nat_le (above (suc h) c + 2 ^ suc h) n) (num (sibling_at c h)) }
 {

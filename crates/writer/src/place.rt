@@ -8,7 +8,8 @@ use format::{Addressing, Format};
 use wire::range;
 use wire::range::{EMPTY_BIN, EVERYTHING_BIN};
 
-// Whether the method names the chunks from first to last.
+// Whether the method names the chunks from first to last: two numbers, as `Message` has them, since each call would
+// first make a `Range` of them.
 #[tactic(auto, unfolding(crate::specs::Bytes::nameable))]
 pub(crate) fn nameable(format: Format, first: u32, last: u32) -> bool
     ensures { result ≡ nameable format first last }

@@ -11,8 +11,8 @@ ghost use Rattle.writer.specs.Writer.{Free, Wrote};
 
 use crate::place::Writer;
 use wire::message::{Message, Options};
-use wire::options;
 use wire::options::FIXED_HEAD;
+use wire::{message, options};
 
 impl Writer<'_> {
     // The fixed options, around the root.
@@ -45,7 +45,7 @@ impl Writer<'_> {
         ensures { Wrote self.old self.new
             (bytes_of self.old.format bytes.now (Message.Handshake source options)) }
     {
-        self.byte(0);
+        self.byte(message::HANDSHAKE);
         self.number32(source);
         self.put_options(options, bytes);
     }
@@ -66,7 +66,7 @@ impl Writer<'_> {
         ensures { Wrote self.old self.new
             (bytes_of self.old.format bytes.now (Message.Data first last timestamp start len)) }
     {
-        self.name(1, first, last);
+        self.name(message::DATA, first, last);
         self.number64(timestamp);
         self.bytes(&bytes[start..start + len]);
     }
@@ -78,7 +78,7 @@ impl Writer<'_> {
         ensures { Wrote self.old self.new
             (bytes_of self.old.format [] (Message.Ack first last delay)) }
     {
-        self.name(2, first, last);
+        self.name(message::ACK, first, last);
         self.number64(delay);
     }
 
@@ -89,7 +89,7 @@ impl Writer<'_> {
         ensures { Wrote self.old self.new
             (bytes_of self.old.format bytes.now (Message.Integrity first last hash)) }
     {
-        self.name(4, first, last);
+        self.name(message::INTEGRITY, first, last);
         self.bytes(&bytes[hash..hash + 32]);
     }
 
@@ -110,14 +110,14 @@ impl Writer<'_> {
                 len,
             } => self.put_data(first, last, timestamp, start, len, bytes),
             Message::Ack { first, last, delay } => self.put_ack(first, last, delay),
-            Message::Have { first, last } => self.name(3, first, last),
+            Message::Have { first, last } => self.name(message::HAVE, first, last),
             Message::Integrity { first, last, hash } => self.put_integrity(
                 first, last, hash, bytes,
             ),
-            Message::Request { first, last } => self.name(8, first, last),
-            Message::Cancel { first, last } => self.name(9, first, last),
-            Message::Choke => self.byte(10),
-            Message::Unchoke => self.byte(11),
+            Message::Request { first, last } => self.name(message::REQUEST, first, last),
+            Message::Cancel { first, last } => self.name(message::CANCEL, first, last),
+            Message::Choke => self.byte(message::CHOKE),
+            Message::Unchoke => self.byte(message::UNCHOKE),
             Message::Empty { kind } => self.empty(kind),
         }
     }
