@@ -18,8 +18,8 @@ use Rattle.base.specs.Refusal.{number}
 use Rattle.wire.specs.declared.layout.Layout as src
 use Rattle.wire.specs.declared.layout.Layout.TheVariants as sound
 
--- What a datagram is: refused with a number, a HANDSHAKE alone, messages without DATA, or messages with DATA at their end.
--- `entries` is how many words their nodes take.
+-- What a datagram is: refused with a number, a HANDSHAKE alone, messages without DATA, or messages with DATA at their
+-- end. `entries` is how many words their nodes take.
 pub data Layout : Type 0 where
   Fault : (n : ℕ) → Layout
   HandshakeAlone : (source : ℕ) (options : Options) → Layout

@@ -9,7 +9,7 @@ use crate::limits::MIN_SIZE;
 use crate::message::Options;
 use base::Refusal;
 
-// What a datagram is, unless it is refused with 1, 2 or 3. `entries` says how many words of the room for nodes are written.
+// What a datagram is, if it is not refused. `entries` says how many words of the room for nodes are written.
 #[derive(Clone, Copy)]
 pub enum Layout {
     HandshakeAlone {

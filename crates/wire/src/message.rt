@@ -68,8 +68,8 @@ pub enum Message {
     },
     Choke,
     Unchoke,
-    // HAVE, REQUEST or CANCEL, by its type, over no chunk at all, under bins alone. Any byte may be asked to be added, and
-    // is refused there (writer, `writable_empty`): so the type is a number here.
+    // HAVE, REQUEST or CANCEL, by its type, over no chunk at all, under bins alone. A number: one that is to be added may
+    // have any type from the caller, and `writable_empty` of the crate writer refuses the others.
     Empty {
         kind: u8,
     },
@@ -81,8 +81,8 @@ pub struct Cursor {
     pub at: usize,
 }
 
-// What stands at a cursor; `step_number` (specs/Read) gives its number. One enum names the three cases: as
-// `Option<Result<(Message, Cursor), Refusal>>` every reader would match the same three one level deeper.
+// What stands at a cursor; `step_number` (specs/Read) gives its number. Three cases by name are plainer than an Option of a
+// Result, in which each reader would match the same three.
 #[derive(Clone, Copy)]
 pub enum Step {
     Read { message: Message, next: Cursor },

@@ -1,5 +1,4 @@
-// One message at a cursor. Its bytes, from its type on, are `rest`, which stands at `at` of the datagram. None stands for a
-// message that is refused.
+// One message at a cursor. Its bytes, from its type on, are `rest`, which stands at `at` of the datagram. None is refused.
 ghost use Rattle.std.specs.Prelude.{◌≡◌, ◌+◌, ◌≤◌, ◌<◌, ◌^◌, length};
 ghost use Rattle.wire.specs.Options.{options_size};
 ghost use Rattle.wire.specs.Read.{kind_of, handshake_at, data_at, integrity_at, ack_at, named, ranged_at};
