@@ -63,10 +63,10 @@ fn option_size(rest: &[u8], least: u8) -> Option<usize>
     ensures size { result ≡ some_size (option_size least rest.now) }
     ensures inside { IfSome result (λ n. n ≤ length rest.now) }
 {
-    if rest.len() < 1 {
+    let [code, ..] = rest else {
         return None;
-    }
-    let code = rest[0];
+    };
+    let code = *code;
     if code == END {
         return Some(1);
     }

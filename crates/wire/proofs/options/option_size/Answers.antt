@@ -6,9 +6,9 @@ use Rattle.wire.proofs.SizeLaws.{size-none, size-there}
 use Rattle.wire.proofs.options.option_size.Goals as goal
 use Rattle.wire.proofs.options.option_size.Goals.{then-code-least-via-then-code-least, then-code-least-via-else-code-least+then-code-gt9}
 
-pub returns-then-rest-lt1-clause-size : goal.returns-then-rest-lt1-clause-size
+pub returns-in_default-clause-size : goal.returns-in_default-clause-size
 unfolding option_size
-returns-then-rest-lt1-clause-size c = size-none (search tests)
+returns-in_default-clause-size c = size-none (search tests)
 
 pub returns-then-code-clause-size : goal.returns-then-code-clause-size
 unfolding option_size
@@ -23,12 +23,12 @@ returns-then-code-least-clause-size c =
     ]
 
 pub returns-then-rest-head-clause-size : goal.returns-then-rest-head-clause-size
-returns-then-rest-head-clause-size c = size-none (option-short _ _ c.if-rest-lt1.false c.if-code.false c.if-code-least.false c.if-code-gt9.false _ c.head_size-head.ensures.0 c.if-rest-head.true)
+returns-then-rest-head-clause-size c = size-none (option-short _ _ c.in-len1-up.len_at_least c.if-code.false c.if-code-least.false c.if-code-gt9.false _ c.head_size-head.ensures.0 c.if-rest-head.true)
 
 pub returns-then-rest-size-clause-size : goal.returns-then-rest-size-clause-size
-returns-then-rest-size-clause-size c = size-none (option-cut _ _ c.if-rest-lt1.false c.if-code.false c.if-code-least.false c.if-code-gt9.false _ c.head_size-head.ensures.0 _ c.body_size.ensures.0 c.if-rest-size.true)
+returns-then-rest-size-clause-size c = size-none (option-cut _ _ c.in-len1-up.len_at_least c.if-code.false c.if-code-least.false c.if-code-gt9.false _ c.head_size-head.ensures.0 _ c.body_size.ensures.0 c.if-rest-size.true)
 
 pub returns-clause-size : goal.returns-clause-size
 returns-clause-size c =
-    size-there _ (option-whole _ _ c.if-rest-lt1.false c.if-code.false c.if-code-least.false c.if-code-gt9.false _ c.head_size-head.ensures.0 _ c.body_size.ensures.0 c.if-rest-size.false)
+    size-there _ (option-whole _ _ c.in-len1-up.len_at_least c.if-code.false c.if-code-least.false c.if-code-gt9.false _ c.head_size-head.ensures.0 _ c.body_size.ensures.0 c.if-rest-size.false)
     (λ z. omega (arith, z, c.head_size-head.ensures.0, head_least (get_or c.args.rest.now 0 0)))
