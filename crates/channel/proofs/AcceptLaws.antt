@@ -1,11 +1,13 @@
 -- What it says of the order and of the rooms that neither 12 nor 11 refuses a call. Assumes nothing.
-use Rattle.std.proofs.Common.{◌≡◌, ℕ, ◌≤◌, Bool, true, false, ltb, List, length, refl, ap, ◌∙◌, arith, ltb-false}
+use Rattle.std.proofs.Common.{◌≡◌, ℕ, ◌≤◌, Bool, true, false, ltb, List, length, sym, refl, arith, ltb-false}
 use Rattle.base.specs.Pick.{pick}
 use Rattle.table.proofs.Promise.{state_words}
 use Rattle.wire.proofs.Promise.{max_size}
 use Rattle.store.proofs.Promise.{passed, both_zero, count_of, length_answer, rooms_answer, build_answer, order_accepted}
 use Rattle.channel.specs.World.{World, order_length}
 use Rattle.channel.specs.Answers.{peer_words, channel_rooms_answer, channels_answer, all_rooms_answer, own_rooms_answer, method_answer}
+use Rattle.channel.specs.Sizes.{sizes_of, own_answer}
+use Rattle.channel.specs.declared.rooms.Sizes.{Sizes}
 use Rattle.channel.specs.Starting.{build_number, start_number}
 use Rattle.order.specs.declared.Order.{Order}
 use Rattle.format.specs.Format.{is_method}
@@ -21,10 +23,10 @@ channel_rooms_accepted L s h w r e =
     let t = passed (ltb r max_size) 10 0 q.1 in
     (ltb-false s state_words n.0, ltb-false h (peer_words (count_of L)) p.0, ltb-false w (peer_words (count_of L)) q.0, ltb-false r max_size t.0)
 
--- The number under the length that was read.
-pub own_number : (w : World) {m k : ℕ} → m ≡ order_length w.channels.state
-    → k ≡ pick (ltb (length w.channels.state) state_words) 11 (all_rooms_answer m w) → k ≡ own_rooms_answer w
-own_number w e p = p ∙ ap (λ (L : ℕ). pick (ltb (length w.channels.state) state_words) 11 (all_rooms_answer L w)) e
+-- The sizes of the rooms refuse no call under the length that was read.
+pub own_passed : (w : World) {m : ℕ} {s : Sizes} → m ≡ order_length w.channels.state → s ≡ sizes_of w → 0 ≡ own_answer m s
+    → own_rooms_answer w ≡ 0
+own_passed w e f z = sym (rw (e, f) at z)
 
 -- A call that neither 12 nor 11 refuses: the length is within the limit, the state is in its room, the reply room holds a
 -- datagram.

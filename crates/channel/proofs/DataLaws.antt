@@ -5,7 +5,7 @@ use Rattle.wire.proofs.Promise.{placed}
 use Rattle.writer.proofs.Promise.{within, nameable}
 use Rattle.replies.proofs.Promise.{ack_reply}
 use Rattle.held.proofs.Promise.{Biggest, complete_interval, complete-biggest}
-use Rattle.held.specs.declared.interval.Interval.{Interval}
+use Rattle.wire.specs.declared.range.Range.{Range}
 use Rattle.table.proofs.Promise.{row_at, order_in}
 use Rattle.table.specs.declared.rows.Row.{Row}
 use Rattle.order.specs.declared.Order.{Order}
@@ -16,16 +16,11 @@ use Rattle.channel.specs.World.{Channels, channels_of, World, Out, out_at, out_o
 use Rattle.channel.specs.World.{table_rows, order_format}
 use Rattle.channel.specs.Take.{row_for, messages_number, affected, delay, acknowledged, acknowledgement, replied}
 use Rattle.channel.specs.Take.{data_by, store_out, data_taken}
-use Rattle.base.proofs.OutLaws.{at-not, at_done, unless_not, unless-done}
+use Rattle.base.proofs.OutLaws.{at-not, at_done, unless-done}
 use Rattle.base.specs.Out.{Named}
 use Rattle.format.specs.declared.Format.{Format}
 
 -- ---- the ACK
-
--- A difference modulo 2 ^ 64.
-pub delay_is : (clock x : ℕ) {d : ℕ} → clock < 2 ^ 64 → x < 2 ^ 64 → d < 2 ^ 64 → (d + x) % 2 ^ 64 ≡ clock
-    → d ≡ delay clock x
-delay_is clock x a b l e = omega arith
 
 -- The biggest complete interval around a held chunk.
 pub acknowledged-biggest : (st map : List ℕ) (c : ℕ) → length_answer (order_length st) ≡ 0 → c < chunk_count st
@@ -35,28 +30,12 @@ acknowledged-biggest st map c limit h e =
     complete-biggest (order_format st) map (chunk_count st) c h e
     (omega (arith, (length_accepted (order_length st) limit).1))
 
-module _ (st map : List ℕ) (c : ℕ) {n : ℕ} {F : Format} {v : Interval} (fe : F ≡ order_format st)
+module _ (st map : List ℕ) (c : ℕ) {n : ℕ} {F : Format} {v : Range} (fe : F ≡ order_format st)
     (ne : n ≡ chunk_count st) (ve : v ≡ complete_interval F map n c) where
   -- The method names it.
   pub ack-named : length_answer (order_length st) ≡ 0 → c < chunk_count st → bit_at map c ≡ true
       → nameable F v.first v.last ≡ true
   ack-named limit h e = rw (ve, fe, ne) (acknowledged-biggest st map c limit h e).complete.named
-
-  -- To the peer of the row that the datagram goes to.
-  pub ack-is : (s : List ℕ) (clock x : ℕ) (reply : List ℕ) {i d len : ℕ} {r : Row} {p : List ℕ}
-      → i ≡ row_for st s → r ≡ row_at (table_rows st) i → d ≡ delay clock x
-      → (len ≡ length (ack_reply F r.peer v.first v.last d))
-      × (p ≡ placed reply 0 (ack_reply F r.peer v.first v.last d))
-      → (len ≡ length (acknowledgement st map s clock c x)) × (p ≡ placed reply 0 (acknowledgement st map s clock c x))
-  ack-is s clock x reply ie re de e = rw (← ie, ← re, ← de, ← fe, ← ne, ← ve) e
-
--- The effects, and a reply.
-replied_is : (ch : Channels) (s r : List ℕ) {st : List ℕ} {h v p : List ℕ}
-    → channels_of st h v [] ≡ affected (channels_of ch.state ch.has ch.wants []) s
-    → p ≡ placed ch.reply 0 r → channels_of st h v p ≡ replied (affected ch s) r
-unfolding affected
-replied_is ch s r e q =
-    rw q (ap (λ (x : Channels). channels_of x.state x.has x.wants (placed ch.reply 0 r)) e)
 
 -- ---- DATA
 
@@ -71,61 +50,48 @@ store-held w r L c d o z =
     let h = (taken-chunk w r L c d o z).0 in
     (h, taken-map w r L c d o z c h ∙ rw (eq-eqb c c refl))
 
-module _ (w : World) (clock : ℕ) (s es : List ℕ) (c x b n : ℕ) {k : ℕ}
-    (ke : k ≡ messages_number w.channels.state s) where
-  pub data-refused : k ≢ 0 → out_of k 0 w ≡ data_taken w clock s es c x b n
+-- Messages with DATA that are not refused; m is the store's number.
+module _ (w : World) (clock : ℕ) (s es : List ℕ) (c x b n : ℕ) (z : 0 ≡ messages_number w.channels.state s)
+    {o : Order} (oe : o ≡ order_in w.channels.state) {d : List ℕ} (de : d ≡ within s b n) {m : ℕ} {node : Named} {after : Rooms}
+    (me : out_at m 0 node after ≡ store_take w.rooms (bytes_of o.root.words) o.length c d (integrity_of es s)) where
+  out-is : out_at m 0 node after ≡ store_out w s es c b n
+  out-is = rw (oe, de) at me
+
+  answer-is : m ≡ (store_out w s es c b n).answer
+  answer-is = ap (λ (o : Out Rooms). o.answer) out-is
+
+  after_is : after ≡ (store_out w s es c b n).after
+  after_is = ap (λ (o : Out Rooms). o.after) out-is
+
+  -- 0: the chunk is one of the pack, and held now.
+  pub data-held : m ≡ 0 → (c < chunk_count w.channels.state) × (bit_at after.map c ≡ true)
+  data-held q =
+      let h = store-held w.rooms _ _ c _ _ (sym answer-is ∙ q) in
+      (h.0, ap (λ (r : Rooms). bit_at r.map c) after_is ∙ h.1)
+
+  settled : {out : Out World} → out ≡ data_by w clock s c x (store_out w s es c b n)
+      → out ≡ data_taken w clock s es c x b n
   unfolding data_taken
-  data-refused d = ap (λ (y : ℕ). out_of y 0 w) ke ∙ unless_not _ w _ (λ z. d (ke ∙ z))
+  settled e = e ∙ unless-done _ w _ (sym z)
 
-  module _ (z : k ≡ 0) {o : Order} (oe : o ≡ order_in w.channels.state) {d : List ℕ} (de : d ≡ within s b n)
-      {m : ℕ} {node : Named} {after : Rooms}
-      (me : out_at m 0 node after ≡ store_take w.rooms (bytes_of o.root.words) o.length c d (integrity_of es s)) where
-    out-is : out_at m 0 node after ≡ store_out w s es c b n
-    out-is = me ∙ ap (λ (q : Order). by q d) oe ∙ ap (by (order_in w.channels.state)) de
-      where
-        by : Order → List ℕ → Out Rooms
-        by q y = store_take w.rooms (bytes_of q.root.words) q.length c y (integrity_of es s)
+  -- 8, 9 or 10: the store left its rooms as they were.
+  pub data-unfit : m ≢ 0
+      → out_at m 0 node (record { rooms = after; channels = w.channels }) ≡ data_taken w clock s es c x b n
+  unfolding data_by
+  data-unfit d =
+      let not : (store_out w s es c b n).answer ≢ 0 = λ q. d (answer-is ∙ q) in
+      let same = after_is ∙ refused-same w.rooms _ _ c _ _ not in
+      settled
+      (ap (λ (g : Rooms). out_at m 0 node (record { rooms = g; channels = w.channels })) same
+      ∙ ap (λ (y : Out Rooms). out_at y.answer 0 y.node w) out-is
+      ∙ at-not (store_out w s es c b n).node (store_out w s es c b n).answer w _ not)
 
-    answer-is : m ≡ (store_out w s es c b n).answer
-    answer-is = ap (λ (o : Out Rooms). o.answer) out-is
-
-    node-is : node ≡ (store_out w s es c b n).node
-    node-is = ap (λ (o : Out Rooms). o.node) out-is
-
-    after_is : after ≡ (store_out w s es c b n).after
-    after_is = ap (λ (o : Out Rooms). o.after) out-is
-
-    -- 0: the chunk is one of the pack, and held now.
-    pub data-held : m ≡ 0 → (c < chunk_count w.channels.state) × (bit_at after.map c ≡ true)
-    data-held q =
-        let h = store-held w.rooms _ _ c _ _ (sym answer-is ∙ q) in
-        (h.0, ap (λ (r : Rooms). bit_at r.map c) after_is ∙ h.1)
-
-    settled : {out : Out World} → out ≡ data_by w clock s c x (store_out w s es c b n)
-        → out ≡ data_taken w clock s es c x b n
-    unfolding data_taken
-    settled e = e ∙ unless-done _ w _ (sym ke ∙ z)
-
-    -- 8, 9 or 10: the store left its rooms as they were.
-    pub data-unfit : m ≢ 0
-        → out_at m 0 node (record { rooms = after; channels = w.channels }) ≡ data_taken w clock s es c x b n
-    unfolding data_by
-    data-unfit d =
-        let not : (store_out w s es c b n).answer ≢ 0 = λ q. d (answer-is ∙ q) in
-        let same = after_is ∙ refused-same w.rooms _ _ c _ _ not in
-        settled
-        (ap (λ (g : Rooms). out_at m 0 node (record { rooms = g; channels = w.channels })) same
-        ∙ ap₂ (λ (y : ℕ) (z : Named). out_at y 0 z w) answer-is node-is
-        ∙ at-not (store_out w s es c b n).node (store_out w s es c b n).answer w _ not)
-
-    -- Stored, and acknowledged.
-    pub data-done : m ≡ 0 → {len : ℕ} {p h v : List ℕ} {st : List ℕ}
-        → (len ≡ length (acknowledgement w.channels.state after.map s clock c x))
-        × (p ≡ placed w.channels.reply 0 (acknowledgement w.channels.state after.map s clock c x))
-        → channels_of st h v [] ≡ affected (channels_of w.channels.state w.channels.has w.channels.wants []) s
-        → out_of 0 len (record { rooms = after; channels = channels_of st h v p }) ≡ data_taken w clock s es c x b n
-    unfolding data_by
-    data-done q a e =
-        let r = acknowledgement w.channels.state after.map s clock c x in
-        let ch = replied_is w.channels s r e a.1 in
-        settled (rw (a.0, ch, after_is) (at_done _ (store_out w s es c b n).answer w _ (sym answer-is ∙ q)))
+  -- Stored, and acknowledged.
+  pub data-done : m ≡ 0 → {len : ℕ} {p : List ℕ} {ch : Channels}
+      → (len ≡ length (acknowledgement w.channels.state after.map s clock c x))
+      × (p ≡ placed w.channels.reply 0 (acknowledgement w.channels.state after.map s clock c x))
+      → ch ≡ affected (channels_of w.channels.state w.channels.has w.channels.wants p) s
+      → out_of 0 len (record { rooms = after; channels = ch }) ≡ data_taken w clock s es c x b n
+  unfolding data_by affected
+  data-done q a e =
+      settled (rw (a.0, e, a.1, after_is) (at_done _ (store_out w s es c b n).answer w _ (sym answer-is ∙ q)))

@@ -6,13 +6,13 @@ use Rattle.wire.proofs.Promise.{be32}
 use Rattle.wire.specs.declared.message.Options.{Options}
 use Rattle.wire.specs.declared.message.Options.TheVariants.{Fixed, EndOnly, Other}
 use Rattle.writer.proofs.Promise.{within}
-use Rattle.table.proofs.Promise.{row_of, row_at, row_after, put_row, order_in, handshake_answer}
+use Rattle.table.proofs.Promise.{row_of, row_at, row_after, put_row, order_in, handshake_row, handshake_answer}
 use Rattle.table.specs.declared.rows.Row.{Row}
 use Rattle.hash.specs.declared.value.HashValue.{HashValue}
 use Rattle.channel.specs.World.{Channels, channels_of, Out, out_of, order_root, table_rows}
 use Rattle.channel.specs.Opening.{opened_row, occupied}
 use Rattle.channel.specs.Take.{row_for, ours, handshake_taken}
-use Rattle.base.proofs.OutLaws.{unless_not, unless-done}
+use Rattle.base.proofs.OutLaws.{unless-done}
 
 -- ---- the options
 
@@ -52,29 +52,24 @@ ours-read st s o e p = p ∙ ap (λ (r : HashValue). ours (bytes_of r.words) s o
 
 -- ---- a HANDSHAKE
 
-module _ (ch : Channels) (id : ℕ) (s : List ℕ) (a : ℕ) (o : Options) {to k : ℕ} {b : Bool} (te : to ≡ be32 s 0) (be : b ≡ ours (order_root ch.state) s o)
-    (ke : k ≡ handshake_answer (table_rows ch.state) to a b id) where
-  number_is : k ≡ handshake_answer (table_rows ch.state) (be32 s 0) a (ours (order_root ch.state) s o) id
-  number_is = rw (← te, ← be) ke
-
-  -- A refused one leaves all as it was.
-  pub handshake-refused : k ≢ 0 → out_of k 0 ch ≡ handshake_taken ch id s a o
-  unfolding handshake_taken
-  handshake-refused d = ap (λ (x : ℕ). out_of x 0 ch) number_is ∙ unless_not _ ch _ (λ z. d (number_is ∙ z))
-
-  -- One that is not refused opens a channel or changes its row.
-  taken : k ≡ 0 → {out : Out Channels}
-      → out ≡ pick (eqb (be32 s 0) 0) (occupied ch (opened_row id a)) (out_of 0 0 (channels_of (put_row ch.state (row_for ch.state s) (row_after (row_at (table_rows ch.state) (row_for ch.state s)) a)) ch.has ch.wants ch.reply))
+-- One that is not refused
+module _ (ch : Channels) (id : ℕ) (s : List ℕ) (a : ℕ) (o : Options) {to : ℕ} {b : Bool} (te : to ≡ be32 s 0)
+    (be : b ≡ ours (order_root ch.state) s o) (z : 0 ≡ handshake_answer (table_rows ch.state) to a b id) where
+  taken : {out : Out Channels}
+      → out ≡ pick (eqb to 0) (occupied ch (opened_row id a)) (out_of 0 0 (channels_of (put_row ch.state (row_for ch.state s) (row_after (row_at (table_rows ch.state) (row_for ch.state s)) a)) ch.has ch.wants ch.reply))
       → out ≡ handshake_taken ch id s a o
   unfolding handshake_taken
-  taken z p = p ∙ unless-done _ ch _ (sym number_is ∙ z)
+  taken p = (rw te at p) ∙ unless-done _ ch _ (sym (rw (te, be) at z))
 
-  -- One to channel 0 opens a channel.
-  pub handshake-opens : k ≡ 0 → to ≡ 0 → {out : Out Channels} → out ≡ occupied ch (opened_row id a) → out ≡ handshake_taken ch id s a o
-  handshake-opens z e p = taken z (p ∙ rw (eq-eqb (be32 s 0) 0 (sym te ∙ e)))
+  -- opens a channel where it goes to channel 0,
+  pub handshake-opens : to ≡ 0 → {out : Out Channels} → out ≡ occupied ch (opened_row id a) → out ≡ handshake_taken ch id s a o
+  handshake-opens e p = taken (rw e p)
 
-  -- One to a row in use changes that row.
-  pub handshake-changes : k ≡ 0 → to ≢ 0 → {i : ℕ} {r q : Row} {t : List ℕ} → i ≡ row_of (table_rows ch.state) to → r ≡ row_at (table_rows ch.state) i → q ≡ row_after r a
-      → t ≡ put_row ch.state i q
+  -- and changes the row that it goes to elsewhere.
+  pub handshake-changes : to ≢ 0 → {i : ℕ} {q : Row} {t : List ℕ} → i ≡ handshake_row (table_rows ch.state) to
+      → q ≡ row_after (row_at (table_rows ch.state) i) a → t ≡ put_row ch.state i q
       → out_of 0 0 (channels_of t ch.has ch.wants ch.reply) ≡ handshake_taken ch id s a o
-  handshake-changes z d ie re qe we = taken z (rw (ne_eqb (be32 s 0) 0 (λ e. d (te ∙ e)), we, qe, re, ie, te))
+  handshake-changes d {i} ie qe we =
+      let n = ne_eqb to 0 d in
+      let e : i ≡ row_for ch.state s = (rw n at ie) ∙ ap (row_of (table_rows ch.state)) te in
+      taken (rw (n, we, qe, e))

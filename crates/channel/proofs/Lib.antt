@@ -7,8 +7,6 @@ pub mod TakeLaws
 pub mod DataLaws
 pub mod StartLaws
 pub mod WriteLaws
-pub mod AddLaws
-pub mod AskLaws
 pub mod KeepLaws
 pub mod RefusedLaws
 pub mod ReplyLaws

@@ -7,8 +7,7 @@ use Rattle.base.specs.Out.{Named}
 use Rattle.std.specs.Prelude.{Some, None}
 use Rattle.base.proofs.AmongLaws.{all_among, one_of_more, not_one}
 use Rattle.wire.proofs.Promise.{number_of, layout-one}
-use Rattle.wire.specs.Layout.{Layout}
-use Rattle.wire.specs.Layout.{Fault, HandshakeAlone, Messages, MessagesAndData}
+use Rattle.wire.specs.Layout.{Layout, Fault, HandshakeAlone, Messages, MessagesAndData}
 use Rattle.writer.proofs.Promise.{within}
 use Rattle.store.proofs.Promise.{Integrity, integrity_of, taken-named, named_small, take_spec as store_take}
 use Rattle.order.specs.declared.Order.{Order}

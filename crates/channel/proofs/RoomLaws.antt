@@ -18,13 +18,6 @@ pub state-short : (L s has wants reply : ℕ) → s < state_words → 11 ≡ cha
 unfolding channel_rooms_answer
 state-short L s has wants reply l = rw (lt-ltb s state_words l)
 
--- The same before the order is looked at.
-pub own_short : (s rest : ℕ) → s < state_words → 11 ≡ pick (ltb s state_words) 11 rest
-own_short s rest l = rw (lt-ltb s state_words l)
-
-pub own_long : (s rest : ℕ) {k : ℕ} → state_words ≤ s → k ≡ rest → k ≡ pick (ltb s state_words) 11 rest
-own_long s rest l e = rw (le-ltb s state_words l) e
-
 module _ (L s has wants reply n w : ℕ) (se : state_words ≤ s) (ne : n ≡ count_of L) (we : w ≡ row_words n) where
   -- The room for what peers have is too small.
   pub has_short : has < row_count * w → 11 ≡ channel_rooms_answer L s has wants reply

@@ -1,16 +1,21 @@
 -- Starting and building, return by return as the code has them. Assumes nothing.
-use Rattle.std.proofs.Common.{◌≡◌, ℕ, ◌≢◌, List, length, sym, ap, ◌∙◌, ap₂}
+use Rattle.std.proofs.Common.{◌≡◌, ℕ, List, length, refl, sym, ap, ◌∙◌, ap₂}
+use Rattle.std.specs.Prelude.{Result, Ok, Err, IsOk}
+use Rattle.base.specs.Out.{answer_of, out_by}
+use Rattle.base.specs.declared.Refusal.{Refusal}
 use Rattle.hash.proofs.Promise.{bytes_of, words, Words, words-bytes}
 use Rattle.hash.specs.declared.value.HashValue.{HashValue}
 use Rattle.bits.proofs.Promise.{clear_words}
 use Rattle.table.proofs.Promise.{fresh_words}
-use Rattle.store.proofs.Promise.{Rooms, build_answer, count_of, root_of, found_root, both_zero, build-zero}
+use Rattle.store.proofs.Promise.{Rooms, count_of, root_of, rooms_answer, build_answer, both_zero, start-zero, build-zero}
 use Rattle.store.proofs.Promise as store
 use Rattle.order.specs.declared.Order.{Order}
 use Rattle.channel.specs.World.{World, Channels, channels_of, Out, out_of}
-use Rattle.channel.specs.Answers.{peer_words, channels_answer, method_answer}
+use Rattle.channel.specs.Answers.{peer_words, method_answer, channels_answer, all_rooms_answer}
+use Rattle.channel.specs.Sizes.{sizes_of, all_answer, built_answer}
+use Rattle.channel.specs.declared.rooms.Sizes.{Sizes}
 use Rattle.channel.specs.Starting.{fresh_channels, order_of, start_spec, build_number, build_spec, start_number}
-use Rattle.base.proofs.OutLaws.{unless_not, unless-done}
+use Rattle.base.proofs.OutLaws.{unless-done, refusal_number}
 
 -- What a store begins with: its chunk rooms, every row free, and both rooms for peers cleared.
 begun : (ch : Channels) (o : Order) {st : List ℕ} {rooms rooms' : Rooms} {has wants : List ℕ} → st ≡ fresh_words ch.state o → rooms ≡ rooms'
@@ -20,55 +25,65 @@ begun : (ch : Channels) (o : Order) {st : List ℕ} {rooms rooms' : Rooms} {has 
 unfolding fresh_channels
 begun ch o se re he we = cc
 
+-- A call with the number 0 is done.
+answered_ok : {A : Type 0} (r : Result A Refusal) → answer_of r ≡ 0 → IsOk r
+answered_ok (Ok x) e = refl
+answered_ok (Err e) z = absurd (refusal_number e z)
+
 -- ---- starting
 
-module _ (w : World) (o : Order) (k : ℕ) (ke : k ≡ start_number w o) where
-  -- A refused start.
-  pub start-not : k ≢ 0 → out_of k 0 w ≡ start_spec w o
-  unfolding start_spec
-  start-not d = ap (λ (x : ℕ). out_of x 0 w) ke ∙ unless_not (start_number w o) w _ (λ z. d (ke ∙ z))
+-- Neither 12 nor 11.
+pub start_passed : (w : World) (o : Order) {s : Sizes} → 0 ≡ method_answer o.method → s ≡ sizes_of w → 0 ≡ all_answer o.length s
+    → start_number w o ≡ 0
+start_passed w o m e z = rw (← m) (sym (rw e at z))
 
-  -- One that is not refused: the store's rooms as its start leaves them, the rooms for peers cleared.
-  pub start-done : k ≡ 0 → {n : ℕ} {st : List ℕ} {rooms : Rooms} {has wants : List ℕ}
-      → out_of n 0 rooms ≡ store.start_spec w.rooms (bytes_of o.root.words) o.length
-      → has ≡ clear_words w.channels.has 0 (peer_words (count_of o.length))
-      → wants ≡ clear_words w.channels.wants 0 (peer_words (count_of o.length))
-      → st ≡ fresh_words w.channels.state o
-      → out_of 0 0 (record { rooms = rooms; channels = channels_of st has wants w.channels.reply }) ≡ start_spec w o
-  unfolding start_spec
-  start-done z e he we se =
-      ap (out_of 0 0) (begun w.channels o se (ap (λ (x : Out Rooms). x.after) e) he we)
-      ∙ unless-done (start_number w o) w _ (sym ke ∙ z)
+-- The store starts then.
+pub start-begun : (w : World) (o : Order) → start_number w o ≡ 0 → {A : Type 0} (r : Result A Refusal) {rooms : Rooms}
+    → out_by r 0 rooms ≡ store.start_spec w.rooms (bytes_of o.root.words) o.length → IsOk r
+start-begun w o z {A} r e =
+    let q = both_zero (method_answer o.method) (all_rooms_answer o.length w) z in
+    let p = both_zero (rooms_answer o.length w.rooms) (channels_answer o.length w.channels) q.1 in
+    answered_ok r (ap (λ (x : Out Rooms). x.answer) e ∙ start-zero w.rooms (bytes_of o.root.words) o.length p.0)
+
+-- One that is not refused: the store's rooms as its start leaves them, the rooms for peers cleared.
+pub start-done : (w : World) (o : Order) → start_number w o ≡ 0 → {A : Type 0} (r : Result A Refusal) {st : List ℕ} {rooms : Rooms} {has wants : List ℕ}
+    → out_by r 0 rooms ≡ store.start_spec w.rooms (bytes_of o.root.words) o.length
+    → has ≡ clear_words w.channels.has 0 (peer_words (count_of o.length))
+    → wants ≡ clear_words w.channels.wants 0 (peer_words (count_of o.length))
+    → st ≡ fresh_words w.channels.state o
+    → out_of 0 0 (record { rooms = rooms; channels = channels_of st has wants w.channels.reply }) ≡ start_spec w o
+unfolding start_spec
+start-done w o z r e he we se =
+    ap (out_of 0 0) (begun w.channels o se (ap (λ (x : Out Rooms). x.after) e) he we)
+    ∙ unless-done (start_number w o) w _ z
 
 -- ---- building
+
+pub build_passed : (w : World) (o : Order) (s : List ℕ) {x : Sizes} → 0 ≡ method_answer o.method → x ≡ sizes_of w
+    → 0 ≡ built_answer o.length (length s) x → build_number w o s ≡ 0
+build_passed w o s m e z = rw (← m) (sym (rw e at z))
+
+pub build-begun : (w : World) (o : Order) (s : List ℕ) → build_number w o s ≡ 0 → {A : Type 0} (r : Result A Refusal) {rooms : Rooms}
+    → out_by r 0 rooms ≡ store.build_spec w.rooms o.length s → IsOk r
+build-begun w o s z {A} r e =
+    let q = both_zero (method_answer o.method) _ z in
+    let p = both_zero (build_answer o.length (length s) (length w.rooms.bytes) (length w.rooms.map) (length w.rooms.hashes) (length w.rooms.trusted)) (channels_answer o.length w.channels) q.1 in
+    answered_ok r (ap (λ (x : Out Rooms). x.answer) e ∙ build-zero w.rooms o.length s p.0)
 
 -- The words found are those of the root's bytes.
 found_words : (u r : List ℕ) → length u ≡ 8 → Words u → bytes_of u ≡ r → u ≡ words 8 r
 found_words u r l f e = sym (words-bytes u f) ∙ ap₂ words l e
 
-module _ (w : World) (o : Order) (s : List ℕ) (k : ℕ) (ke : k ≡ build_number w o s) where
-  -- A refused building.
-  pub build-not : k ≢ 0 → out_of k 0 w ≡ build_spec w o s
-  unfolding build_spec
-  build-not d = ap (λ (x : ℕ). out_of x 0 w) ke ∙ unless_not (build_number w o s) w _ (λ z. d (ke ∙ z))
-
-  -- One that is not refused: the root found is the content's.
-  build-root : k ≡ 0 → (n : ℕ) (u : List ℕ) → n ≡ (store.build_spec w.rooms o.length s).answer → length u ≡ 8 → Words u
-      → bytes_of u ≡ found_root n (root_of s) → u ≡ words 8 (root_of s)
-  build-root z n u a l f e =
-      let b = both_zero (build_answer o.length (length s) (length w.rooms.bytes) (length w.rooms.map) (length w.rooms.hashes) (length w.rooms.trusted)) (channels_answer o.length w.channels) (both_zero (method_answer o.method) _ (sym ke ∙ z)).1 in
-      found_words u (root_of s) l f (e ∙ ap (λ (x : ℕ). found_root x (root_of s)) (a ∙ build-zero w.rooms o.length s b.0))
-
-  -- The store's rooms as its building leaves them, the rooms for peers cleared, the root found in the order.
-  pub build-done : k ≡ 0 → {n : ℕ} {st : List ℕ} {rooms : Rooms} {has wants : List ℕ} (v : HashValue)
-      → (out_of n 0 rooms ≡ store.build_spec w.rooms o.length s) × (bytes_of v.words ≡ found_root n (root_of s))
-      → length v.words ≡ 8 → Words v.words
-      → has ≡ clear_words w.channels.has 0 (peer_words (count_of o.length))
-      → wants ≡ clear_words w.channels.wants 0 (peer_words (count_of o.length))
-      → st ≡ fresh_words w.channels.state (record { root = v; length = o.length; method = o.method })
-      → out_of 0 0 (record { rooms = rooms; channels = channels_of st has wants w.channels.reply }) ≡ build_spec w o s
-  unfolding build_spec
-  build-done z {n} v e l f he we se =
-      let r : v.words ≡ words 8 (root_of s) = build-root z n v.words (ap (λ (x : Out Rooms). x.answer) e.0) l f e.1 in
-      ap (out_of 0 0) (begun w.channels (order_of (root_of s) o.length o.method) (se ∙ ap (λ (u : List ℕ). fresh_words w.channels.state (record { root = record { words = u }; length = o.length; method = o.method })) r) (ap (λ (x : Out Rooms). x.after) e.0) he we)
-      ∙ unless-done (build_number w o s) w _ (sym ke ∙ z)
+-- One that is not refused: the store's rooms as its building leaves them, the rooms for peers cleared, the root found in the order.
+pub build-done : (w : World) (o : Order) (s : List ℕ) → build_number w o s ≡ 0 → {A : Type 0} (q : Result A Refusal) {st : List ℕ} {rooms : Rooms} {has wants : List ℕ}
+    (v : HashValue) → out_by q 0 rooms ≡ store.build_spec w.rooms o.length s → bytes_of v.words ≡ root_of s
+    → length v.words ≡ 8 → Words v.words
+    → has ≡ clear_words w.channels.has 0 (peer_words (count_of o.length))
+    → wants ≡ clear_words w.channels.wants 0 (peer_words (count_of o.length))
+    → st ≡ fresh_words w.channels.state (record { root = v; length = o.length; method = o.method })
+    → out_of 0 0 (record { rooms = rooms; channels = channels_of st has wants w.channels.reply }) ≡ build_spec w o s
+unfolding build_spec
+build-done w o s z q v e b l f he we se =
+    let r : v.words ≡ words 8 (root_of s) = found_words v.words (root_of s) l f b in
+    ap (out_of 0 0) (begun w.channels (order_of (root_of s) o.length o.method) (se ∙ ap (λ (u : List ℕ). fresh_words w.channels.state (record { root = record { words = u }; length = o.length; method = o.method })) r) (ap (λ (x : Out Rooms). x.after) e) he we)
+    ∙ unless-done (build_number w o s) w _ z

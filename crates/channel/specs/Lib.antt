@@ -1,4 +1,6 @@
 pub mod World
+pub mod Lent
+pub mod Sizes
 pub mod Answers
 pub mod Opening
 pub mod Take

@@ -6,12 +6,11 @@ use Rattle.std.proofs.Math.Option.{Option, none, some}
 use Rattle.base.specs.Pick.{pick}
 use Rattle.format.specs.declared.Format.{Format}
 use Rattle.wire.proofs.Promise.{be32}
-use Rattle.wire.specs.Layout.{Layout}
-use Rattle.wire.specs.Layout.{Fault, HandshakeAlone, Messages, MessagesAndData}
+use Rattle.wire.specs.Layout.{Layout, Fault, HandshakeAlone, Messages, MessagesAndData}
 use Rattle.writer.proofs.Promise.{Item, Reads}
 use Rattle.replies.proofs.Promise.{handshake_items, ack_items, ack_reply, chunk_items}
 use Rattle.held.proofs.Promise.{Biggest}
-use Rattle.held.specs.declared.interval.Interval.{Interval}
+use Rattle.wire.specs.declared.range.Range.{Range}
 use Rattle.table.proofs.Promise.{open_row_of, row_at}
 use Rattle.store.proofs.Promise.{chunk_in}
 use Rattle.channel.specs.World.{World, Out, order_root, order_length, order_format, chunk_count, table_rows}
@@ -63,6 +62,6 @@ Replies F o (some r) = Reads F (left_in o) r.to r.items
 -- The call left as its reply the ACK of some chunks with a delay, to this channel; and in the map as the call left it,
 -- they are the biggest complete interval that covers chunk c (02, No. 2).
 pub record Acknowledges (st : List ℕ) (to c late : ℕ) (o : Out World) : Type 0 where
-  pub chunks : Interval
+  pub chunks : Range
   pub reply : left_in o ≡ ack_reply (order_format st) to chunks.first chunks.last late
   pub biggest : Biggest (order_format st) o.after.rooms.map (chunk_count st) c chunks

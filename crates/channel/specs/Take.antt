@@ -5,13 +5,12 @@ use Rattle.base.specs.Pick.{pick}
 use Rattle.wire.proofs.Promise.{be32, placed, min_size, Checked, layout_of}
 use Rattle.wire.specs.declared.message.Options.{Options}
 use Rattle.wire.specs.declared.message.Options.TheVariants.{Fixed, EndOnly, Other}
-use Rattle.wire.specs.Layout.{Layout}
-use Rattle.wire.specs.Layout.{Fault, HandshakeAlone, Messages, MessagesAndData}
+use Rattle.wire.specs.Layout.{Layout, Fault, HandshakeAlone, Messages, MessagesAndData}
 use Rattle.writer.proofs.Promise.{within, Item, read_all}
 use Rattle.effects.proofs.Promise.{any_past, Peer, peer_of, effects}
 use Rattle.replies.proofs.Promise.{ack_reply}
 use Rattle.held.proofs.Promise.{complete_interval}
-use Rattle.held.specs.declared.interval.Interval.{Interval}
+use Rattle.wire.specs.declared.range.Range.{Range}
 use Rattle.table.specs.declared.rows.Row.{Row}
 use Rattle.table.proofs.Promise.{row_of, row_at, row_after, put_row, messages_answer, handshake_answer}
 use Rattle.store.proofs.Promise.{Rooms, earlier, integrity_of, take_spec as store_take}
@@ -93,7 +92,7 @@ abbrev pub delay : (clock timestamp : ℕ) → ℕ
 delay clock timestamp = (clock + 2 ^ 64 - timestamp) % 2 ^ 64
 
 -- What an ACK of chunk c names: "the biggest complete interval that covers it" (02, No. 2), of the chunks in the map.
-abbrev pub acknowledged : (st map : List ℕ) (c : ℕ) → Interval
+abbrev pub acknowledged : (st map : List ℕ) (c : ℕ) → Range
 acknowledged st map c = complete_interval (order_format st) map (chunk_count st) c
 
 -- "Stored DATA is answered by one ACK", which names that, to the peer of the channel that it came on.

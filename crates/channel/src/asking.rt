@@ -1,33 +1,19 @@
 // Asking: the held count, and whole or not.
 ghost use Rattle.std.specs.Prelude.{◌≡◌};
-ghost use Rattle.channel.specs.Ask.{asked_of, ask_spec};
+ghost use Rattle.held.proofs.Promise.{asked_by};
+ghost use Rattle.channel.specs.Ask.{ask_spec};
 
+use base::Refusal;
+use held::Held;
 use table::words;
 use table::words::STATE_WORDS;
 
-#[derive(Clone, Copy)]
-pub struct Asked {
-    pub answer: u32,
-    pub held: u32,
-    pub whole: bool,
-}
-
 // How many chunks the map has, and whether it has all.
-pub fn ask(state: &[u32], map: &[u32]) -> Asked
-    ensures { asked_of result.answer result.held result.whole
-        ≡ ask_spec state.now map.now }
+pub fn ask(state: &[u32], map: &[u32]) -> Result<Held, Refusal>
+    ensures { asked_by result ≡ ask_spec state.now map.now }
 {
     if state.len() < STATE_WORDS {
-        return Asked {
-            answer: 11,
-            held: 0,
-            whole: false,
-        };
+        return Err(Refusal::RoomTooSmall);
     }
-    let asked = held::ask(words::length_in(state), map);
-    Asked {
-        answer: asked.answer,
-        held: asked.held,
-        whole: asked.whole,
-    }
+    held::ask(words::length_in(state), map)
 }

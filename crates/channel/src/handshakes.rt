@@ -2,15 +2,18 @@
 ghost use Rattle.std.specs.Prelude.{◌≡◌, ◌≤◌, length};
 ghost use Rattle.hash.proofs.Promise.{bytes_of};
 ghost use Rattle.wire.proofs.Promise.{min_size, max_size};
-ghost use Rattle.channel.specs.World.{channels_of, out_of};
+ghost use Rattle.base.specs.Out.{out_by, len_of};
+ghost use Rattle.channel.specs.World.{beside};
+ghost use Rattle.channel.specs.Lent.{Kept, rooms_in, channels_in, world_in};
 ghost use Rattle.channel.specs.Take.{ours, handshake_taken};
 
 use crate::opening;
-use crate::outcome::Outcome;
+use crate::rooms::Rooms;
+use base::Refusal;
 use hash::value;
 use hash::value::HashValue;
 use table::rows::{Phase, Row};
-use table::{answers, rows, words};
+use table::{answers, words};
 use wire::bytes;
 use wire::message::Options;
 
@@ -18,10 +21,7 @@ use wire::message::Options;
 fn is_root(root: HashValue, datagram: &[u8], at: usize) -> bool
     ensures { result ≡ ours (bytes_of root.words) datagram.now (Options.Fixed at) }
 {
-    if datagram.len() < 32 {
-        return false;
-    }
-    if datagram.len() - 32 < at {
+    if datagram.len() < 32 || datagram.len() - 32 < at {
         return false;
     }
     value::same(value::load(datagram, at), root)
@@ -33,37 +33,29 @@ fn is_ours(root: HashValue, options: Options, datagram: &[u8]) -> bool
 {
     match options {
         Options::Fixed { root: at } => is_root(root, datagram, at),
-        Options::EndOnly => false,
-        Options::Other => false,
+        Options::EndOnly | Options::Other => false,
     }
 }
 
-// A HANDSHAKE alone, of a datagram with its destination.
+// A HANDSHAKE alone, of a datagram with its destination; the reply's length.
 pub(crate) fn handshake(
-    state: &mut [u32],
-    has: &mut [u32],
-    wants: &mut [u32],
-    reply: &mut [u8],
+    rooms: &mut Rooms<'_>,
     id: u32,
     source: u32,
     options: Options,
     datagram: &[u8],
-) -> Outcome
-    requires max_size_in_bounds { max_size ≤ length reply.old }
+) -> Result<usize, Refusal>
+    requires max_size_in_bounds { max_size ≤ length rooms.old.reply.now }
     requires min_size_in_bounds { min_size ≤ length datagram.now }
-    ensures { out_of result.answer result.len
-        (channels_of state.new has.new wants.new reply.new)
-        ≡ handshake_taken
-        (channels_of state.old has.old wants.old reply.old)
-        id datagram.now source options }
+    ensures kept { Kept rooms.old rooms.new }
+    ensures out { out_by result (len_of result) (world_in rooms.new)
+        ≡ beside (rooms_in rooms.old)
+        (handshake_taken (channels_in rooms.old) id datagram.now source options) }
 {
     let to = bytes::load32(datagram, 0);
-    let i = words::row_of(state, to);
+    let state = &mut *rooms.state;
     let ours = is_ours(words::root_in(state), options, datagram);
-    let answer = answers::handshake_answer(state, i, to, source, ours, id);
-    if answer != 0 {
-        return Outcome { answer, len: 0 };
-    }
+    let i = answers::handshake_answer(state, to, source, ours, id)?;
     if to == 0 {
         let row = Row {
             phase: Phase::Open,
@@ -71,9 +63,16 @@ pub(crate) fn handshake(
             peer: source,
             choked: false,
         };
-        return opening::occupy(state, has, wants, reply, row);
+        return Ok(opening::occupy(
+            state,
+            rooms.has,
+            rooms.wants,
+            rooms.reply,
+            i,
+            row,
+        ));
     }
-    let row = rows::row_after(words::row_at(state, i), source);
+    let row = words::row_at(state, i).after(source);
     words::put_row(state, i, row);
-    Outcome { answer: 0, len: 0 }
+    Ok(0)
 }

@@ -1,224 +1,168 @@
-// Messages other than a HANDSHAKE: their number, their effects, and the chunk that DATA brings with its reply.
-ghost use Rattle.std.specs.Prelude.{◌≡◌, ◌+◌, ◌<◌, ◌≤◌, true, [], length};
-ghost use Rattle.wire.proofs.Promise.{placed, min_size, max_size, survey_all};
+// Messages other than a HANDSHAKE: why they are refused, their effects, and the chunk that DATA brings with its reply.
+ghost use Rattle.std.specs.Prelude.{◌≡◌, ◌+◌, ◌<◌, ◌≤◌, true, length, IfOk};
+ghost use Rattle.wire.proofs.Promise.{min_size, max_size, survey_all};
+ghost use Rattle.replies.specs.Steps.{Sends};
 ghost use Rattle.bits.proofs.Promise.{bit_at};
 ghost use Rattle.store.proofs.Promise.{length_answer};
 ghost use Rattle.table.proofs.Promise.{row_count};
-ghost use Rattle.channel.specs.World.{channels_of, world_of, out_at, out_of, order_length, order_format, chunk_count};
+ghost use Rattle.base.specs.Out.{Answers, out_by, len_of};
+ghost use Rattle.channel.specs.World.{beside, order_length, order_format, chunk_count};
+ghost use Rattle.channel.specs.Lent.{Kept, rooms_in, channels_in, world_in};
 ghost use Rattle.channel.specs.Take.{row_for, messages_number, affected, messages_taken};
 ghost use Rattle.channel.specs.Take.{acknowledgement, data_taken};
 
-use crate::outcome::{Outcome, Taken};
+use crate::rooms::Rooms;
+use base::Refusal;
 use format::Format;
 use held::interval;
 use store::calls;
 use table::rows::Row;
 use table::{answers, words};
 use tree::pack;
+use verdict::integrity::Integrity;
 use wire::bytes;
 use wire::limits::MIN_SIZE;
 use wire::survey::Survey;
 
-// The row that a datagram goes to, or 16. It is found once a call, and handed on.
-fn row_for(state: &[u32], datagram: &[u8]) -> usize
-    requires { min_size ≤ length datagram.now }
-    ensures { (result ≡ row_for state.now datagram.now) × (result ≤ row_count) }
-{
-    words::row_of(state, bytes::load32(datagram, 0))
-}
-
-// What the channel says to messages other than a HANDSHAKE: 5, 3 or 7; or 0.
-fn judge(state: &[u32], i: usize, datagram: &[u8], survey: Survey) -> u32
-    requires state_value { length_answer (order_length state.now) ≡ 0 }
+// The row of the channel that messages other than a HANDSHAKE go to; or 5, 3 or 7.
+fn row_for(rooms: &Rooms<'_>, datagram: &[u8], survey: Survey) -> Result<usize, Refusal>
+    requires state_value { length_answer (order_length rooms.now.state.now) ≡ 0 }
     requires min_size_in_bounds { min_size ≤ length datagram.now }
-    requires i_value { i ≡ row_for state.now datagram.now }
-    requires survey_value { survey ≡ survey_all (order_format state.now) datagram.now }
-    ensures { result ≡ messages_number state.now datagram.now }
+    requires survey_value { survey ≡ survey_all (order_format rooms.now.state.now) datagram.now }
+    ensures answer { Answers result (messages_number rooms.now.state.now datagram.now) }
+    ensures row { IfOk result (λ i. (i ≡ row_for rooms.now.state.now datagram.now) × (i < row_count)) }
 {
     let keepalive = datagram.len() == MIN_SIZE;
-    let refused = answers::messages_answer(state, i, bytes::load32(datagram, 0), keepalive);
-    if refused != 0 {
-        return refused;
+    let i = answers::messages_answer(rooms.state, bytes::load32(datagram, 0), keepalive)?;
+    if pack::chunk_count(words::length_in(rooms.state)) <= survey.highest {
+        return Err(Refusal::PastPack);
     }
-    if pack::chunk_count(words::length_in(state)) <= survey.highest {
-        return 7;
-    }
-    0
+    Ok(i)
 }
 
-// The effects of messages on the channel that they go to.
-fn apply_messages(
-    state: &mut [u32],
-    format: Format,
-    i: usize,
-    has: &mut [u32],
-    wants: &mut [u32],
-    datagram: &[u8],
-)
-    requires state_value { length_answer (order_length state.old) ≡ 0 }
-    requires format_value { format ≡ order_format state.old }
-    requires i_value { (i ≡ row_for state.old datagram.now) × (i ≤ row_count) }
-    ensures { channels_of state.new has.new wants.new []
-        ≡ affected
-        (channels_of state.old has.old wants.old [])
-        datagram.now }
+// The effects of messages on the channel in row i, which they go to.
+fn apply_messages(rooms: &mut Rooms<'_>, format: Format, i: usize, datagram: &[u8])
+    requires state_value { length_answer (order_length rooms.old.state.now) ≡ 0 }
+    requires format_value { format ≡ order_format rooms.old.state.now }
+    requires i_value { (i ≡ row_for rooms.old.state.now datagram.now) × (i < row_count) }
+    ensures kept { Kept rooms.old rooms.new }
+    ensures pack { rooms_in rooms.new ≡ rooms_in rooms.old }
+    ensures channels { channels_in rooms.new ≡ affected (channels_in rooms.old) datagram.now }
 {
+    let state = &mut *rooms.state;
     let row = words::row_at(state, i);
     let n = pack::chunk_count(words::length_in(state));
-    let w = bits::row_words(n as u64) as usize;
-    let choked = effects::apply(has, wants, format, n, 32 * (w * i), row.choked, datagram);
-    if words::flag(choked) == words::flag(row.choked) {
-        return;
+    let base = 32 * (bits::row_words(u64::from(n)) as usize * i);
+    let choked = effects::apply(rooms.has, rooms.wants, format, n, base, row.choked, datagram);
+    if choked != row.choked {
+        words::put_row(state, i, Row { choked, ..row });
     }
-    let phase = row.phase;
-    let marked = Row {
-        phase,
-        id: row.id,
-        peer: row.peer,
-        choked,
-    };
-    words::put_row(state, i, marked);
 }
 
-// Messages without DATA.
+// Messages without DATA. There is no reply: its length is 0.
 pub(crate) fn take_messages(
-    state: &mut [u32],
+    rooms: &mut Rooms<'_>,
     format: Format,
-    has: &mut [u32],
-    wants: &mut [u32],
-    reply: &[u8],
     datagram: &[u8],
     survey: Survey,
-) -> Outcome
-    requires state_value { length_answer (order_length state.old) ≡ 0 }
-    requires format_value { format ≡ order_format state.old }
+) -> Result<usize, Refusal>
+    requires state_value { length_answer (order_length rooms.old.state.now) ≡ 0 }
+    requires format_value { format ≡ order_format rooms.old.state.now }
     requires min_size_in_bounds { min_size ≤ length datagram.now }
-    requires survey_value { survey ≡ survey_all (order_format state.old) datagram.now }
-    ensures { out_of result.answer result.len
-        (channels_of state.new has.new wants.new reply.now)
-        ≡ messages_taken
-        (channels_of state.old has.old wants.old reply.now)
-        datagram.now }
+    requires survey_value { survey ≡ survey_all (order_format rooms.old.state.now) datagram.now }
+    ensures kept { Kept rooms.old rooms.new }
+    ensures out { out_by result (len_of result) (world_in rooms.new)
+        ≡ beside (rooms_in rooms.old) (messages_taken (channels_in rooms.old) datagram.now) }
 {
-    let i = row_for(state, datagram);
-    let answer = judge(state, i, datagram, survey);
-    if answer != 0 {
-        return Outcome { answer, len: 0 };
+    let i = row_for(rooms, datagram, survey)?;
+    if survey.effective {
+        apply_messages(rooms, format, i, datagram);
     }
-    if !survey.effective {
-        return Outcome { answer: 0, len: 0 };
-    }
-    apply_messages(state, format, i, has, wants, datagram);
-    Outcome { answer: 0, len: 0 }
+    Ok(0)
 }
 
-// The ACK of the biggest complete interval around chunk c, which is held, to the peer of the channel that it came on;
+// What DATA brings: its chunk's number, its timestamp, and the `len` bytes from `start` on of a datagram.
+#[derive(Clone, Copy)]
+pub(crate) struct Data {
+    pub chunk: u32,
+    pub timestamp: u64,
+    pub start: usize,
+    pub len: usize,
+}
+
+// The ACK of the biggest complete interval around a chunk, which is held, to the peer of the channel that it came on;
 // its length.
 fn acknowledge(
     state: &[u32],
-    format: Format,
-    i: usize,
     map: &[u32],
     reply: &mut [u8],
+    format: Format,
+    i: usize,
     clock: u64,
-    c: u32,
-    timestamp: u64,
+    came: Data,
     datagram: &[u8],
 ) -> usize
     requires max_size_in_bounds { max_size ≤ length reply.old }
     requires state_value { length_answer (order_length state.now) ≡ 0 }
     requires format_value { format ≡ order_format state.now }
-    requires c_bound { (c < chunk_count state.now) × (bit_at map.now c ≡ true) }
+    requires c_bound { (came.chunk < chunk_count state.now) × (bit_at map.now came.chunk ≡ true) }
     requires i_value { i ≡ row_for state.now datagram.now }
-    ensures { (result ≡ length (acknowledgement state.now map.now datagram.now
-        clock c timestamp))
-        × (reply.new ≡ placed reply.old 0
-        (acknowledgement state.now map.now datagram.now clock c timestamp)) }
+    ensures { Sends reply.old
+        (acknowledgement state.now map.now datagram.now clock came.chunk came.timestamp)
+        reply.new result }
 {
-    let row = words::row_at(state, i);
-    let delay = std::num::wrapping_sub_u64(clock, timestamp);
+    let peer = words::row_at(state, i).peer;
+    let delay = clock.wrapping_sub(came.timestamp);
     let n = pack::chunk_count(words::length_in(state));
-    let named = interval::complete_interval(format, map, n, c);
-    replies::ack(reply, format, row.peer, named.first, named.last, delay)
+    let named = interval::complete_interval(format, map, n, came.chunk);
+    replies::ack(reply, format, peer, named.first, named.last, delay)
 }
 
-// Messages with DATA, whose chunk has `len` bytes from `start` on and whose INTEGRITY messages are in `entries`.
-pub(crate) fn take_chunk(
-    state: &mut [u32],
+// Messages with DATA, whose INTEGRITY messages are in `entries`: the chunk is stored where it may be, and the reply is
+// an ACK, of this length.
+pub(crate) fn take_data(
+    rooms: &mut Rooms<'_>,
     format: Format,
-    chunks: &mut [u8],
-    map: &mut [u32],
-    hashes: &mut [u32],
-    trusted: &mut [u32],
-    has: &mut [u32],
-    wants: &mut [u32],
-    reply: &mut [u8],
     clock: u64,
-    c: u32,
-    timestamp: u64,
-    start: usize,
-    len: usize,
+    came: Data,
     entries: &[u64],
     datagram: &[u8],
     survey: Survey,
-) -> Taken
-    requires state_value { length_answer (order_length state.old) ≡ 0 }
-    requires format_value { format ≡ order_format state.old }
-    requires max_size_in_bounds { max_size ≤ length reply.old }
+) -> Result<usize, Refusal>
+    requires state_value { length_answer (order_length rooms.old.state.now) ≡ 0 }
+    requires format_value { format ≡ order_format rooms.old.state.now }
+    requires max_size_in_bounds { max_size ≤ length rooms.old.reply.now }
     requires min_size_in_bounds { min_size ≤ length datagram.now }
-    requires len_in_bounds { start + len ≤ length datagram.now }
-    requires survey_value { survey ≡ survey_all (order_format state.old) datagram.now }
-    ensures { out_at result.answer result.len result.node
-        (world_of state.new chunks.new map.new hashes.new
-        trusted.new has.new wants.new reply.new)
-        ≡ data_taken
-        (world_of state.old chunks.old map.old hashes.old
-        trusted.old has.old wants.old reply.old)
-        clock datagram.now entries.now c timestamp start len }
+    requires len_in_bounds { came.start + came.len ≤ length datagram.now }
+    requires survey_value { survey ≡ survey_all (order_format rooms.old.state.now) datagram.now }
+    ensures kept { Kept rooms.old rooms.new }
+    ensures out { out_by result (len_of result) (world_in rooms.new)
+        ≡ data_taken (world_in rooms.old) clock datagram.now entries.now came.chunk came.timestamp
+        came.start came.len }
 {
-    let end = start + len;
-    let i = row_for(state, datagram);
-    let refused = judge(state, i, datagram, survey);
-    if refused != 0 {
-        return Taken {
-            answer: refused,
-            len: 0,
-            node: None,
-        };
-    }
-    let order = words::order_in(state);
-    let stored = calls::take(
-        order,
-        chunks,
-        map,
-        hashes,
-        trusted,
-        c,
-        &datagram[start..end],
+    let i = row_for(rooms, datagram, survey)?;
+    let order = rooms.order();
+    let end = came.start + came.len;
+    let chunk = &datagram[came.start..end];
+    let integrity = Integrity {
         entries,
-        datagram,
-    );
-    let answer = stored.answer;
-    if answer != 0 {
-        let node = stored.node;
-        return Taken {
-            answer,
-            len: 0,
-            node,
-        };
+        bytes: datagram,
+    };
+    calls::take(
+        order,
+        rooms.chunks,
+        rooms.map,
+        rooms.hashes,
+        rooms.trusted,
+        came.chunk,
+        chunk,
+        integrity,
+    )?;
+    let state = &mut *rooms.state;
+    let map = &mut *rooms.map;
+    let sent = acknowledge(state, map, rooms.reply, format, i, clock, came, datagram);
+    if survey.effective {
+        apply_messages(rooms, format, i, datagram);
     }
-    let sent = acknowledge(state, format, i, map, reply, clock, c, timestamp, datagram);
-    if !survey.effective {
-        return Taken {
-            answer: 0,
-            len: sent,
-            node: None,
-        };
-    }
-    apply_messages(state, format, i, has, wants, datagram);
-    Taken {
-        answer: 0,
-        len: sent,
-        node: None,
-    }
+    Ok(sent)
 }

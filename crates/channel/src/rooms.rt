@@ -1,115 +1,146 @@
-// The number 12 for an order's method, and 12 and 11 for the calls that are lent all eight rooms, from lengths alone.
+// The eight lent rooms, their sizes, and what refuses a call by these alone: 12 and 11.
 ghost use Rattle.std.specs.Prelude.{◌≡◌, nat_lt};
+ghost use Rattle.base.specs.Out.{Answers};
 ghost use Rattle.base.specs.Pick.{pick};
-ghost use Rattle.table.proofs.Promise.{state_words};
-ghost use Rattle.store.proofs.Promise.{earlier, order_answer, build_answer};
-ghost use Rattle.channel.specs.Answers.{method_answer, channel_rooms_answer};
+ghost use Rattle.table.proofs.Promise.{state_words, order_in};
+ghost use Rattle.channel.specs.World.{world_of, order_format};
+ghost use Rattle.channel.specs.Lent.{world_in};
+ghost use Rattle.channel.specs.Answers.{method_answer, channel_rooms_answer, own_rooms_answer};
+ghost use Rattle.channel.specs.Sizes.{sizes_of, all_answer, own_answer, built_answer};
 
+use base::Refusal;
+use format::Format;
+use order::Order;
 use store::answers;
 use table::rows::ROWS;
+use table::words;
 use table::words::STATE_WORDS;
 use wire::limits::MAX_SIZE;
 
-// The first of two numbers, if it refuses.
-pub fn earlier(first: u32, second: u32) -> u32
-    ensures { result ≡ earlier first second }
-{
-    if first != 0 {
-        return first;
-    }
-    second
+// The rooms of a store: the words of its state, its pack's four rooms, what the peers have and want, and the reply.
+#[derive(Drop)]
+pub struct Rooms<'a> {
+    pub state: &'a mut [u32],
+    pub chunks: &'a mut [u8],
+    pub map: &'a mut [u32],
+    pub hashes: &'a mut [u32],
+    pub trusted: &'a mut [u32],
+    pub has: &'a mut [u32],
+    pub wants: &'a mut [u32],
+    pub reply: &'a mut [u8],
 }
 
-// 12 for a method that no paper gives.
-pub fn method_answer(method: u32) -> u32
-    ensures { result ≡ method_answer method }
-{
-    if format::is_method(method) { 0 } else { 12 }
+impl Rooms<'_> {
+    // They suffice for the store's own order.
+    pub(crate) fn own_answer(&self) -> Result<(), Refusal>
+        ensures { Answers result (own_rooms_answer (world_in self.now)) }
+    {
+        let length = words::length_in(self.state);
+        Sizes::of(
+            self.state, self.chunks, self.map, self.hashes, self.trusted, self.has, self.wants, self.reply,
+        )
+        .own_answer(length)
+    }
+
+    // The store's order.
+    pub(crate) fn order(&self) -> Order
+        ensures { result ≡ order_in self.now.state.now }
+    {
+        words::order_in(self.state)
+    }
+
+    // What the order settles of a datagram's form.
+    pub(crate) fn format(&self) -> Format
+        ensures { result ≡ order_format self.now.state.now }
+    {
+        words::format_in(self.state)
+    }
 }
 
-// 11: the room for the state, one for what the peers have or want, or the reply room, is too small.
-fn channel_rooms_answer(length: u32, state: usize, has: usize, wants: usize, reply: usize) -> u32
-    ensures { result ≡ channel_rooms_answer length state has wants reply }
-{
-    if state < STATE_WORDS {
-        return 11;
-    }
-    let row = bits::row_words(tree::pack::chunk_count(length) as u64);
-    let words = ROWS as u64 * row;
-    if (has as u64) < words {
-        return 11;
-    }
-    if (wants as u64) < words {
-        return 11;
-    }
-    if reply < MAX_SIZE {
-        return 11;
-    }
-    0
+// The sizes of the eight rooms: of the chunks and the reply in bytes, of the others in words.
+#[derive(Clone, Copy)]
+pub struct Sizes {
+    pub state: usize,
+    pub store: answers::Sizes,
+    pub has: usize,
+    pub wants: usize,
+    pub reply: usize,
 }
 
-// 12 for the order's length, then 11 for any of the eight rooms.
-pub fn all_rooms_answer(
-    length: u32,
-    state: usize,
-    chunks: usize,
-    map: usize,
-    hashes: usize,
-    trusted: usize,
-    has: usize,
-    wants: usize,
-    reply: usize,
-) -> u32
-    ensures { result ≡ earlier
-        (order_answer length chunks map hashes trusted) (channel_rooms_answer length state has wants reply) }
-{
-    earlier(
-        answers::order_answer(length, chunks, map, hashes, trusted),
-        channel_rooms_answer(length, state, has, wants, reply),
-    )
-}
-
-// The same under the store's own order, which a room that is too small for the state does not have: 11.
-pub fn own_rooms_answer(
-    length: u32,
-    state: usize,
-    chunks: usize,
-    map: usize,
-    hashes: usize,
-    trusted: usize,
-    has: usize,
-    wants: usize,
-    reply: usize,
-) -> u32
-    ensures { result ≡ pick (nat_lt state state_words) 11 (earlier
-        (order_answer length chunks map hashes trusted) (channel_rooms_answer length state has wants reply)) }
-{
-    if state < STATE_WORDS {
-        return 11;
+impl Sizes {
+    // The sizes of these rooms.
+    pub fn of(
+        state: &[u32],
+        chunks: &[u8],
+        map: &[u32],
+        hashes: &[u32],
+        trusted: &[u32],
+        has: &[u32],
+        wants: &[u32],
+        reply: &[u8],
+    ) -> Sizes
+        ensures { result ≡ sizes_of
+            (world_of state.now chunks.now map.now hashes.now trusted.now has.now wants.now reply.now) }
+    {
+        Sizes {
+            state: state.len(),
+            store: answers::Sizes::of(chunks, map, hashes, trusted),
+            has: has.len(),
+            wants: wants.len(),
+            reply: reply.len(),
+        }
     }
-    all_rooms_answer(
-        length, state, chunks, map, hashes, trusted, has, wants, reply,
-    )
+
+    // The rooms for the state, for what the peers have and want, and for the reply suffice for a pack of this length.
+    fn channels_answer(self, length: u32) -> Result<(), Refusal>
+        ensures { Answers result (channel_rooms_answer length self.state self.has self.wants self.reply) }
+    {
+        let row = bits::row_words(u64::from(tree::pack::chunk_count(length)));
+        let words = ROWS as u64 * row;
+        if STATE_WORDS <= self.state
+            && words <= self.has as u64
+            && words <= self.wants as u64
+            && MAX_SIZE <= self.reply
+        {
+            return Ok(());
+        }
+        Err(Refusal::RoomTooSmall)
+    }
+
+    // All eight suffice for a pack of this length, which may be ordered.
+    pub fn order_answer(self, length: u32) -> Result<(), Refusal>
+        ensures { Answers result (all_answer length self) }
+    {
+        self.store.order_answer(length)?;
+        self.channels_answer(length)
+    }
+
+    // The same under the store's own order, which words that are too few for a state do not have.
+    pub fn own_answer(self, length: u32) -> Result<(), Refusal>
+        ensures { Answers result (own_answer length self) }
+    {
+        if self.state < STATE_WORDS {
+            return Err(Refusal::RoomTooSmall);
+        }
+        self.order_answer(length)
+    }
+
+    // The same for building, from a content of so many bytes.
+    pub fn build_answer(self, length: u32, content: usize) -> Result<(), Refusal>
+        ensures { Answers result (built_answer length content self) }
+    {
+        self.store.build_answer(length, content)?;
+        self.channels_answer(length)
+    }
 }
 
-// The same for building, 12 also for content of another length.
-pub fn build_number(
-    length: u32,
-    content: usize,
-    state: usize,
-    chunks: usize,
-    map: usize,
-    hashes: usize,
-    trusted: usize,
-    has: usize,
-    wants: usize,
-    reply: usize,
-) -> u32
-    ensures { result ≡ earlier
-        (build_answer length content chunks map hashes trusted) (channel_rooms_answer length state has wants reply) }
+// A paper gives this method.
+pub fn method_answer(method: u32) -> Result<(), Refusal>
+    ensures { Answers result (method_answer method) }
 {
-    earlier(
-        answers::build_answer(length, content, chunks, map, hashes, trusted),
-        channel_rooms_answer(length, state, has, wants, reply),
-    )
+    if format::is_method(method) {
+        Ok(())
+    } else {
+        Err(Refusal::Order)
+    }
 }

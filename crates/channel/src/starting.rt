@@ -2,11 +2,14 @@
 ghost use Rattle.std.specs.Prelude.{◌≡◌};
 ghost use Rattle.bits.proofs.Promise.{clear_words};
 ghost use Rattle.store.proofs.Promise.{count_of};
-ghost use Rattle.channel.specs.World.{world_of, out_of};
+ghost use Rattle.base.specs.Out.{out_by};
+ghost use Rattle.channel.specs.World.{world_of};
 ghost use Rattle.channel.specs.Answers.{peer_words};
 ghost use Rattle.channel.specs.Starting.{start_spec, build_spec};
 
 use crate::rooms;
+use crate::rooms::Sizes;
+use base::Refusal;
 use order::Order;
 use store::calls;
 use table::rows::ROWS;
@@ -16,7 +19,7 @@ use table::words;
 fn clear_rows(ws: &mut [u32], length: u32)
     ensures { ws.new ≡ clear_words ws.old 0 (peer_words (count_of length)) }
 {
-    let row = bits::row_words(tree::pack::chunk_count(length) as u64) as usize;
+    let row = bits::row_words(u64::from(tree::pack::chunk_count(length))) as usize;
     bits::clear_words(ws, 0, ROWS * row);
 }
 
@@ -31,8 +34,8 @@ pub fn start(
     wants: &mut [u32],
     reply: &[u8],
     order: Order,
-) -> u32
-    ensures { out_of result 0
+) -> Result<(), Refusal>
+    ensures { out_by result 0
         (world_of state.new chunks.now map.new hashes.new
         trusted.new has.new wants.new reply.now)
         ≡ start_spec
@@ -40,27 +43,13 @@ pub fn start(
         trusted.old has.old wants.old reply.now)
         order }
 {
-    let length = order.length;
-    let short = rooms::all_rooms_answer(
-        length,
-        state.len(),
-        chunks.len(),
-        map.len(),
-        hashes.len(),
-        trusted.len(),
-        has.len(),
-        wants.len(),
-        reply.len(),
-    );
-    let answer = rooms::earlier(rooms::method_answer(order.method), short);
-    if answer != 0 {
-        return answer;
-    }
-    calls::start(order, chunks, map, hashes, trusted);
-    clear_rows(has, length);
-    clear_rows(wants, length);
+    rooms::method_answer(order.method)?;
+    Sizes::of(state, chunks, map, hashes, trusted, has, wants, reply).order_answer(order.length)?;
+    calls::start(order, chunks, map, hashes, trusted).unwrap();
+    clear_rows(has, order.length);
+    clear_rows(wants, order.length);
     words::put_fresh(state, order);
-    0
+    Ok(())
 }
 
 // Builds a whole store from its content, under an order whose root is not looked at; the root found becomes the order's.
@@ -75,8 +64,8 @@ pub fn build(
     reply: &[u8],
     order: Order,
     content: &[u8],
-) -> u32
-    ensures { out_of result 0
+) -> Result<(), Refusal>
+    ensures { out_by result 0
         (world_of state.new chunks.new map.new hashes.new
         trusted.new has.new wants.new reply.now)
         ≡ build_spec
@@ -85,34 +74,12 @@ pub fn build(
         order content.now }
 {
     let length = order.length;
-    let method = order.method;
-    let short = rooms::build_number(
-        length,
-        content.len(),
-        state.len(),
-        chunks.len(),
-        map.len(),
-        hashes.len(),
-        trusted.len(),
-        has.len(),
-        wants.len(),
-        reply.len(),
-    );
-    let answer = rooms::earlier(rooms::method_answer(method), short);
-    if answer != 0 {
-        return answer;
-    }
-    let built = calls::build(length, chunks, map, hashes, trusted, content);
-    let root = built.root;
+    rooms::method_answer(order.method)?;
+    Sizes::of(state, chunks, map, hashes, trusted, has, wants, reply)
+        .build_answer(length, content.len())?;
+    let root = calls::build(length, chunks, map, hashes, trusted, content).unwrap();
     clear_rows(has, length);
     clear_rows(wants, length);
-    words::put_fresh(
-        state,
-        Order {
-            root,
-            length,
-            method,
-        },
-    );
-    0
+    words::put_fresh(state, Order { root, ..order });
+    Ok(())
 }

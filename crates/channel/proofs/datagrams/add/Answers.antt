@@ -1,9 +1,11 @@
-use Rattle.channel.proofs.AddLaws.{adding-not, adding-done}
-use Rattle.std.proofs.Common.{arith}
+use Rattle.std.proofs.Common.{rules}
+use Rattle.channel.specs.Adding.{adding_spec}
 use Rattle.channel.proofs.datagrams.add.Goals as goal
 
-pub returns-then-answer-ne0 : goal.returns-then-answer-ne0
-returns-then-answer-ne0 c = adding-not c.args.method c.args.reply.now c.args.len c.args.message c.args.bytes.now c.method_answer-answer.ensures c.if-answer-ne0.true
+pub returns-in_err-method_answer : goal.returns-in_err-method_answer
+unfolding adding_spec
+returns-in_err-method_answer c = search rules
 
 pub returns : goal.returns
-returns c = adding-done c.args.method c.args.reply.now c.args.len c.args.message c.args.bytes.now c.method_answer-answer.ensures (omega (arith, c.if-answer-ne0.false)) c.of_method.ensures c.add.ensures
+unfolding adding_spec
+returns c = search rules

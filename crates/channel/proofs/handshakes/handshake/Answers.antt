@@ -1,16 +1,19 @@
-use Rattle.channel.specs.World.{channels_of}
-use Rattle.std.proofs.Common.{arith}
-use Rattle.channel.proofs.HandshakeLaws.{ours-read, handshake-refused, handshake-opens, handshake-changes}
+use Rattle.std.proofs.Common.{◌≡◌, ap, rules}
+use Rattle.channel.specs.World.{beside, order_root}
+use Rattle.channel.specs.Lent.{rooms_in, channels_in}
+use Rattle.channel.specs.Take.{ours, handshake_taken}
+use Rattle.channel.proofs.HandshakeLaws.{handshake-opens, handshake-changes}
 use Rattle.channel.proofs.handshakes.handshake.Goals as goal
 
-pub handshake_answer-answer-requires : goal.handshake_answer-answer-requires
-handshake_answer-answer-requires c = c.row_of-i.ensures.0
+pub returns-in_err-i-clause-out : goal.returns-in_err-i-clause-out
+unfolding handshake_taken
+returns-in_err-i-clause-out c = search rules
 
-pub returns-then-answer-ne0 : goal.returns-then-answer-ne0
-returns-then-answer-ne0 c = let ch = channels_of c.args.state.now c.args.has.now c.args.wants.now c.args.reply.now in handshake-refused ch c.args.id c.args.datagram.now c.args.source c.args.options c.load32-to.ensures (ours-read c.args.state.now _ _ c.root_in.ensures c.is_ours-ours.ensures) c.handshake_answer-answer.ensures c.if-answer-ne0.true
+pub occupy-requires-clause-i_value : goal.occupy-requires-clause-i_value
+occupy-requires-clause-i_value c = rw c.if-to-eq0.true at c.in_ok-i.ensures.row
 
-pub returns-then-to-eq0 : goal.returns-then-to-eq0
-returns-then-to-eq0 c = let ch = channels_of c.args.state.now c.args.has.now c.args.wants.now c.args.reply.now in handshake-opens ch c.args.id c.args.datagram.now c.args.source c.args.options c.load32-to.ensures (ours-read c.args.state.now _ _ c.root_in.ensures c.is_ours-ours.ensures) c.handshake_answer-answer.ensures (omega (arith, c.if-answer-ne0.false)) c.if-to-eq0.true c.occupy.ensures
+pub returns-then-to-eq0-clause-out : goal.returns-then-to-eq0-clause-out
+returns-then-to-eq0-clause-out c = let o : c.is_ours-ours.result ≡ ours (order_root c.args.rooms.now.state.now) c.args.datagram.now c.args.options = cc in ap (beside (rooms_in c.args.rooms.now)) (handshake-opens (channels_in c.args.rooms.now) c.args.id c.args.datagram.now c.args.source c.args.options c.load32-to.ensures o c.in_ok-i.ensures.answer.0 c.if-to-eq0.true c.occupy.ensures)
 
-pub returns : goal.returns
-returns c = let ch = channels_of c.args.state.now c.args.has.now c.args.wants.now c.args.reply.now in handshake-changes ch c.args.id c.args.datagram.now c.args.source c.args.options c.load32-to.ensures (ours-read c.args.state.now _ _ c.root_in.ensures c.is_ours-ours.ensures) c.handshake_answer-answer.ensures (omega (arith, c.if-answer-ne0.false)) c.if-to-eq0.false c.row_of-i.ensures.0 c.row_at.ensures c.row_after-row.ensures c.put_row.ensures
+pub returns-clause-out : goal.returns-clause-out
+returns-clause-out c = let o : c.is_ours-ours.result ≡ ours (order_root c.args.rooms.now.state.now) c.args.datagram.now c.args.options = cc in ap (beside (rooms_in c.args.rooms.now)) (handshake-changes (channels_in c.args.rooms.now) c.args.id c.args.datagram.now c.args.source c.args.options c.load32-to.ensures o c.in_ok-i.ensures.answer.0 c.if-to-eq0.false c.in_ok-i.ensures.row.0 (search rules) c.put_row.ensures)

@@ -1,16 +1,16 @@
-use Rattle.channel.proofs.TakeLaws.{messages-refused, messages-done, affected-beside, quiet_affected}
-use Rattle.channel.specs.World.{channels_of}
-use Rattle.std.proofs.Common.{arith}
+use Rattle.std.proofs.Common.{rules, ap}
+use Rattle.channel.specs.World.{beside}
+use Rattle.channel.specs.Lent.{rooms_in, channels_in}
+use Rattle.channel.specs.Take.{messages_taken}
+use Rattle.channel.proofs.TakeLaws.{messages_done, quiet_affected}
 use Rattle.channel.proofs.messages.take_messages.Goals as goal
 
-pub returns-then-answer-ne0 : goal.returns-then-answer-ne0
-returns-then-answer-ne0 c = let ch = channels_of c.args.state.now c.args.has.now c.args.wants.now c.args.reply.now in messages-refused ch c.args.datagram.now c.judge-answer.ensures c.if-answer-ne0.true
+pub returns-in_err-i-clause-out : goal.returns-in_err-i-clause-out
+unfolding messages_taken
+returns-in_err-i-clause-out c = search rules
 
-pub returns-then-not-survey : goal.returns-then-not-survey
-returns-then-not-survey c = let ch = channels_of c.args.state.now c.args.has.now c.args.wants.now c.args.reply.now in messages-done ch c.args.datagram.now c.judge-answer.ensures (omega (arith, c.if-answer-ne0.false)) (affected-beside _ _ _ _ _ _ c.args.reply.now _ (quiet_affected _ _ _ _ c.requires.survey_value c.if-not-survey.true))
+pub returns-then-survey-clause-out : goal.returns-then-survey-clause-out
+returns-then-survey-clause-out c = rw c.apply_messages.ensures.pack (ap (beside (rooms_in c.args.rooms.now)) (messages_done (channels_in c.args.rooms.now) c.args.datagram.now c.in_ok-i.ensures.answer.0 c.apply_messages.ensures.channels))
 
-pub apply_messages-requires : goal.apply_messages-requires
-apply_messages-requires c = record { state_value = c.requires.state_value; format_value = c.requires.format_value; i_value = c.row_for-i.ensures }
-
-pub returns : goal.returns
-returns c = let ch = channels_of c.args.state.now c.args.has.now c.args.wants.now c.args.reply.now in messages-done ch c.args.datagram.now c.judge-answer.ensures (omega (arith, c.if-answer-ne0.false)) (affected-beside _ _ _ _ _ _ c.args.reply.now _ c.apply_messages.ensures)
+pub returns-else-survey-clause-out : goal.returns-else-survey-clause-out
+returns-else-survey-clause-out c = ap (beside (rooms_in c.args.rooms.now)) (messages_done (channels_in c.args.rooms.now) c.args.datagram.now c.in_ok-i.ensures.answer.0 (quiet_affected (channels_in c.args.rooms.now) c.args.datagram.now c.requires.survey_value c.if-survey.false))

@@ -1,25 +1,37 @@
-use Rattle.channel.proofs.TakeLaws.{laid, laid-survey, laid_end, laid-few, laid-entries, by_layout_lem, laid-fault, laid-handshake, laid-left, laid-data}
-use Rattle.channel.specs.World.{world_of}
-use Rattle.std.proofs.Common.{refl, ap, rules}
-use Rattle.std.specs.Prelude.{Ok}
+use Rattle.std.proofs.Common.{◌≡◌, refl, ap, Ok, Err, arith, length-take, rules}
 use Rattle.wire.specs.declared.layout.Layout as src
-use Rattle.wire.proofs.Promise.{layout_said}
+use Rattle.wire.proofs.Promise.{layout_said, refusal-told}
+use Rattle.channel.specs.Lent.{world_in}
+use Rattle.channel.specs.Steps.{left, settled}
+use Rattle.channel.proofs.TakeLaws.{laid, laid-survey, laid_end, laid-few, laid-entries, ruled-laid, ruled-messages, ruled-fault, ruled-handshake, ruled-data}
 use Rattle.channel.proofs.taking.rule_behind.Goals as goal
 
-pub slice_bounds-take_chunk-end : goal.slice_bounds-take_chunk-end
-slice_bounds-take_chunk-end c = laid-few _ c.requires.format_value _ c.args.datagram.now c.in-Ok.ensures.0 (ap (λ (x : src.Layout). layout_said (Ok x)) c.in-MessagesAndData.is) (search rules)
+pub returns-in_err-pass-clause-ruled : goal.returns-in_err-pass-clause-ruled
+returns-in_err-pass-clause-ruled c = let e : c.from_residual.result ≡ Err c.in_err-pass.field-0.0 = search rules in rw e (ruled-laid (world_in c.args.rooms.now) c.args.clock c.args.id c.args.datagram.now (laid _ c.requires.format_value _ c.args.datagram.now c.in_err-pass.ensures.0 refl) (ruled-fault (world_in c.args.rooms.now) c.args.clock c.args.id c.args.datagram.now _ (refusal-told _ _ c.args.datagram.now _ c.in_err-pass.ensures.0)))
 
-pub take_chunk-requires : goal.take_chunk-requires
-take_chunk-requires c = record { state_value = c.requires.state_value; format_value = c.requires.format_value; max_size_in_bounds = c.requires.max_size_in_bounds; min_size_in_bounds = c.requires.fronted.low; len_in_bounds = laid_end _ c.requires.format_value _ c.args.datagram.now c.in-Ok.ensures.0 (ap (λ (x : src.Layout). layout_said (Ok x)) c.in-MessagesAndData.is); survey_value = laid-survey _ c.requires.format_value _ c.args.datagram.now c.in-Ok.ensures.0 (ap (λ (x : src.Layout). layout_said (Ok x)) c.in-MessagesAndData.is) refl c.in-Ok.ensures.1 }
+pub returns-in_err-sent-in-HandshakeAlone-clause-ruled : goal.returns-in_err-sent-in-HandshakeAlone-clause-ruled
+returns-in_err-sent-in-HandshakeAlone-clause-ruled c = let e : c.from_residual-in_err-sent-in-HandshakeAlone.result ≡ Err c.in_err-sent-in-HandshakeAlone.field-0.0 = search rules in rw e (ruled-laid (world_in c.args.rooms.now) c.args.clock c.args.id c.args.datagram.now (laid _ c.requires.format_value _ c.args.datagram.now c.in_ok-pass.ensures.0 (ap (λ (x : src.Layout). layout_said (Ok x)) c.in-HandshakeAlone.is)) (ruled-handshake (world_in c.args.rooms.now) c.args.clock c.args.id c.args.datagram.now _ _ c.in_err-sent-in-HandshakeAlone.ensures.out))
 
-pub returns-in-Err : goal.returns-in-Err
-returns-in-Err c = let w = world_of c.args.state.now c.args.chunks.now c.args.map.now c.args.hashes.now c.args.trusted.now c.args.has.now c.args.wants.now c.args.reply.now in by_layout_lem w c.args.clock c.args.id c.args.datagram.now (laid _ c.requires.format_value _ c.args.datagram.now c.in-Err.ensures.0 refl) (laid-fault w c.args.clock c.args.id c.args.datagram.now c.ruled.ensures _ c.number.ensures refl refl)
+pub slice_bounds-entries-end : goal.slice_bounds-entries-end
+slice_bounds-entries-end c = laid-few _ c.requires.format_value _ c.args.datagram.now c.in_ok-pass.ensures.0 (ap (λ (x : src.Layout). layout_said (Ok x)) c.in-MessagesAndData.is) (search rules)
 
-pub returns-in-HandshakeAlone : goal.returns-in-HandshakeAlone
-returns-in-HandshakeAlone c = let w = world_of c.args.state.now c.args.chunks.now c.args.map.now c.args.hashes.now c.args.trusted.now c.args.has.now c.args.wants.now c.args.reply.now in by_layout_lem w c.args.clock c.args.id c.args.datagram.now (laid _ c.requires.format_value _ c.args.datagram.now c.in-Ok.ensures.0 (ap (λ (x : src.Layout). layout_said (Ok x)) c.in-HandshakeAlone.is)) (laid-handshake w c.args.clock c.args.id c.args.datagram.now c.ruled-in-HandshakeAlone.ensures _ _ c.unnamed.ensures c.handshake.ensures)
+pub slice_bounds-nodes-end : goal.slice_bounds-nodes-end
+slice_bounds-nodes-end c = let f = laid-few _ c.requires.format_value _ c.args.datagram.now c.in_ok-pass.ensures.0 (ap (λ (x : src.Layout). layout_said (Ok x)) c.in-MessagesAndData.is) (search rules) in simp length-take (omega (arith, f))
 
-pub returns-in-Messages : goal.returns-in-Messages
-returns-in-Messages c = let w = world_of c.args.state.now c.args.chunks.now c.args.map.now c.args.hashes.now c.args.trusted.now c.args.has.now c.args.wants.now c.args.reply.now in by_layout_lem w c.args.clock c.args.id c.args.datagram.now (laid _ c.requires.format_value _ c.args.datagram.now c.in-Ok.ensures.0 (ap (λ (x : src.Layout). layout_said (Ok x)) c.in-Messages.is)) (laid-left w c.args.clock c.args.id c.args.datagram.now c.messages_left.ensures (laid-survey _ c.requires.format_value _ c.args.datagram.now c.in-Ok.ensures.0 (ap (λ (x : src.Layout). layout_said (Ok x)) c.in-Messages.is) refl c.in-Ok.ensures.1) 0)
+pub take_data-requires-clause-len_in_bounds : goal.take_data-requires-clause-len_in_bounds
+take_data-requires-clause-len_in_bounds c = laid_end _ c.requires.format_value _ c.args.datagram.now c.in_ok-pass.ensures.0 (ap (λ (x : src.Layout). layout_said (Ok x)) c.in-MessagesAndData.is)
 
-pub returns-in-MessagesAndData : goal.returns-in-MessagesAndData
-returns-in-MessagesAndData c = let w = world_of c.args.state.now c.args.chunks.now c.args.map.now c.args.hashes.now c.args.trusted.now c.args.has.now c.args.wants.now c.args.reply.now in by_layout_lem w c.args.clock c.args.id c.args.datagram.now (laid _ c.requires.format_value _ c.args.datagram.now c.in-Ok.ensures.0 (ap (λ (x : src.Layout). layout_said (Ok x)) c.in-MessagesAndData.is)) (laid-data w c.args.clock c.args.id c.args.datagram.now c.ruled-in-MessagesAndData.ensures _ _ _ _ _ _ (laid-entries _ c.requires.format_value _ c.args.datagram.now c.in-Ok.ensures.0 (ap (λ (x : src.Layout). layout_said (Ok x)) c.in-MessagesAndData.is) (search rules)) c.take_chunk.ensures)
+pub take_data-requires-clause-survey_value : goal.take_data-requires-clause-survey_value
+take_data-requires-clause-survey_value c = laid-survey _ c.requires.format_value _ c.args.datagram.now c.in_ok-pass.ensures.0 (ap (λ (x : src.Layout). layout_said (Ok x)) c.in-MessagesAndData.is) refl c.in_ok-pass.ensures.1
+
+pub returns-in_err-sent-in-MessagesAndData-clause-ruled : goal.returns-in_err-sent-in-MessagesAndData-clause-ruled
+returns-in_err-sent-in-MessagesAndData-clause-ruled c = let e : c.from_residual-in_err-sent-in-MessagesAndData.result ≡ Err c.in_err-sent-in-MessagesAndData.field-0.0 = search rules in rw e (ruled-laid (world_in c.args.rooms.now) c.args.clock c.args.id c.args.datagram.now (laid _ c.requires.format_value _ c.args.datagram.now c.in_ok-pass.ensures.0 (ap (λ (x : src.Layout). layout_said (Ok x)) c.in-MessagesAndData.is)) (ruled-data (world_in c.args.rooms.now) c.args.clock c.args.id c.args.datagram.now _ _ _ _ _ (laid-entries _ c.requires.format_value _ c.args.datagram.now c.in_ok-pass.ensures.0 (ap (λ (x : src.Layout). layout_said (Ok x)) c.in-MessagesAndData.is) (search rules)) c.in_err-sent-in-MessagesAndData.ensures.out))
+
+pub returns-in_ok-sent-in-HandshakeAlone-clause-ruled : goal.returns-in_ok-sent-in-HandshakeAlone-clause-ruled
+returns-in_ok-sent-in-HandshakeAlone-clause-ruled c = ruled-laid (world_in c.args.rooms.now) c.args.clock c.args.id c.args.datagram.now (laid _ c.requires.format_value _ c.args.datagram.now c.in_ok-pass.ensures.0 (ap (λ (x : src.Layout). layout_said (Ok x)) c.in-HandshakeAlone.is)) (ruled-handshake (world_in c.args.rooms.now) c.args.clock c.args.id c.args.datagram.now _ _ c.in_ok-sent-in-HandshakeAlone.ensures.out)
+
+pub returns-in-Messages-clause-ruled : goal.returns-in-Messages-clause-ruled
+returns-in-Messages-clause-ruled c = ruled-laid (world_in c.args.rooms.now) c.args.clock c.args.id c.args.datagram.now (laid _ c.requires.format_value _ c.args.datagram.now c.in_ok-pass.ensures.0 (ap (λ (x : src.Layout). layout_said (Ok x)) c.in-Messages.is)) (ruled-messages (world_in c.args.rooms.now) c.args.clock c.args.id c.args.datagram.now c.in-Messages.entries (laid-survey _ c.requires.format_value _ c.args.datagram.now c.in_ok-pass.ensures.0 (ap (λ (x : src.Layout). layout_said (Ok x)) c.in-Messages.is) refl c.in_ok-pass.ensures.1))
+
+pub returns-in_ok-sent-in-MessagesAndData-clause-ruled : goal.returns-in_ok-sent-in-MessagesAndData-clause-ruled
+returns-in_ok-sent-in-MessagesAndData-clause-ruled c = ruled-laid (world_in c.args.rooms.now) c.args.clock c.args.id c.args.datagram.now (laid _ c.requires.format_value _ c.args.datagram.now c.in_ok-pass.ensures.0 (ap (λ (x : src.Layout). layout_said (Ok x)) c.in-MessagesAndData.is)) (ruled-data (world_in c.args.rooms.now) c.args.clock c.args.id c.args.datagram.now _ _ _ _ _ (laid-entries _ c.requires.format_value _ c.args.datagram.now c.in_ok-pass.ensures.0 (ap (λ (x : src.Layout). layout_said (Ok x)) c.in-MessagesAndData.is) (search rules)) c.in_ok-sent-in-MessagesAndData.ensures.out)

@@ -1,23 +1,34 @@
-use Rattle.channel.proofs.WriteLaws.{write-not, write-facts, write_done}
-use Rattle.channel.proofs.AcceptLaws.{own_number}
-use Rattle.channel.proofs.TakeLaws.{count-read}
-use Rattle.std.proofs.Common.{ℕ, ap, ◌∙◌, arith, w32, Fits, rules}
-use Rattle.channel.specs.World.{world_of}
+use Rattle.std.proofs.Common.{◌≡◌, arith, rules}
 use Rattle.tree.proofs.Promise.{chunk_size, size}
+use Rattle.channel.specs.World.{world_of, chunk_count, order_length}
+use Rattle.channel.specs.Write.{write_spec}
+use Rattle.channel.proofs.AcceptLaws.{own_passed}
+use Rattle.channel.proofs.WriteLaws.{write-facts, write_done}
 use Rattle.channel.proofs.writing.write.Goals as goal
 
-pub returns-then-answer-ne0 : goal.returns-then-answer-ne0
-returns-then-answer-ne0 c = let w = world_of c.args.state.now c.args.chunks.now c.args.map.now c.args.hashes.now c.args.trusted.now c.args.has.now c.args.wants.now c.args.reply.now in write-not w c.args.id c.args.c c.args.clock _ (count-read c.args.state.now c.length_in-length.ensures c.chunk_count-n.ensures) (own_number w c.length_in-length.ensures c.own_rooms_answer-refused.ensures) c.write_answer.ensures c.held_answer.ensures c.earlier-later.ensures c.earlier-answer.ensures c.if-answer-ne0.true
+pub returns-in_err-own_answer : goal.returns-in_err-own_answer
+unfolding write_spec
+returns-in_err-own_answer c = search rules
 
-pub overflow_add-end : goal.overflow_add-end
-overflow_add-end c = let f : Fits w32 c.chunk_size.result = search rules in let g : Fits w32 c.args.c = search rules in omega (arith, f.fits, g.fits)
+pub returns-in_err-i : goal.returns-in_err-i
+unfolding write_spec
+returns-in_err-i c = search rules
+
+pub returns-in_err-held_answer : goal.returns-in_err-held_answer
+unfolding write_spec
+returns-in_err-held_answer c = search rules
 
 pub slice_bounds-chunk-end : goal.slice_bounds-chunk-end
-slice_bounds-chunk-end c = let w = world_of c.args.state.now c.args.chunks.now c.args.map.now c.args.hashes.now c.args.trusted.now c.args.has.now c.args.wants.now c.args.reply.now in let p = write-facts w c.args.id c.args.c c.args.clock _ (count-read c.args.state.now c.length_in-length.ensures c.chunk_count-n.ensures) (own_number w c.length_in-length.ensures c.own_rooms_answer-refused.ensures) c.write_answer.ensures c.held_answer.ensures c.earlier-later.ensures c.earlier-answer.ensures (omega (arith, c.if-answer-ne0.false)) _ (c.chunk_size.ensures ∙ ap (λ (x : ℕ). size chunk_size x c.args.c) c.length_in-length.ensures) in omega (arith, p.inside)
+slice_bounds-chunk-end c = let w = world_of c.args.state.now c.args.chunks.now c.args.map.now c.args.hashes.now c.args.trusted.now c.args.has.now c.args.wants.now c.args.reply.now in let p = own_passed w c.length_in-length.ensures c.of.ensures c.in_ok-own_answer.ensures.0 in let n : c.chunk_count-n.result ≡ chunk_count c.args.state.now = cc in let m : c.chunk_size.result ≡ size chunk_size (order_length c.args.state.now) c.args.c = cc in let f = write-facts w c.args.id c.args.c c.args.clock _ n p c.in_ok-held_answer.ensures.0 _ m in omega (arith, f.inside)
 
-pub chunk-len-requires : goal.chunk-len-requires
-chunk-len-requires c = let w = world_of c.args.state.now c.args.chunks.now c.args.map.now c.args.hashes.now c.args.trusted.now c.args.has.now c.args.wants.now c.args.reply.now in let p = write-facts w c.args.id c.args.c c.args.clock _ (count-read c.args.state.now c.length_in-length.ensures c.chunk_count-n.ensures) (own_number w c.length_in-length.ensures c.own_rooms_answer-refused.ensures) c.write_answer.ensures c.held_answer.ensures c.earlier-later.ensures c.earlier-answer.ensures (omega (arith, c.if-answer-ne0.false)) _ (c.chunk_size.ensures ∙ ap (λ (x : ℕ). size chunk_size x c.args.c) c.length_in-length.ensures) in
-    record { max_size_in_bounds = p.fits; n_bound = p.count; bytes_len_bound = p.short; c_lt_n = p.one }
+pub chunk-requires-clause-max_size_in_bounds : goal.chunk-requires-clause-max_size_in_bounds
+chunk-requires-clause-max_size_in_bounds c = let w = world_of c.args.state.now c.args.chunks.now c.args.map.now c.args.hashes.now c.args.trusted.now c.args.has.now c.args.wants.now c.args.reply.now in let p = own_passed w c.length_in-length.ensures c.of.ensures c.in_ok-own_answer.ensures.0 in let n : c.chunk_count-n.result ≡ chunk_count c.args.state.now = cc in let m : c.chunk_size.result ≡ size chunk_size (order_length c.args.state.now) c.args.c = cc in let f = write-facts w c.args.id c.args.c c.args.clock _ n p c.in_ok-held_answer.ensures.0 _ m in f.fits
+
+pub chunk-requires-clause-n_bound : goal.chunk-requires-clause-n_bound
+chunk-requires-clause-n_bound c = let w = world_of c.args.state.now c.args.chunks.now c.args.map.now c.args.hashes.now c.args.trusted.now c.args.has.now c.args.wants.now c.args.reply.now in let p = own_passed w c.length_in-length.ensures c.of.ensures c.in_ok-own_answer.ensures.0 in let n : c.chunk_count-n.result ≡ chunk_count c.args.state.now = cc in let m : c.chunk_size.result ≡ size chunk_size (order_length c.args.state.now) c.args.c = cc in let f = write-facts w c.args.id c.args.c c.args.clock _ n p c.in_ok-held_answer.ensures.0 _ m in f.count
+
+pub chunk-requires-clause-c_lt_n : goal.chunk-requires-clause-c_lt_n
+chunk-requires-clause-c_lt_n c = let w = world_of c.args.state.now c.args.chunks.now c.args.map.now c.args.hashes.now c.args.trusted.now c.args.has.now c.args.wants.now c.args.reply.now in let p = own_passed w c.length_in-length.ensures c.of.ensures c.in_ok-own_answer.ensures.0 in let n : c.chunk_count-n.result ≡ chunk_count c.args.state.now = cc in let m : c.chunk_size.result ≡ size chunk_size (order_length c.args.state.now) c.args.c = cc in let f = write-facts w c.args.id c.args.c c.args.clock _ n p c.in_ok-held_answer.ensures.0 _ m in f.one
 
 pub returns : goal.returns
-returns c = let w = world_of c.args.state.now c.args.chunks.now c.args.map.now c.args.hashes.now c.args.trusted.now c.args.has.now c.args.wants.now c.args.reply.now in write_done w c.args.id c.args.c c.args.clock _ (count-read c.args.state.now c.length_in-length.ensures c.chunk_count-n.ensures) (own_number w c.length_in-length.ensures c.own_rooms_answer-refused.ensures) c.write_answer.ensures c.held_answer.ensures c.earlier-later.ensures c.earlier-answer.ensures (omega (arith, c.if-answer-ne0.false)) _ (c.chunk_size.ensures ∙ ap (λ (x : ℕ). size chunk_size x c.args.c) c.length_in-length.ensures) _ c.format_in.ensures c.row_at-row.ensures c.open_row_of.ensures.0 c.chunk-len.ensures
+returns c = let w = world_of c.args.state.now c.args.chunks.now c.args.map.now c.args.hashes.now c.args.trusted.now c.args.has.now c.args.wants.now c.args.reply.now in let p = own_passed w c.length_in-length.ensures c.of.ensures c.in_ok-own_answer.ensures.0 in let n : c.chunk_count-n.result ≡ chunk_count c.args.state.now = cc in let m : c.chunk_size.result ≡ size chunk_size (order_length c.args.state.now) c.args.c = cc in write_done w c.args.id c.args.c c.args.clock _ n p c.in_ok-held_answer.ensures.0 _ m c.in_ok-i.ensures.answer.0 _ c.format_in-format.ensures c.row_at-peer.ensures c.in_ok-i.ensures.row.0 c.chunk.ensures
