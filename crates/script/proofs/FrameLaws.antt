@@ -4,17 +4,16 @@ use native.Mathlib.Omega.{arith}
 use mathlib.Core.Path.{◌≡◌, refl, sym, ap, ◌∙◌}
 use mathlib.Core.List.{List, [], ◌∷◌}
 use mathlib.Core.Bool.{Bool, true, false, true≢false}
+use Rattle.std.specs.Prelude.{Option, Some, None}
 use lib.ListN.{length, take, drop}
 use lib.Seq.{sets, sets-eq, length-sets, take-append_seam}
 use lib.Dec.{ltb, leb, eqb}
-use borrow.Author.Tests.{lt-ltb, le-ltb, le-leb, lt-leb, ltb-true, ltb-false, eqb-true}
+use borrow.Author.Tests.{lt-ltb, le-ltb, le-leb, lt-leb, ltb-false, eqb-true}
 use Rattle.base.specs.Pick.{pick}
 use Rattle.base.proofs.PickLaws.{both_true}
 use Rattle.script.specs.Hex.{digit_of, all_digits, decoded}
 use Rattle.script.specs.Frames.{has_length, is_frame}
 use Rattle.script.specs.Steps.{Framed, framed, paired, frame_spec}
-use Rattle.script.specs.declared.frames.Frame.{Frame}
-use Rattle.script.specs.declared.frames.Frame.TheVariants.{Bytes, Bad}
 
 -- ---- a line's length
 
@@ -34,22 +33,22 @@ module _ (least most n : ℕ) where
 -- ---- what reading gives
 
 module _ (least most : ℕ) (line room : List ℕ) where
-  pub other_length : has_length least most (length line) ≡ false → framed Bad room ≡ frame_spec least most line room
+  pub other_length : has_length least most (length line) ≡ false → framed None room ≡ frame_spec least most line room
   unfolding frame_spec
   other_length e = rw e
 
   module _ (good : has_length least most (length line) ≡ true) where
-    pub no_room : length room < length line / 2 → framed Bad room ≡ frame_spec least most line room
+    pub no_room : length room < length line / 2 → framed None room ≡ frame_spec least most line room
     unfolding frame_spec
     no_room h = rw (good, lt-leb (length line / 2) (length room) h)
 
     -- In a room that suffices, by its characters.
     module _ (h : length line / 2 ≤ length room) {left : List ℕ} (e : left ≡ sets room 0 (paired line)) where
-      pub a-frame : all_digits line ≡ true → framed (Bytes (length line / 2)) left ≡ frame_spec least most line room
+      pub a-frame : all_digits line ≡ true → framed (Some (length line / 2)) left ≡ frame_spec least most line room
       unfolding frame_spec
       a-frame f = rw (good, le-leb (length line / 2) (length room) h, f, e)
 
-      pub other-character : all_digits line ≡ false → framed Bad left ≡ frame_spec least most line room
+      pub other-character : all_digits line ≡ false → framed None left ≡ frame_spec least most line room
       unfolding frame_spec
       other-character f = rw (good, le-leb (length line / 2) (length room) h, f, e)
 
@@ -65,13 +64,13 @@ length-decoded (c ∷ d ∷ s) = rw (length-decoded s) (omega arith)
 front : (vs l : List ℕ) → length vs ≤ length l → take (length vs) (sets l 0 vs) ≡ vs
 front vs l h = rw (sets-eq vs l 0 (omega arith)) (take-append_seam vs (drop (0 + length vs) l))
 
-abbrev is_bytes : Frame → Bool
-is_bytes (Bytes n) = true
-is_bytes Bad = false
+abbrev is_bytes : Option ℕ → Bool
+is_bytes (Some n) = true
+is_bytes None = false
 
-abbrev size_of : Frame → ℕ
-size_of (Bytes n) = n
-size_of Bad = 0
+abbrev size_of : Option ℕ → ℕ
+size_of (Some n) = n
+size_of None = 0
 
 -- A line of a good length has at least the digits asked for, not more than the most, and an even number.
 pub length_bounds : (least most n : ℕ) → has_length least most n ≡ true → (least ≤ n) × (n ≤ most) × (n % 2 ≡ 0)
@@ -108,22 +107,19 @@ paired-decoded (c ∷ []) e = refl
 paired-decoded (c ∷ d ∷ s) e =
     let p = both_true (ltb (digit_of c) 16) (all_digits (d ∷ s)) e in
     let q = both_true (ltb (digit_of d) 16) (all_digits s) p.1 in
-    rw (value (digit_of c) p.0, value (digit_of d) q.0, paired-decoded s q.1)
-  where
-    value : (x : ℕ) → ltb x 16 ≡ true → x % 16 ≡ x
-    value x e = let h = ltb-true x 16 e in omega arith
+    rw (p.0, q.0, paired-decoded s q.1)
 
 -- Of a line that is no frame, reading gives none.
 bad_read : (least most : ℕ) (line room : List ℕ) → is_frame least most line ≡ false
-    → (frame_spec least most line room).frame ≡ Bad
+    → (frame_spec least most line room).frame ≡ None
 unfolding is_frame frame_spec
 bad_read least most line room =
     go (has_length least most (length line)) (leb (length line / 2) (length room)) (all_digits line)
   where
     go : (good fit all : Bool) → pick good all false ≡ false
         → (pick good
-        (pick fit (framed (pick all (Bytes (length line / 2)) Bad) (sets room 0 (paired line))) (framed Bad room))
-        (framed Bad room)).frame ≡ Bad
+        (pick fit (framed (pick all (Some (length line / 2)) None) (sets room 0 (paired line))) (framed None room))
+        (framed None room)).frame ≡ None
     go false fit all e = refl
     go true false all e = refl
     go true true false e = refl
@@ -132,7 +128,7 @@ bad_read least most line room =
 module _ (least most : ℕ) (line room : List ℕ) (wide : most / 2 ≤ length room) where
   -- A frame is read, and its bytes stand at the front.
   frame-read : is_frame least most line ≡ true
-      → framed (Bytes (length line / 2)) (sets room 0 (decoded line)) ≡ frame_spec least most line room
+      → framed (Some (length line / 2)) (sets room 0 (decoded line)) ≡ frame_spec least most line room
   frame-read f =
       let p = frame_parts least most line f in
       let h = length_bounds least most (length line) p.0 in
@@ -140,7 +136,7 @@ module _ (least most : ℕ) (line room : List ℕ) (wide : most / 2 ≤ length r
       a-frame least most line room p.0 (omega arith) left p.1
 
   -- In a room for the longest line, bytes are those of a frame, and at the front of the room.
-  pub bytes-mean : {left : List ℕ} {len : ℕ} → framed (Bytes len) left ≡ frame_spec least most line room
+  pub bytes-mean : {left : List ℕ} {len : ℕ} → framed (Some len) left ≡ frame_spec least most line room
       → (is_frame least most line ≡ true) × (least / 2 ≤ len) × (len ≤ length left) × (take len left ≡ decoded line)
   bytes-mean {left} {len} e = go (is_frame least most line) refl
     where
@@ -165,7 +161,7 @@ module _ (least most : ℕ) (line room : List ℕ) (wide : most / 2 ≤ length r
           absurd (true≢false (ap (λ (x : Framed). is_bytes x.frame) e ∙ ap is_bytes g))
 
   -- None means that it is no frame.
-  pub bad-means : {left : List ℕ} → framed Bad left ≡ frame_spec least most line room → is_frame least most line ≡ false
+  pub bad-means : {left : List ℕ} → framed None left ≡ frame_spec least most line room → is_frame least most line ≡ false
   bad-means e = go (is_frame least most line) refl
     where
       go : (b : Bool) → is_frame least most line ≡ b → is_frame least most line ≡ false

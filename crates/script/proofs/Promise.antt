@@ -3,15 +3,16 @@
 use mathlib.Core.Path.{◌≡◌}
 use mathlib.Core.Bool.{Bool, true, false}
 use mathlib.Core.List.{List, [], ◌∷◌}
-use Prim.Native.Nat.{ℕ, suc, ◌+◌, ◌/◌, ◌<◌, ◌≤◌, min}
+use Prim.Native.Nat.{ℕ, suc, ◌+◌, ◌/◌, ◌<◌, ◌≤◌}
+use Rattle.std.specs.Prelude.{Some, None}
 use lib.Dec.{eqb}
 use lib.ListN.{length, take}
 use Rattle.base.specs.Pick.{pick}
-use Rattle.script.specs.declared.frames.Frame.TheVariants.{Bytes, Bad}
 use Rattle.script.proofs.FrameLaws as frames
 use Rattle.script.proofs.LineLaws as lines
 pub use Rattle.script.specs.Hex.{digit_of, digit_for, all_digits, decoded, encoded}
 pub use Rattle.script.specs.Lines.{Filled, filled, front, before_feed, kept}
+pub use Rattle.script.specs.Buffers.{filled_in, SameRoom}
 pub use Rattle.script.specs.Frames.{has_length, is_frame, frame_number}
 pub use Rattle.script.specs.Steps.{Framed, framed, frame_spec}
 pub use Rattle.script.specs.Answers.{answer_line, closing_line, line_size, fits, appended}
@@ -19,11 +20,11 @@ pub use Rattle.script.proofs.RoomLaws.{added, added_size, added_bound, Keeps, ke
 
 -- In a room for the longest line, bytes are those of a frame, at the front of the room; none means that it is no frame.
 module _ (least most : ℕ) (line room : List ℕ) (wide : most / 2 ≤ length room) {left : List ℕ} where
-  pub bytes-mean : {len : ℕ} → framed (Bytes len) left ≡ frame_spec least most line room
+  pub bytes-mean : {len : ℕ} → framed (Some len) left ≡ frame_spec least most line room
       → (is_frame least most line ≡ true) × (least / 2 ≤ len) × (len ≤ length left) × (take len left ≡ decoded line)
   bytes-mean = frames.bytes-mean least most line room wide
 
-  pub bad-means : framed Bad left ≡ frame_spec least most line room → is_frame least most line ≡ false
+  pub bad-means : framed None left ≡ frame_spec least most line room → is_frame least most line ≡ false
   bad-means = frames.bad-means least most line room wide
 
 -- A line that is too long is no frame.
@@ -43,10 +44,6 @@ fits_bound = lines.fits_bound
 
 pub bound_fits : (size at n : ℕ) → at + line_size n ≤ size → fits size at n ≡ true
 bound_fits = lines.bound_fits
-
--- The first elements of a list, counted.
-pub take-least : (len : ℕ) (l : List ℕ) → take (min len (length l)) l ≡ take len l
-take-least = lines.take-least
 
 -- The characters before the first line feed: by the first of all; they are some of all.
 pub feed_nothing : before_feed [] ≡ 0

@@ -1,24 +1,11 @@
-// Lines that are written: to the end of what an output room holds, or not at all where the room is too small.
-ghost use Rattle.std.specs.Prelude.{◌≡◌, ◌+◌, ◌≤◌, length, take};
+// Lines that are written: to the end of what a buffer holds, or not at all where its room is too small.
+ghost use Rattle.std.specs.Prelude.{◌≡◌, ◌+◌, ◌≤◌, length};
 ghost use Rattle.std.proofs.lemmas.List.Edits.{sets};
-ghost use Rattle.script.specs.Lines.{filled};
+ghost use Rattle.script.specs.Buffers.{filled_in, SameRoom};
 ghost use Rattle.script.specs.Answers.{line_size, fits, appended, answer_line, closing_line};
 
-use crate::{hex, lines};
-
-// Whether a line of a number and n bytes fits behind the first `at` bytes of a room of this size.
-pub fn fits(size: usize, at: usize, n: usize) -> bool
-    ensures { result ≡ fits size at n }
-{
-    if size < at {
-        return false;
-    }
-    let left = size - at;
-    if left < 3 {
-        return false;
-    }
-    n <= (left - 3) / 2
-}
+use crate::buffer::Buffer;
+use crate::hex;
 
 // Puts an answer's line at a place of a room.
 fn put_line(room: &mut [u8], at: usize, number: u8, reply: &[u8])
@@ -30,27 +17,35 @@ fn put_line(room: &mut [u8], at: usize, number: u8, reply: &[u8])
     room[at + 2 + 2 * reply.len()] = b'\n';
 }
 
-// Adds an answer's line behind the first `at` bytes of a room: the number, and the first `len` bytes of the reply room.
-// Where the lines end then.
-pub fn answer_line(room: &mut [u8], at: usize, number: u8, reply: &[u8], len: usize) -> usize
-    ensures { filled room.new result
-        ≡ appended room.old at (answer_line number (take len reply.now)) }
-{
-    let n = lines::least(len, reply.len());
-    if fits(room.len(), at, n) {
-        put_line(room, at, number, &reply[..n]);
-        return at + (3 + 2 * n);
+impl<'a> Buffer<'a> {
+    // Whether a line of a number and n bytes fits behind the bytes in use.
+    #[tactic(auto, using(std::proofs::lemmas::Bool::Decides::nat_tests), unfolding(crate::specs::Answers::fits))]
+    pub fn fits(&self, n: usize) -> bool
+        ensures { result ≡ fits (length self.now.room.now) self.now.used n }
+    {
+        let left = self.room.len().saturating_sub(self.used);
+        3 <= left && n <= (left - 3) / 2
     }
-    at
-}
 
-// Adds the closing line: whole or not, and the held count.
-pub fn closing_line(room: &mut [u8], at: usize, whole: bool, held: u32) -> usize
-    ensures { filled room.new result ≡ appended room.old at (closing_line whole held) }
-{
-    let count = [(held / 256 % 256) as u8, (held % 256) as u8];
-    if whole {
-        return answer_line(room, at, 0xff, &count, 2);
+    // Adds an answer's line: the number and the reply.
+    pub fn answer_line(&mut self, number: u8, reply: &[u8])
+        ensures same { SameRoom self.old self.new }
+        ensures appended { filled_in self.new
+            ≡ appended self.old.room.now self.old.used (answer_line number reply.now) }
+    {
+        if self.fits(reply.len()) {
+            put_line(self.room, self.used, number, reply);
+            self.used += 3 + 2 * reply.len();
+        }
     }
-    answer_line(room, at, 0xf0, &count, 2)
+
+    // Adds the closing line: whole or not, and the held count.
+    pub fn closing_line(&mut self, whole: bool, held: u32)
+        ensures same { SameRoom self.old self.new }
+        ensures appended { filled_in self.new
+            ≡ appended self.old.room.now self.old.used (closing_line whole held) }
+    {
+        let count = [(held / 256 % 256) as u8, (held % 256) as u8];
+        self.answer_line(if whole { 0xff } else { 0xf0 }, &count);
+    }
 }

@@ -2,6 +2,7 @@
 #![tactic(auto)]
 
 pub mod answers; // an answer's line, the closing line
+pub mod buffer; // a room, and how much of it is in use
 pub mod frames; // the bytes of a line
 mod hex; // digits and bytes
-pub mod lines; // where a line ends, and what is kept of it
+pub mod lines; // where a line ends
