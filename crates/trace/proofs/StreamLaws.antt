@@ -1,28 +1,30 @@
 -- Laws of the lines of blocks, step by step as the code has them. Assumes nothing.
-use Rattle.std.proofs.Common.{◌≡◌, ℕ, ◌+◌, ◌-◌, ◌<◌, ◌≤◌, min, Bool, true, false, eqb, List, [], length, take, drop, sym, refl, arith, length-drop, length-take-le, eq-eqb, ne_eqb, eqb-true}
+use Rattle.std.proofs.Common.{◌≡◌, ℕ, ◌+◌, ◌-◌, ◌<◌, ◌≤◌, min, Bool, true, false, eqb, List, [], Option, Some, None, length, take, drop, sym, refl, arith, length-drop, length-take-le, eq-eqb, ne_eqb, eqb-true}
 use borrow.Author.Tests.{eqb-false}
 use Rattle.base.specs.Pick.{pick}
 use Rattle.channel.proofs.Promise.{World, world_of, asked_of, ask_spec}
-use Rattle.script.proofs.Promise.{Filled, filled, before_feed, kept, appended, answer_line, closing_line, feed_bound, length-kept, append_nothing, front, added_bound}
+use Rattle.script.proofs.Promise.{Filled, filled, before_feed, kept, appended, answer_line, closing_line, feed_bound, append_nothing, front, added_bound}
 use Rattle.trace.specs.declared.session.Stage.{Stage}
 use Rattle.trace.specs.declared.session.Stage.TheVariants.{First, Later, Over}
 use Rattle.trace.specs.Session.{Replay, answer_of, line_answer, end_at}
 use Rattle.trace.specs.Limits.{bad_first}
 use Rattle.trace.specs.Steps.{spoken}
-use Rattle.trace.proofs.SessionLaws.{counted}
+use Rattle.trace.specs.declared.session.Reply.{Reply}
+use Rattle.std.proofs.lemmas.List.{take_min}
 use Rattle.trace.proofs.ReplayLaws.{end_out}
 use Rattle.trace.specs.Stream.{Stream, stream_of, saying, line_done, advanced, input_done, finished}
 
 -- ---- what is written
 
-module _ (room : List ℕ) (used number : ℕ) (reply : List ℕ) {silent : Bool} where
-  pub say-nothing : silent ≡ true → filled room used ≡ appended room used (spoken silent number reply)
+module _ (room : List ℕ) (used : ℕ) (reply : List ℕ) {a : Option Reply} where
+  pub say-nothing : a ≡ None → filled room used ≡ appended room used (spoken a reply)
   unfolding spoken
   say-nothing e = rw e (append_nothing room used)
 
-  pub say : silent ≡ false → appended room used (answer_line number reply) ≡ appended room used (spoken silent number reply)
+  pub say : {r : Reply} {n : ℕ} → a ≡ Some r → n ≡ min r.len (length reply)
+      → appended room used (answer_line r.number (take n reply)) ≡ appended room used (spoken a reply)
   unfolding spoken
-  say e = rw e
+  say {r} e f = rw (e, f, take_min r.len reply)
 
 module _ (room : List ℕ) (used : ℕ) (w : World) {stage : Stage} where
   pub end-first : stage ≡ First → appended room used (answer_line bad_first []) ≡ appended room used (end_at stage w)
@@ -47,11 +49,11 @@ end_rooms Over w = refl
 
 -- ---- a line answered
 
-pub line-done : (r : Replay) (room : List ℕ) (len read : ℕ) (out : List ℕ) (used : ℕ) {after : Replay} {text : List ℕ} {o : Filled}
-    → {m : ℕ} → m ≡ min len (length room) → answer_of after text ≡ line_answer r (take m room) → o ≡ appended out used text
-    → stream_of after (filled room 0) read o ≡ line_done (stream_of r (filled room len) read (filled out used))
+pub line-done : (r : Replay) (line : Filled) (read : ℕ) (out : Filled) {text : List ℕ} {after : Replay} {written : List ℕ} {o : Filled}
+    → text ≡ front line → answer_of after written ≡ line_answer r text → o ≡ appended out.room out.used written
+    → stream_of after (filled line.room 0) read o ≡ line_done (stream_of r line read out)
 unfolding line_done
-line-done r room len read out used {m = m} h e f = rw (← counted room m len h r, ← e, f)
+line-done r line read out g e f = rw (← g, ← e, f)
 
 -- ---- a block read on
 
@@ -66,21 +68,17 @@ module _ (block : List ℕ) (read : ℕ) {rest : List ℕ} (p : rest ≡ drop re
   pub before-within : read ≤ length block → read + n ≤ length block
   before-within h = omega (arith, feed_bound rest, rest-length)
 
-  pub before-less : read ≤ length block → (n ≡ length rest → ⊥) → {next : ℕ} → next ≡ read + n → next + 1 ≤ length block
-  before-less h d g = omega (arith, feed_bound rest, rest-length)
+  pub before-less : read ≤ length block → (n ≡ length rest → ⊥) → read + n + 1 ≤ length block
+  before-less h d = omega (arith, feed_bound rest, rest-length)
 
-  pub kept-length : (room : List ℕ) (len : ℕ) {k : Filled} → k ≡ kept room len (take n rest) → length k.room ≡ length room
-  kept-length room len f = rw f (length-kept room len (take n rest))
-
-  module _ (r : Replay) (room : List ℕ) (len : ℕ) (out : Filled) {k : Filled} (f : k ≡ kept room len (take n rest)) {next : ℕ} (g : next ≡ read + n) where
-    pub advance-on : n ≡ length rest → stream_of r k next out ≡ advanced block (stream_of r (filled room len) read out)
+  module _ (r : Replay) (line out : Filled) {k : Filled} (f : k ≡ kept line.room line.used (take n rest)) where
+    pub advance-on : n ≡ length rest → stream_of r k (read + n) out ≡ advanced block (stream_of r line read out)
     unfolding advanced
-    advance-on h = rw (g, ← p, ← e, eq-eqb n (length rest) h, ← f)
+    advance-on h = rw (← p, ← e, eq-eqb n (length rest) h, ← f)
 
-    pub advance-line : (n ≡ length rest → ⊥) → {past : ℕ} → past ≡ next + 1
-        → line_done (stream_of r k past out) ≡ advanced block (stream_of r (filled room len) read out)
+    pub advance-line : (n ≡ length rest → ⊥) → line_done (stream_of r k (read + n + 1) out) ≡ advanced block (stream_of r line read out)
     unfolding advanced
-    advance-line h i = rw (i, g, ← p, ← e, ne_eqb n (length rest) h, ← f)
+    advance-line h = rw (← p, ← e, ne_eqb n (length rest) h, ← f)
 
 -- ---- how far a step goes
 
@@ -118,23 +116,19 @@ module _ (block : List ℕ) (s : Stream) where
 
 -- ---- the end of input
 
-module _ (r : Replay) (room : List ℕ) (len : ℕ) (out : List ℕ) where
-  abbrev begun : Stream
-  begun = stream_of r (filled room len) 0 (filled out 0)
+pub input_none : (s : Stream) → s.line.used ≡ 0 → s ≡ input_done s
+unfolding input_done
+input_none s e = rw e
 
-  pub input_none : len ≡ 0 → stream_of r (filled room 0) 0 (filled out 0) ≡ input_done begun
-  unfolding input_done
-  input_none e = rw e
+pub input-line : (s : Stream) → (s.line.used ≡ 0 → ⊥) → line_done s ≡ input_done s
+unfolding input_done
+input-line s h = rw (ne_eqb s.line.used 0 h)
 
-  pub input-line : (len ≡ 0 → ⊥) → line_done begun ≡ input_done begun
-  unfolding input_done
-  input-line h = rw (ne_eqb len 0 h)
-
-  pub finish_with : {s : Stream} {o : Filled} → s ≡ input_done begun
-      → o ≡ appended s.out.room s.out.used (end_at s.replay.stage (world_of s.replay.world.channels.state [] s.replay.world.rooms.map [] [] [] [] []))
-      → stream_of s.replay s.line s.read o ≡ finished r (filled room len) out
-  unfolding finished
-  finish_with {s} e f = rw (f, end_rooms s.replay.stage s.replay.world, e)
+pub finish_with : (r : Replay) (line : Filled) (out : List ℕ) {s : Stream} {o : Filled} → s ≡ input_done (stream_of r line 0 (filled out 0))
+    → o ≡ appended s.out.room s.out.used (end_at s.replay.stage (world_of s.replay.world.channels.state [] s.replay.world.rooms.map [] [] [] [] []))
+    → stream_of s.replay s.line s.read o ≡ finished r line out
+unfolding finished
+finish_with r line out {s} e f = rw (f, end_rooms s.replay.stage s.replay.world, e)
 
 pub finish-within : (r : Replay) (line : Filled) (out : List ℕ) → (finished r line out).out.used ≤ length (finished r line out).out.room
 unfolding finished input_done line_done

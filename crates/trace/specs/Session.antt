@@ -1,10 +1,9 @@
 -- A store under replay, line after line (01, "The replay program"). Assumes nothing.
-use Rattle.std.specs.Prelude.{ℕ, ◌+◌, ◌%◌, ◌^◌, Bool, false, List, [], length, take, drop, replicate, ◌==◌, nat_le}
+use Rattle.std.specs.Prelude.{ℕ, ◌+◌, ◌%◌, ◌^◌, Bool, false, List, [], None, length, take, drop, replicate, ◌==◌, nat_le}
 use Rattle.base.specs.Pick.{pick}
 use Rattle.order.specs.declared.Order.{Order}
 use Rattle.wire.proofs.Promise.{be32, be64}
 use Rattle.channel.proofs.Promise.{World, order_of, start_spec, take_spec, ask_spec}
-use Rattle.script.specs.declared.frames.Frame.TheVariants.{Bad}
 use Rattle.script.proofs.Promise.{is_frame, frame_number, decoded, answer_line, closing_line}
 use Rattle.trace.specs.Limits.{length_max, order_digits, digits_min, digits_max, bad_first, replay_method}
 use Rattle.trace.specs.declared.session.Stage.{Stage}
@@ -79,7 +78,7 @@ unfoldable pub later_line : Replay → List ℕ → Answer
 later_line r line =
     pick (is_frame digits_min digits_max line)
     (frame_taken r (decoded line))
-    (answer_of r (answer_line (frame_number Bad) []))
+    (answer_of r (answer_line (frame_number None) []))
 
 -- ---- any line
 

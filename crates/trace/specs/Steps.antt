@@ -1,8 +1,9 @@
 -- Nothing of the papers: what is written, by what the code has of an answer. Assumes nothing.
-use Rattle.std.specs.Prelude.{ℕ, Bool, List, []}
-use Rattle.base.specs.Pick.{pick}
+use Rattle.std.specs.Prelude.{ℕ, List, [], Option, Some, None, take}
 use Rattle.script.proofs.Promise.{answer_line}
+use Rattle.trace.specs.declared.session.Reply.{Reply}
 
--- The line for a number and a reply, unless nothing is written.
-unfoldable pub spoken : (silent : Bool) (number : ℕ) (reply : List ℕ) → List ℕ
-spoken silent number reply = pick silent [] (answer_line number reply)
+-- The line for an answer, with so many bytes of the reply room; nothing without one.
+unfoldable pub spoken : Option Reply → (reply : List ℕ) → List ℕ
+spoken None reply = []
+spoken (Some a) reply = answer_line a.number (take a.len reply)

@@ -1,5 +1,5 @@
 // Line one: the order that the store is started under.
-ghost use Rattle.std.specs.Prelude.{◌≡◌, ◌≤◌, length, take, replicate};
+ghost use Rattle.std.specs.Prelude.{◌≡◌, ◌≤◌, length, replicate};
 ghost use Rattle.base.specs.Pick.{pick};
 ghost use Rattle.wire.proofs.Promise.{be32};
 ghost use Rattle.channel.proofs.Promise.{world_of, order_of};
@@ -8,13 +8,12 @@ ghost use Rattle.trace.specs.Session.{replay_of, answer_of, takes_length, line_o
 ghost use Rattle.trace.specs.Steps.{spoken};
 
 use crate::limits::{BAD_FIRST, LENGTH_MAX, ORDER_DIGITS, ORDER_SIZE};
-use crate::session::{Answered, Session, Stage};
+use crate::session::{Answered, Reply, Session, Stage};
 use channel::starting;
 use format::RANGES;
 use hash::value;
 use order::Order;
 use script::frames;
-use script::frames::Frame;
 use wire::bytes;
 
 // The order of a bad line.
@@ -28,6 +27,14 @@ fn no_order() -> Order
     }
 }
 
+// Whether a pack may have this length.
+#[tactic(auto, using(std::proofs::lemmas::Bool::Decides::nat_tests), unfolding(crate::specs::Session::takes_length))]
+fn takes_length(length: u32) -> bool
+    ensures { result ≡ takes_length length }
+{
+    0 < length && length <= LENGTH_MAX
+}
+
 // The order of line one's bytes: a root, then a length.
 fn order_in(frame: &[u8]) -> Order
     requires { 36 ≤ length frame.now }
@@ -37,10 +44,7 @@ fn order_in(frame: &[u8]) -> Order
         (order_of (replicate 32 0) 0 replay_method) }
 {
     let length = bytes::load32(frame, 32);
-    if length == 0 {
-        return no_order();
-    }
-    if LENGTH_MAX < length {
+    if !takes_length(length) {
         return no_order();
     }
     Order {
@@ -56,8 +60,8 @@ fn order_of(line: &[u8]) -> Order
 {
     let mut frame = [0u8; ORDER_SIZE];
     match frames::read(line, ORDER_DIGITS, ORDER_DIGITS, &mut frame) {
-        Frame::Bytes { .. } => order_in(&frame),
-        Frame::Bad => no_order(),
+        Some(_) => order_in(&frame),
+        None => no_order(),
     }
 }
 
@@ -78,7 +82,7 @@ pub(crate) fn first_line(
         (replay_of (world_of state.new chunks.now map.new hashes.new
         trusted.new has.new wants.new reply.now)
         result.session.id result.session.stage)
-        (spoken result.silent result.number (take result.len reply.now))
+        (spoken result.answer reply.now)
         ≡ first_line
         (replay_of (world_of state.old chunks.now map.old hashes.old
         trusted.old has.old wants.old reply.now)
@@ -89,24 +93,20 @@ pub(crate) fn first_line(
     let answer = starting::start(
         state, chunks, map, hashes, trusted, has, wants, reply, order,
     );
+    let id = session.id;
     if answer == 0 {
+        let stage = Stage::Later;
         return Answered {
-            session: Session {
-                id: session.id,
-                stage: Stage::Later,
-            },
-            silent: true,
-            number: 0,
-            len: 0,
+            session: Session { id, stage },
+            answer: None,
         };
     }
+    let stage = Stage::Over;
     Answered {
-        session: Session {
-            id: session.id,
-            stage: Stage::Over,
-        },
-        silent: false,
-        number: BAD_FIRST,
-        len: 0,
+        session: Session { id, stage },
+        answer: Some(Reply {
+            number: BAD_FIRST,
+            len: 0,
+        }),
     }
 }

@@ -1,30 +1,31 @@
 // Later lines: each is a clock and a datagram, which is taken in.
-ghost use Rattle.std.specs.Prelude.{◌≡◌, ◌≤◌, length, take};
+ghost use Rattle.std.specs.Prelude.{◌≡◌, ◌≤◌, length};
 ghost use Rattle.channel.proofs.Promise.{world_of};
-ghost use Rattle.trace.specs.Session.{replay_of, answer_of, next_id, frame_taken, later_line};
+ghost use Rattle.trace.specs.Session.{replay_of, answer_of, opened, next_id, frame_taken, later_line};
 ghost use Rattle.trace.specs.Steps.{spoken};
 
 use crate::limits::{BAD_LINE, DIGITS_MAX, DIGITS_MIN, FRAME_MAX};
-use crate::session::{Answered, Session, Stage};
+use crate::session::{Answered, Reply, Session, Stage};
 use channel::taking;
 use script::frames;
-use script::frames::Frame;
 use wire::bytes;
 
-// The ID for the next channel: one more after each that was opened. A datagram to channel 0 that is taken opens one.
+// Whether a datagram opened a channel: it was taken, and went to channel 0.
+fn opened(answer: u32, datagram: &[u8]) -> bool
+    ensures { result ≡ opened answer datagram.now }
+{
+    answer == 0 && 4 <= datagram.len() && bytes::load32(datagram, 0) == 0
+}
+
+// The ID for the next channel: one more after each that was opened.
 fn next_id(id: u32, answer: u32, datagram: &[u8]) -> u32
     ensures { result ≡ next_id id answer datagram.now }
 {
-    if answer != 0 {
-        return id;
+    if opened(answer, datagram) {
+        id.wrapping_add(1)
+    } else {
+        id
     }
-    if datagram.len() < 4 {
-        return id;
-    }
-    if bytes::load32(datagram, 0) != 0 {
-        return id;
-    }
-    std::num::wrapping_add_u32(id, 1)
 }
 
 // Takes in the frame of a line: a clock, then a datagram.
@@ -45,7 +46,7 @@ fn take(
         (replay_of (world_of state.new chunks.new map.new hashes.new
         trusted.new has.new wants.new reply.new)
         result.session.id result.session.stage)
-        (spoken result.silent result.number (take result.len reply.new))
+        (spoken result.answer reply.new)
         ≡ frame_taken
         (replay_of (world_of state.old chunks.old map.old hashes.old
         trusted.old has.old wants.old reply.old)
@@ -58,15 +59,15 @@ fn take(
     let out = taking::take(
         state, chunks, map, hashes, trusted, has, wants, reply, clock, id, datagram,
     );
-    let number = out.answer as u8;
     Answered {
         session: Session {
             id: next_id(id, out.answer, datagram),
             stage: Stage::Later,
         },
-        silent: false,
-        number,
-        len: out.len,
+        answer: Some(Reply {
+            number: out.answer as u8,
+            len: out.len,
+        }),
     }
 }
 
@@ -87,7 +88,7 @@ pub(crate) fn later_line(
         (replay_of (world_of state.new chunks.new map.new hashes.new
         trusted.new has.new wants.new reply.new)
         result.session.id result.session.stage)
-        (spoken result.silent result.number (take result.len reply.new))
+        (spoken result.answer reply.new)
         ≡ later_line
         (replay_of (world_of state.old chunks.old map.old hashes.old
         trusted.old has.old wants.old reply.old)
@@ -96,7 +97,7 @@ pub(crate) fn later_line(
 {
     let mut frame = [0u8; FRAME_MAX];
     match frames::read(line, DIGITS_MIN, DIGITS_MAX, &mut frame) {
-        Frame::Bytes { len } => take(
+        Some(len) => take(
             session,
             state,
             chunks,
@@ -108,11 +109,12 @@ pub(crate) fn later_line(
             reply,
             &frame[..len],
         ),
-        Frame::Bad => Answered {
+        None => Answered {
             session,
-            silent: false,
-            number: BAD_LINE,
-            len: 0,
+            answer: Some(Reply {
+                number: BAD_LINE,
+                len: 0,
+            }),
         },
     }
 }

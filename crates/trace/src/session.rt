@@ -1,5 +1,5 @@
 // A store under replay, line after line: line one is its order, each later one a datagram.
-ghost use Rattle.std.specs.Prelude.{◌≡◌, take};
+ghost use Rattle.std.specs.Prelude.{◌≡◌};
 ghost use Rattle.channel.proofs.Promise.{world_of};
 ghost use Rattle.trace.specs.declared.session.Stage.TheVariants.{First};
 ghost use Rattle.trace.specs.Session.{replay_of, answer_of, line_answer};
@@ -24,14 +24,18 @@ pub struct Session {
     pub stage: Stage,
 }
 
-// What a line gives: the session after it, and the number and the length of the reply; `silent` where nothing is
-// written.
+// What is written for a line: a number, and so many bytes of the reply room.
+#[derive(Clone, Copy)]
+pub struct Reply {
+    pub number: u8,
+    pub len: usize,
+}
+
+// What a line gives: the session after it, and what is written, if anything is.
 #[derive(Clone, Copy)]
 pub struct Answered {
     pub session: Session,
-    pub silent: bool,
-    pub number: u8,
-    pub len: usize,
+    pub answer: Option<Reply>,
 }
 
 // Before line one.
@@ -61,15 +65,14 @@ pub(crate) fn answer(
         (replay_of (world_of state.new chunks.new map.new hashes.new
         trusted.new has.new wants.new reply.new)
         result.session.id result.session.stage)
-        (spoken result.silent result.number (take result.len reply.new))
+        (spoken result.answer reply.new)
         ≡ line_answer
         (replay_of (world_of state.old chunks.old map.old hashes.old
         trusted.old has.old wants.old reply.old)
         session.id session.stage)
         line.now }
 {
-    let stage = session.stage;
-    match stage {
+    match session.stage {
         Stage::First => first::first_line(
             session, state, chunks, map, hashes, trusted, has, wants, reply, line,
         ),
@@ -78,9 +81,7 @@ pub(crate) fn answer(
         ),
         Stage::Over => Answered {
             session,
-            silent: true,
-            number: 0,
-            len: 0,
+            answer: None,
         },
     }
 }

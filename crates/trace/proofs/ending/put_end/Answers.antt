@@ -2,11 +2,11 @@ use Rattle.std.proofs.Common.{◌∙◌}
 use Rattle.trace.proofs.StreamLaws.{end-first, end_later, end-over}
 use Rattle.trace.proofs.ending.put_end.Goals as goal
 
-pub returns-in-First : goal.returns-in-First
-returns-in-First c = c.answer_line.ensures ∙ end-first _ _ _ c.in-First.is
+pub returns-in-First-clause-appended : goal.returns-in-First-clause-appended
+returns-in-First-clause-appended c = c.answer_line.ensures.appended ∙ end-first _ _ _ c.in-First.is
 
-pub returns-in-Later : goal.returns-in-Later
-returns-in-Later c = c.closing_line.ensures ∙ end_later _ _ _ c.in-Later.is c.ask-asked.ensures
+pub returns-in-Later-clause-appended : goal.returns-in-Later-clause-appended
+returns-in-Later-clause-appended c = c.closing_line.ensures.appended ∙ end_later _ _ _ c.in-Later.is c.ask-asked.ensures
 
-pub returns-in-Over : goal.returns-in-Over
-returns-in-Over c = end-over _ _ _ c.in-Over.is
+pub returns-in-Over-clause-appended : goal.returns-in-Over-clause-appended
+returns-in-Over-clause-appended c = end-over _ _ _ c.in-Over.is

@@ -9,4 +9,4 @@ pub returns-in-Later : goal.returns-in-Later
 returns-in-Later c = c.later_line.ensures ∙ at-later _ _ c.in-Later.is
 
 pub returns-in-Over : goal.returns-in-Over
-returns-in-Over c = at-over _ _ c.in-Over.is
+returns-in-Over c = at-over _ _ _ c.in-Over.is

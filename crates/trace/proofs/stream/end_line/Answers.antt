@@ -1,9 +1,7 @@
-use Rattle.trace.proofs.SessionLaws.{count-length}
+use Rattle.script.proofs.Promise.{filled_in}
 use Rattle.trace.proofs.StreamLaws.{line-done}
 use Rattle.trace.proofs.stream.end_line.Goals as goal
 
-pub slice_bounds-answer-end : goal.slice_bounds-answer-end
-slice_bounds-answer-end c = count-length c.args.line.now _ _ c.least-n.ensures
-
-pub returns : goal.returns
-returns c = line-done _ _ _ _ _ _ c.least-n.ensures c.answer-answered.ensures c.put_answer.ensures
+pub returns-clause-done : goal.returns-clause-done
+returns-clause-done c read =
+    line-done _ (filled_in c.args.line.now) read (filled_in c.args.out.now) c.front.ensures c.answer-answered.ensures c.put_answer.ensures.appended

@@ -2,8 +2,8 @@ use Rattle.std.proofs.Common.{◌∙◌}
 use Rattle.trace.proofs.StreamLaws.{say-nothing, say}
 use Rattle.trace.proofs.stream.put_answer.Goals as goal
 
-pub returns-then-silent : goal.returns-then-silent
-returns-then-silent c = say-nothing _ _ _ _ c.if-silent.true
+pub returns-in-Some-clause-appended : goal.returns-in-Some-clause-appended
+returns-in-Some-clause-appended c = c.answer_line.ensures.appended ∙ say _ _ _ c.in-Some.is c.min.ensures
 
-pub returns : goal.returns
-returns c = c.answer_line.ensures ∙ say _ _ _ _ c.if-silent.false
+pub returns-in_default-clause-appended : goal.returns-in_default-clause-appended
+returns-in_default-clause-appended c = say-nothing _ _ _ c.in_default.is
