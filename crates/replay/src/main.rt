@@ -3,27 +3,25 @@
 // the end of input. A write that fails loses its bytes, and that is not told.
 #![tactic(auto)]
 
-ghost use Rattle.std.specs.Prelude.{◌≤◌, ◌<◌, [], length};
+ghost use Rattle.std.specs.Prelude.{◌≤◌, [], length};
 ghost use Rattle.channel.proofs.Promise.{world_of};
-ghost use Rattle.script.proofs.Promise.{filled, line_size};
+ghost use Rattle.script.proofs.Promise.{filled_in, SameRoom, line_size};
 ghost use Rattle.trace.proofs.Promise.{replay_of, ReplayRooms, Fed};
 
+use script::buffer::Buffer;
 use std::io::{Read, Write};
 use table::words::STATE_WORDS;
 use trace::limits::LINE_ROOM;
 use trace::session::Session;
-use trace::stream::Progress;
 use trace::{ending, session, stream};
 use wire::limits::MAX_SIZE;
 
 // The bytes of the room for input, and of that for output.
 const BLOCK_ROOM: usize = 65536;
 
-// Writes the first bytes of the output room. What a write that fails comes to is let go.
-fn flush(output: &mut impl Write, out: &[u8], used: usize)
-    requires { used ≤ length out.now }
-{
-    let _ = output.write_all(&out[..used]);
+// Writes what is in the output room. What a write that fails comes to is let go.
+fn flush(output: &mut impl Write, out: &Buffer<'_>) {
+    let _ = output.write_all(out.front());
 }
 
 // Answers the lines of a block; what is left is a line that has begun. As many as fit the output room are answered and
@@ -39,56 +37,39 @@ fn feed(
     has: &mut [u32],
     wants: &mut [u32],
     reply: &mut [u8],
-    line: &mut [u8],
-    len: usize,
+    line: &mut Buffer<'_>,
     block: &[u8],
-    out: &mut [u8],
-) -> Progress
-    requires { line_size (length reply.old) ≤ length out.old }
-    ensures { Fed
+    out: &mut Buffer<'_>,
+) -> Session
+    requires { line_size (length reply.old) ≤ length out.old.room.now }
+    ensures same { SameRoom line.old line.new × SameRoom out.old out.new }
+    ensures fed { Fed
         (replay_of (world_of state.old chunks.old map.old hashes.old
         trusted.old has.old wants.old reply.old)
         session.id session.stage)
-        (filled line.old len)
+        (filled_in line.old)
         block.now []
         (replay_of (world_of state.new chunks.new map.new hashes.new
         trusted.new has.new wants.new reply.new)
-        result.session.id result.session.stage)
-        (filled line.new result.len) }
+        result.id result.stage)
+        (filled_in line.new) }
 {
     let mut current = session;
-    let mut kept = len;
     let mut rest = block;
-    while 0 < rest.len() {
+    while !rest.is_empty() {
         let p = stream::answer_lines(
-            current, state, chunks, map, hashes, trusted, has, wants, reply, line, kept, rest, out,
+            current, state, chunks, map, hashes, trusted, has, wants, reply, line, rest, out,
         );
-        flush(output, out, p.used);
+        flush(output, out);
         current = p.session;
-        kept = p.len;
         let read = p.read;
         rest = &rest[read..];
     }
-    Progress {
-        session: current,
-        len: kept,
-        read: block.len(),
-        used: 0,
-    }
+    current
 }
 
-// Reads a block of input: how many bytes, none where the input ends. Where no turn is left it counts as ended.
-fn read_block(input: &mut impl Read, block: &mut [u8], turns: u64) -> usize
-    ensures { (result ≤ length block.new) × (0 < result → 0 < turns) }
-{
-    if turns == 0 {
-        return 0;
-    }
-    input.read(block).unwrap_or(0)
-}
-
-// Reads block after block, and ends. A proved loop has to end, and nothing says that the input does: it counts its
-// turns down, from a number that no run uses up.
+// Reads block after block, and ends. A proved loop has to end, and nothing says that the input does: it makes so many
+// turns that no run uses them up.
 fn run(
     input: &mut impl Read,
     output: &mut impl Write,
@@ -109,12 +90,18 @@ fn run(
         trusted.old has.old wants.old reply.old)
         line.old out.old }
 {
+    let mut line = Buffer {
+        room: line,
+        used: 0,
+    };
+    let mut out = Buffer { room: out, used: 0 };
     let mut current = session::fresh();
-    let mut len: usize = 0;
-    let mut turns = u64::MAX;
-    let mut n = read_block(input, block, turns);
-    while 0 < n {
-        let p = feed(
+    for _ in 0..u64::MAX {
+        let n = input.read(block).unwrap_or(0);
+        if n == 0 {
+            break;
+        }
+        current = feed(
             output,
             current,
             state,
@@ -125,20 +112,15 @@ fn run(
             has,
             wants,
             reply,
-            line,
-            len,
+            &mut line,
             &block[..n],
-            out,
+            &mut out,
         );
-        current = p.session;
-        len = p.len;
-        turns -= 1;
-        n = read_block(input, block, turns);
     }
-    let last = ending::finish(
-        current, state, chunks, map, hashes, trusted, has, wants, reply, line, len, out,
+    ending::finish(
+        current, state, chunks, map, hashes, trusted, has, wants, reply, &mut line, &mut out,
     );
-    flush(output, out, last.used);
+    flush(output, &out);
 }
 
 // The rooms of a store for 32 chunks, and those for a line, for input and for output: they suffice. The words of the
