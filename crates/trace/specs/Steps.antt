@@ -3,6 +3,9 @@ use Rattle.std.specs.Prelude.{ℕ, List, [], Option, Some, None, take}
 use Rattle.script.proofs.Promise.{answer_line}
 use Rattle.trace.specs.declared.session.Reply.{Reply}
 
+abbrev pub reply_of : ℕ → ℕ → Reply
+reply_of number len = record { number = number; len = len }
+
 -- The line for an answer, with so many bytes of the reply room; nothing without one.
 unfoldable pub spoken : Option Reply → (reply : List ℕ) → List ℕ
 spoken None reply = []

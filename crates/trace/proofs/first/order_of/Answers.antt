@@ -1,9 +1,11 @@
-use Rattle.std.proofs.Common.{◌∙◌, rules}
+use Rattle.std.proofs.Common.{◌≡◌, None, ◌∙◌, rules}
 use Rattle.trace.proofs.SessionLaws.{order-frame, order-bad}
 use Rattle.trace.proofs.first.order_of.Goals as goal
 
-pub returns-in-Some : goal.returns-in-Some
-returns-in-Some c = c.order_in.ensures ∙ order-frame _ (search rules) c.read.ensures c.in-Some.is
+pub returns-in_err-read : goal.returns-in_err-read
+returns-in_err-read c =
+    let none : c.from_residual.result ≡ None = search rules in
+    none ∙ order-bad _ (search rules) c.read.ensures c.in_err-read.was
 
-pub returns-in-None : goal.returns-in-None
-returns-in-None c = c.no_order.ensures ∙ order-bad _ (search rules) c.read.ensures c.in-None.is
+pub returns : goal.returns
+returns c = c.order_in.ensures ∙ order-frame _ (search rules) c.read.ensures c.in_ok-read.was
