@@ -45,7 +45,7 @@ impl<'a> Buffer<'a> {
         ensures appended { filled_in self.new
             ≡ appended self.old.room.now self.old.used (closing_line whole held) }
     {
-        let count = [(held / 256 % 256) as u8, (held % 256) as u8];
-        self.answer_line(if whole { 0xff } else { 0xf0 }, &count);
+        let [.., high, low] = held.to_be_bytes();
+        self.answer_line(if whole { 0xff } else { 0xf0 }, &[high, low]);
     }
 }
