@@ -13,8 +13,8 @@ fn has_length(len: usize, least: usize, most: usize) -> bool
     least <= len && len <= most && len % 2 == 0
 }
 
-// Reads the frame of a line to the front of a room, and gives how many bytes it has. A line of another length, or one for
-// a larger room, leaves the room as it is; one with another character does not.
+// Reads the frame of a line to the front of a room, and gives how many bytes it has. A line of another length, or one
+// for a larger room, leaves the room as it is; one with another character does not.
 pub fn read(line: &[u8], least: usize, most: usize, room: &mut [u8]) -> Option<usize>
     ensures { framed result room.new ≡ frame_spec least most line.now room.old }
 {
