@@ -8,27 +8,12 @@ use Rattle.std.specs.Prelude.{Option, Some, None}
 use lib.ListN.{length, take, drop}
 use lib.Seq.{sets, sets-eq, length-sets, take-append_seam}
 use lib.Dec.{ltb, leb, eqb}
-use borrow.Author.Tests.{lt-ltb, le-ltb, le-leb, lt-leb, ltb-false, eqb-true}
+use borrow.Author.Tests.{le-leb, lt-leb, ltb-false, eqb-true}
 use Rattle.base.specs.Pick.{pick}
 use Rattle.base.proofs.PickLaws.{both_true}
 use Rattle.script.specs.Hex.{digit_of, all_digits, decoded}
 use Rattle.script.specs.Frames.{has_length, is_frame}
 use Rattle.script.specs.Steps.{Framed, framed, paired, frame_spec}
-
--- ---- a line's length
-
-module _ (least most n : ℕ) where
-  pub too_short : n < least → false ≡ has_length least most n
-  unfolding has_length
-  too_short h = rw (lt-ltb n least h)
-
-  pub too_long : least ≤ n → most < n → false ≡ has_length least most n
-  unfolding has_length
-  too_long h k = rw (le-ltb n least h, lt-ltb most n k)
-
-  pub in-limits : least ≤ n → n ≤ most → eqb (n % 2) 0 ≡ has_length least most n
-  unfolding has_length
-  in-limits h k = rw (le-ltb n least h, le-ltb most n k)
 
 -- ---- what reading gives
 
