@@ -3,6 +3,7 @@
 // what is added here is its form: an order as bytes, a message in numbers, the sizes of the rooms.
 #![tactic(auto)]
 
+mod answers; // the result of a call in numbers
 pub mod datagrams; // a datagram, message by message, written and read
 mod message; // a message in numbers
 mod order_bytes; // an order as a C program has it

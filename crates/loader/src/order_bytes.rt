@@ -7,19 +7,12 @@ use order::Order;
 
 pub const ORDER_BYTES: usize = 40;
 
-fn wide(b: u8) -> u32
-    ensures { (result ≡ b) × (result < 256) }
-{
-    b as u32
-}
-
 // The number in four bytes, the low one first.
 fn load(order: &[u8; ORDER_BYTES], at: usize) -> u32
     requires { at + 4 ≤ 40 }
     ensures { result ≡ le32 order.now at }
 {
-    ((wide(order[at + 3]) * 256 + wide(order[at + 2])) * 256 + wide(order[at + 1])) * 256
-        + wide(order[at])
+    u32::from_le_bytes([order[at], order[at + 1], order[at + 2], order[at + 3]])
 }
 
 // The order in them.

@@ -3,8 +3,9 @@ ghost use Rattle.std.specs.Prelude.{◌≡◌};
 ghost use Rattle.channel.proofs.Promise.{out_at, out_of, named_by, world_of, open_spec, take_spec, write_spec, ask_spec};
 ghost use Rattle.table.proofs.Promise.{flag};
 
+use crate::answers;
+use channel::rooms::Rooms;
 use channel::{asking, opening, taking, writing};
-use table::words;
 
 // Opens a channel under an ID; the reply is our HANDSHAKE.
 #[unsafe(no_mangle)]
@@ -28,9 +29,9 @@ pub extern "C" fn ppspp_open(
         trusted.now has.old wants.old reply.old)
         id }
 {
-    let outcome = opening::open(state, chunks, map, hashes, trusted, has, wants, reply, id);
-    *written = outcome.len;
-    outcome.answer
+    let opened = opening::open(state, chunks, map, hashes, trusted, has, wants, reply, id);
+    *written = answers::length(opened);
+    answers::number(opened)
 }
 
 // Takes in a datagram at a clock; the ID is for a channel that it may open. The node that 9 or 10 names is written as
@@ -59,13 +60,20 @@ pub extern "C" fn ppspp_take(
         trusted.old has.old wants.old reply.old)
         clock id datagram.now }
 {
-    let taken = taking::take(
-        state, chunks, map, hashes, trusted, has, wants, reply, clock, id, datagram,
-    );
-    *written = taken.len;
-    let named = taken.node;
-    *node = base::node_number(named);
-    taken.answer
+    let mut rooms = Rooms {
+        state,
+        chunks,
+        map,
+        hashes,
+        trusted,
+        has,
+        wants,
+        reply,
+    };
+    let taken = taking::take(&mut rooms, clock, id, datagram);
+    *written = answers::length(taken);
+    *node = answers::node(taken);
+    answers::number(taken)
 }
 
 // Writes the datagram of a chunk for the channel open under an ID, with the clock as its timestamp.
@@ -92,11 +100,11 @@ pub extern "C" fn ppspp_write(
         trusted.now has.now wants.now reply.old)
         id chunk clock }
 {
-    let outcome = writing::write(
+    let sent = writing::write(
         state, chunks, map, hashes, trusted, has, wants, reply, id, chunk, clock,
     );
-    *written = outcome.len;
-    outcome.answer
+    *written = answers::length(sent);
+    answers::number(sent)
 }
 
 // Asks how many chunks are held, and whether that is all of them.
@@ -107,7 +115,15 @@ pub extern "C" fn ppspp_ask(state: &[u32], map: &[u32], held: &mut u32, whole: &
         × (whole.new ≡ flag (ask_spec state.now map.now).whole) }
 {
     let asked = asking::ask(state, map);
-    *held = asked.held;
-    *whole = words::flag(asked.whole);
-    asked.answer
+    match asked {
+        Ok(found) => {
+            *held = found.count;
+            *whole = u32::from(found.whole);
+        }
+        Err(_) => {
+            *held = 0;
+            *whole = 0;
+        }
+    }
+    answers::number(asked)
 }

@@ -33,7 +33,7 @@ pub extern "C" fn ppspp_chunk_count(length: u32) -> u32
 pub extern "C" fn ppspp_map_words(n: u32) -> usize
     ensures { result ≡ map_words n }
 {
-    bits::row_words(n as u64) as usize
+    bits::row_words(u64::from(n)) as usize
 }
 
 #[unsafe(no_mangle)]
@@ -54,5 +54,5 @@ pub extern "C" fn ppspp_trusted_words(n: u32) -> usize
 pub extern "C" fn ppspp_peer_words(n: u32) -> usize
     ensures { result ≡ peer_words n }
 {
-    ROWS * bits::row_words(n as u64) as usize
+    ROWS * bits::row_words(u64::from(n)) as usize
 }

@@ -3,8 +3,8 @@ ghost use Rattle.std.specs.Prelude.{◌≡◌};
 ghost use Rattle.channel.proofs.Promise.{out_of, world_of, start_spec, build_spec};
 ghost use Rattle.loader.specs.Order.{order_from};
 
-use crate::order_bytes;
 use crate::order_bytes::ORDER_BYTES;
+use crate::{answers, order_bytes};
 use channel::starting;
 
 // Starts a store under an order.
@@ -29,9 +29,10 @@ pub extern "C" fn ppspp_start(
         (order_from order.now) }
 {
     let under = order_bytes::read(order);
-    starting::start(
+    let started = starting::start(
         state, chunks, map, hashes, trusted, has, wants, reply, under,
-    )
+    );
+    answers::number(started)
 }
 
 // Builds a whole store from its content, under an order whose root is not looked at.
@@ -57,7 +58,8 @@ pub extern "C" fn ppspp_build(
         (order_from order.now) content.now }
 {
     let under = order_bytes::read(order);
-    starting::build(
+    let built = starting::build(
         state, chunks, map, hashes, trusted, has, wants, reply, under, content,
-    )
+    );
+    answers::number(built)
 }
