@@ -71,6 +71,15 @@ module _ {W : Type 0} where
   pub unless-unaltered : (n : ℕ) (old : W) (out : Out W) → Unaltered old out → Unaltered old (unless n old out)
   unless-unaltered = at-unaltered None
 
+  -- It names no node where what it would do names none.
+  pub unless-nameless : (n : ℕ) (old : W) (out : Out W) → out.node ≡ None → (unless n old out).node ≡ None
+  unless-nameless zero old out e = e
+  unless-nameless (suc n) old out e = refl
+
+  -- A call that names no node is told by its number and its length.
+  pub nameless : {n len : ℕ} {b : Named} {w : W} {out : Out W} → out.node ≡ None → out_at n len b w ≡ out → out_of n len w ≡ out
+  nameless {n} {len} {b} {w} z e = ap (λ (y : Named). out_at n len y w) (sym (ap (λ (u : Out W). u.node) e ∙ z)) ∙ e
+
   pub unless-one : (ms : List ℕ) (n : ℕ) (old : W) (out : Out W) → OneOf ms n → OneOf ms out.answer
       → OneOf ms (unless n old out).answer
   unless-one = at_one None

@@ -6,12 +6,16 @@ use Rattle.base.specs.Out.{no_node}
 use Rattle.base.specs.Out.{Named}
 use Rattle.std.specs.Prelude.{Some, None}
 use Rattle.base.proofs.AmongLaws.{all_among, one_of_more, not_one}
+use Rattle.base.proofs.OutLaws.{unless-nameless}
+use Rattle.format.specs.Format.{format_of}
 use Rattle.wire.proofs.Promise.{number_of, layout-one}
 use Rattle.wire.specs.Layout.{Layout, Fault, HandshakeAlone, Messages, MessagesAndData}
-use Rattle.writer.proofs.Promise.{within}
+use Rattle.wire.specs.declared.message.Message.{Message}
+use Rattle.writer.proofs.Promise.{within, add_nameless}
 use Rattle.store.proofs.Promise.{Integrity, integrity_of, taken-named, named_small, take_spec as store_take}
 use Rattle.order.specs.declared.Order.{Order}
 use Rattle.channel.specs.World.{World, Out, out_of, is_named, unless_at, unless, order_format, order_root, order_length}
+use Rattle.channel.specs.Adding.{adding_spec}
 use Rattle.channel.specs.Answers.{own_rooms_answer}
 use Rattle.channel.specs.Opening.{open_number, open_spec}
 use Rattle.channel.specs.Starting.{start_number, start_spec, build_number, build_spec}
@@ -22,25 +26,25 @@ use Rattle.channel.proofs.NumberLaws.{own_one, handshake-one, messages-number-on
 
 -- ---- other calls
 
-unless-none : {W : Type 0} (n : ℕ) (old : W) (out : Out W) → out.node ≡ None → (unless n old out).node ≡ None
-unless-none zero old out e = e
-unless-none (suc n) old out e = refl
-
 pub start_nameless : (w : World) (o : Order) → (start_spec w o).node ≡ None
 unfolding start_spec
-start_nameless w o = unless-none (start_number w o) w _ refl
+start_nameless w o = unless-nameless (start_number w o) w _ refl
 
 pub build_nameless : (w : World) (o : Order) (s : List ℕ) → (build_spec w o s).node ≡ None
 unfolding build_spec
-build_nameless w o s = unless-none (build_number w o s) w _ refl
+build_nameless w o s = unless-nameless (build_number w o s) w _ refl
+
+pub adding_nameless : (method : ℕ) (room : List ℕ) (len : ℕ) (m : Message) (source : List ℕ) → (adding_spec method room len m source).node ≡ None
+unfolding adding_spec
+adding_nameless method room len m source = unless-nameless _ _ _ (add_nameless (format_of method) room len m source)
 
 pub open_nameless : (w : World) (id : ℕ) → (open_spec w id).node ≡ None
 unfolding open_spec
-open_nameless w id = unless-none (open_number w id) w _ refl
+open_nameless w id = unless-nameless (open_number w id) w _ refl
 
 pub write_nameless : (w : World) (id c clock : ℕ) → (write_spec w id c clock).node ≡ None
 unfolding write_spec
-write_nameless w id c clock = unless-none (write_number w id c) w _ refl
+write_nameless w id c clock = unless-nameless (write_number w id c) w _ refl
 
 -- ---- the numbers that name no node
 

@@ -153,6 +153,9 @@ start_nameless = naming.start_nameless
 pub build_nameless : (w : World) (o : Order) (s : List ℕ) → (build_spec w o s).node ≡ None
 build_nameless = naming.build_nameless
 
+pub adding_nameless : (method : ℕ) (room : List ℕ) (len : ℕ) (m : Message) (source : List ℕ) → (adding_spec method room len m source).node ≡ None
+adding_nameless = naming.adding_nameless
+
 pub open_nameless : (w : World) (id : ℕ) → (open_spec w id).node ≡ None
 open_nameless = naming.open_nameless
 

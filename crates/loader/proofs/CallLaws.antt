@@ -1,13 +1,19 @@
 -- The calls for C and Rust, as the code has them. Assumes nothing.
 use Prim.Native.Nat.{ℕ}
-use mathlib.Core.Path.{◌≡◌, sym, ap, ◌∙◌}
-use mathlib.Core.Bool.{Bool}
+use mathlib.Core.Path.{◌≡◌, refl, sym, ap, ◌∙◌}
+use mathlib.Core.Bool.{Bool, true, false}
+use mir.Val.{bool_byte}
 use mathlib.Core.List.{List}
 use Rattle.hash.proofs.Promise.{words}
 use Rattle.hash.specs.declared.value.HashValue.{HashValue}
 use Rattle.table.proofs.Promise.{flag}
-use Rattle.base.specs.Out.{Named}
-use Rattle.channel.proofs.Promise.{World, Out, out_at, node_number, named_by, start_spec, build_spec, take_spec, take-node, Asked, asked_of}
+use Rattle.std.specs.Prelude.{Result, Ok, Err}
+use Rattle.std.specs.Result.{result_unwrap_or}
+use Rattle.base.specs.Out.{Named, answer_of}
+use Rattle.base.specs.declared.Refusal.{Refusal}
+use Rattle.held.specs.declared.Held.{Held}
+use Rattle.held.proofs.Promise.{asked_by}
+use Rattle.channel.proofs.Promise.{World, Out, out_at, node_number, named_by, start_spec, build_spec, take_spec, take-node, Asked}
 use Rattle.order.specs.declared.Order.{Order}
 use lib.ListN.{drop}
 use Rattle.loader.specs.Order.{le32, order_from}
@@ -27,9 +33,21 @@ pub build-under : (w : World) (s content : List ℕ) {u : Order} {o : Out World}
 build-under w s content e d = d ∙ ap (λ (x : Order). build_spec w x content) e
 
 -- What asking gave, in numbers.
-pub ask-counted : (a : Asked) {n held k : ℕ} {whole : Bool} → asked_of n held whole ≡ a → k ≡ flag whole
-    → (n ≡ a.answer) × (held ≡ a.held) × (k ≡ flag a.whole)
-ask-counted a d e = (ap (λ (x : Asked). x.answer) d, ap (λ (x : Asked). x.held) d, e ∙ ap (λ (x : Asked). flag x.whole) d)
+abbrev pub none_held : Held
+none_held = record { count = 0; whole = false }
+
+byte_flag : (b : Bool) → bool_byte b ≡ flag b
+byte_flag true = refl
+byte_flag false = refl
+
+pub ask-counted : (a : Asked) (r : Result Held Refusal) → asked_by r ≡ a → {n k : ℕ} {h : Held} → n ≡ answer_of r
+    → h ≡ result_unwrap_or r none_held → k ≡ bool_byte h.whole → (n ≡ a.answer) × (h.count ≡ a.held) × (k ≡ flag a.whole)
+ask-counted a r d {n} {k} {h} e f g = rw (← d) (go r e f)
+  where
+    go : (r : Result Held Refusal) → n ≡ answer_of r → h ≡ result_unwrap_or r none_held
+        → (n ≡ (asked_by r).answer) × (h.count ≡ (asked_by r).held) × (k ≡ flag (asked_by r).whole)
+    go (Ok x) e f = (e, ap (λ (y : Held). y.count) f, g ∙ byte_flag h.whole ∙ ap (λ (y : Held). flag y.whole) f)
+    go (Err y) e f = (e, ap (λ (y : Held). y.count) f, g ∙ byte_flag h.whole ∙ ap (λ (y : Held). flag y.whole) f)
 
 -- What was taken in, and the node that it names by its number.
 pub take_noded : (w : World) (clock id : ℕ) (s : List ℕ) {n len b : ℕ} {x : Named} {after : World}

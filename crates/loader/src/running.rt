@@ -6,6 +6,7 @@ ghost use Rattle.table.proofs.Promise.{flag};
 use crate::answers;
 use channel::rooms::Rooms;
 use channel::{asking, opening, taking, writing};
+use held::Held;
 
 // Opens a channel under an ID; the reply is our HANDSHAKE.
 #[unsafe(no_mangle)]
@@ -115,15 +116,11 @@ pub extern "C" fn ppspp_ask(state: &[u32], map: &[u32], held: &mut u32, whole: &
         × (whole.new ≡ flag (ask_spec state.now map.now).whole) }
 {
     let asked = asking::ask(state, map);
-    match asked {
-        Ok(found) => {
-            *held = found.count;
-            *whole = u32::from(found.whole);
-        }
-        Err(_) => {
-            *held = 0;
-            *whole = 0;
-        }
-    }
+    let found = asked.unwrap_or(Held {
+        count: 0,
+        whole: false,
+    });
+    *held = found.count;
+    *whole = u32::from(found.whole);
     answers::number(asked)
 }

@@ -27,10 +27,6 @@ pub rooted_by : (f : List ℕ → Out Rooms) (root : List ℕ) (w : Rooms) {v : 
     → length root ≡ 8 → v ≡ hash_in root 0 → got ≡ f v → got ≡ rooted root w (f (hash_in root 0))
 rooted_by f root w e v g = rooted-done root w e (g ∙ ap f v)
 
--- a call that names no node, by its number alone
-pub nameless : {n : ℕ} {b : Named} {w : Rooms} {out : Out Rooms} → out.node ≡ None → out_at n 0 b w ≡ out → out_of n 0 w ≡ out
-nameless {n} {b} {w} z e = ap (λ (y : Named). out_at n 0 y w) (sym (ap (λ (u : Out Rooms). u.node) e ∙ z)) ∙ e
-
 -- a refusal leaves the root's slice as it was
 pub put_not : (e : Refusal) (root found : List ℕ) → root ≡ root_put (number e) root found
 put_not e root found = go (number e) (refusal_number e)

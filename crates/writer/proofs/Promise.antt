@@ -1,6 +1,6 @@
 -- What the crates above know of this one: of its definitions the names passed on here, the round trips, that a refused call
 -- changes nothing, and which numbers a call can give. Assumes nothing.
-use mathlib.Core.Path.{◌≡◌, sym, ap, ◌∙◌}
+use mathlib.Core.Path.{◌≡◌, refl, sym, ap, ◌∙◌}
 use mathlib.Core.List.{List, [], ◌∷◌, ◌++◌}
 use mathlib.Core.Bool.{true}
 use Prim.Native.Nat.{ℕ, ◌+◌, ◌<◌, ◌≤◌, ◌^◌}
@@ -9,9 +9,10 @@ use lib.ListN.{length, take}
 use lib.Seq.{take-length}
 use lib.Dec.{ltb}
 use Rattle.base.specs.Pick.{pick}
+use Rattle.std.specs.Prelude.{None}
 use Rattle.base.specs.Out.{out_of, Unaltered}
 use Rattle.base.specs.Among.{OneOf}
-use Rattle.base.proofs.OutLaws.{done-unaltered, unless-unaltered}
+use Rattle.base.proofs.OutLaws.{done-unaltered, unless-unaltered, unless-nameless}
 use Rattle.wire.proofs.Promise.{be32, placed, min_size, max_size, number_of, layout_of}
 use Rattle.wire.specs.declared.message.Message.{Message}
 use Rattle.wire.specs.declared.message.Message.TheVariants.{Integrity}
@@ -62,6 +63,16 @@ pub add-refused-same : (F : Format) (room : List ℕ) (len : ℕ) (m : Message) 
 unfolding add_spec
 add-refused-same F room len m source =
     unless-unaltered (add_answer F room len m source) room _ (done-unaltered room _ (len + length (bytes_of F source m)))
+
+-- ---- no call names a node
+
+pub begin_nameless : (room : List ℕ) (to : ℕ) → (begin_spec room to).node ≡ None
+unfolding begin_spec
+begin_nameless room to = unless-nameless _ _ _ refl
+
+pub add_nameless : (F : Format) (room : List ℕ) (len : ℕ) (m : Message) (source : List ℕ) → (add_spec F room len m source).node ≡ None
+unfolding add_spec
+add_nameless F room len m source = unless-nameless _ _ _ refl
 
 -- ---- the numbers that a call can give
 

@@ -2,7 +2,8 @@ use mathlib.Core.Path.{refl, ap, ◌∙◌}
 use native.Mathlib.Omega.{arith}
 use Rattle.verdict.specs.Room.{put_hash}
 use Rattle.store.proofs.Promise.{rooms_of, root_of, build_nameless}
-use Rattle.store_c.proofs.RootLaws.{rooted_not, rooted-done, nameless, put_not}
+use Rattle.base.proofs.OutLaws.{nameless}
+use Rattle.store_c.proofs.RootLaws.{rooted_not, rooted-done, put_not}
 use Rattle.store_c.proofs.store_build.Goals as goal
 
 pub returns-then-root-ne8 : goal.returns-then-root-ne8

@@ -1,6 +1,7 @@
 use native.Mathlib.Omega.{arith}
 use Rattle.store.proofs.Promise.{rooms_of, start_spec, start_nameless}
-use Rattle.store_c.proofs.RootLaws.{rooted_not, rooted_by, nameless}
+use Rattle.base.proofs.OutLaws.{nameless}
+use Rattle.store_c.proofs.RootLaws.{rooted_not, rooted_by}
 use Rattle.store_c.proofs.store_start.Goals as goal
 
 pub returns-then-root-ne8 : goal.returns-then-root-ne8

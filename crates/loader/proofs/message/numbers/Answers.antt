@@ -1,8 +1,12 @@
+use Rattle.std.proofs.Common.{ℕ, List, get_or, ap}
 use Rattle.loader.proofs.MessageLaws.{numbers-handshake}
 use Rattle.loader.proofs.message.numbers.Goals as goal
 
 pub returns-in-Handshake : goal.returns-in-Handshake
-returns-in-Handshake c = numbers-handshake _ c.in-Handshake.is c.options_number.ensures c.root_place.ensures c.root_size.ensures
+returns-in-Handshake c =
+    let e = c.options_numbers.ensures in
+    let nth : ℕ → List ℕ → ℕ = λ k l. get_or l k 0 in
+    numbers-handshake _ c.in-Handshake.is (ap (nth 0) e) (ap (nth 1) e) (ap (nth 2) e)
 
 pub returns-in-Data : goal.returns-in-Data
 returns-in-Data c = rw c.in-Data.is
