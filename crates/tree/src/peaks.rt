@@ -20,7 +20,8 @@ pub fn above(c: u32, h: u32) -> u64
     (u64::from(c) / w) * w
 }
 
-// Bit h of x: whether the node of height h above chunk x is a right child, and whether x chunks have a peak of height h.
+// Bit h of x: whether the node of height h above chunk x is a right child, and whether x chunks have a peak of that
+// height.
 pub fn bit(x: u32, h: u32) -> bool
     requires { h < 60 }
     ensures { result ≡ peak_bit x h }

@@ -55,7 +55,7 @@ fn missing_peak(integrity: Integrity, opened: bool, n: u32, h: u32) -> Option<u6
     (!opened && !integrity.has(b)).then_some(b)
 }
 
-// The first node in the sending order that the chunk needs, to be hung from the node of height t, and that did not come.
+// The first node in the sending order that did not come and that the chunk needs, to be hung from the node of height t.
 fn first_missing(integrity: Integrity, place: Place, t: u32) -> Option<u64>
     requires { above t place.c + 2 ^ t ≤ place.n }
     ensures { result ≡ named_node (first_of
