@@ -16,7 +16,7 @@ use Rattle.bits.proofs.Promise.{set_bit, set_range}
 use Rattle.base.specs.Pick.{pick}
 use Rattle.tree.specs.Bin.{bin}
 use Rattle.tree.specs.Node.{above}
-use Rattle.tree.specs.Pack.{chunk_size, chunks, levels, leaf_places}
+use Rattle.tree.specs.Pack.{chunks, levels, leaf_places}
 use Rattle.tree.specs.Tree.{tree, root, given, combined}
 use Rattle.verdict.specs.Room.{filler, Digest, hash_in, put_hash}
 use Rattle.verdict.specs.Rooms.{rooms_of, count_of, chunk_in}
@@ -184,9 +184,6 @@ leaf_in N h k z l = let i = kth_inside N h k l in omega (arith, i, pow_pos h, ti
     times-one : (h k : ℕ) → h ≡ 0 → k * 2 ^ h ≡ k
     times-one h k z = rw z (omega arith)
 
-pub chunk_starts : (s : List ℕ) (k : ℕ) → k < count_of (length s) → chunk_size * k < length s
-chunk_starts s k l = omega arith
-
 pub leaf-hash : (s : List ℕ) (N h k : ℕ) → h ≡ 0 → N ≡ count_of (length s) → k < N / 2 ^ h → sha256 (chunk_in (length s) s k) ≡ tree_of s h (k * 2 ^ h)
 leaf-hash s N h k z n l = tree_chunk s k (omega (arith, leaf_in N h k z l)) ∙ ap (λ (x : ℕ). tree_of s x (k * 2 ^ x)) (sym z)
 
@@ -245,10 +242,3 @@ built_is chunks map hashes trusted s N top p {h1 = h1} {v = v} n l q r ce me he 
 
     marks : {l l' : List ℕ} {x x' y y' : ℕ} → l ≡ l' → x ≡ x' → y ≡ y' → put_levels mark (tree_of s) x (suc y) l ≡ put_levels mark (tree_of s) x' (suc y') l'
     marks e f g = cc
-
--- twice the k-th of a height above 0 stays below its last chunk
-pub twice_below : (h k : ℕ) → h ≢ 0 → 2 * k ≤ k * 2 ^ h
-twice_below zero k d = absurd (d refl)
-twice_below (suc h) k d =
-    let e : k * 2 ^ suc h ≡ 2 * (k * 2 ^ h) = rw pow-suc (omega arith) in
-    omega (arith, e, mul-le-mul_left k (pow_pos h))

@@ -14,6 +14,7 @@ use crate::storing;
 use hash::value::HashValue;
 use hash::{message, node};
 use tree::pack::CHUNK_SIZE;
+use tree::peaks::nth;
 use verdict::{peaks, room};
 
 // Clears the row of n bits.
@@ -47,15 +48,6 @@ fn leaf_of(content: &[u8], i: usize) -> HashValue
     message::sha256(&content[at..end])
 }
 
-// The k-th node of height h.
-fn nth(h: u32, k: u32) -> u64
-    requires { (h ≤ 32) × (k * 2 ^ h < 2 ^ 32) }
-    ensures { result ≡ bin h (k * 2 ^ h) }
-{
-    let w = tree::bin::pow2(h);
-    2 * (u64::from(k) * w) + (w - 1)
-}
-
 // The hash of the k-th node of height h, inside a content of n chunks: of a chunk, or of the two children in the room.
 fn hash_of(hashes: &[u32], content: &[u8], n: u32, h: u32, k: u32) -> HashValue
     requires h_bound { (h ≤ 32)
@@ -68,8 +60,9 @@ fn hash_of(hashes: &[u32], content: &[u8], n: u32, h: u32, k: u32) -> HashValue
     if h == 0 {
         return leaf_of(content, k as usize);
     }
-    let left = room::read(hashes, nth(h - 1, 2 * k));
-    let right = room::read(hashes, nth(h - 1, 2 * k + 1));
+    let first = 2 * u64::from(k);
+    let left = room::read(hashes, nth(first, h - 1));
+    let right = room::read(hashes, nth(first + 1, h - 1));
     node::parent(left, right)
 }
 
@@ -87,7 +80,7 @@ impl Nodes<'_> {
     {
         let hashes = &mut *self.hashes;
         let v = hash_of(hashes, content, n, h, k);
-        self.trust(nth(h, k), v);
+        self.trust(nth(u64::from(k), h), v);
     }
 
     // Every node of height h inside the pack.

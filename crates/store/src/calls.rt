@@ -1,5 +1,6 @@
 // The calls on the rooms: start a store, build a whole one, take a chunk. Any order, any rooms, any numbers and any
 // bytes get an answer, and a refusal changes nothing.
+// The rooms are slices here and no struct, since the C interface lends them so, and lends `start` its chunks shared.
 ghost use Rattle.std.specs.Prelude.{◌≡◌, ◌+◌, ◌*◌, ◌<◌, ◌≤◌, length, IfOk};
 ghost use Rattle.hash.proofs.Promise.{bytes_of};
 ghost use Rattle.tree.specs.Pack.{chunk_size, max_length};

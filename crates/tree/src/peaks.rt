@@ -30,7 +30,7 @@ pub fn bit(x: u32, h: u32) -> bool
 }
 
 // The k-th node of height h, from 0 on.
-fn nth(k: u64, h: u32) -> u64
+pub fn nth(k: u64, h: u32) -> u64
     requires { (h < 60) × (k * 2 ^ h < 2 ^ 62) }
     ensures { result ≡ bin h (k * 2 ^ h) }
 {
