@@ -4,7 +4,7 @@ use mathlib.Core.Logic.{◌⊎◌, inl, inr, ◌≢◌}
 use mathlib.Core.Bool.{Bool, true, false}
 use mathlib.Core.List.{List, ◌++◌, map}
 use Prim.Native.Nat.{ℕ, zero, suc, ◌+◌, ◌-◌, ◌*◌, ◌/◌, ◌^◌, ◌≤◌, ◌<◌}
-use native.Mathlib.Nat.{pow-suc, mul-le-mul_right, mul-le-mul_left, le-div_iff_mul-le}
+use native.Mathlib.Nat.{pow-suc, mul-le-mul_right, le-div_iff_mul-le}
 use native.Mathlib.Omega.{arith}
 use native.Mathlib.Decide.{ℕ_discrete}
 use borrow.Author.Tests.{leb-true}
@@ -186,9 +186,6 @@ leaf_in N h k z l = let i = kth_inside N h k l in omega (arith, i, pow_pos h, ti
 
 pub leaf-hash : (s : List ℕ) (N h k : ℕ) → h ≡ 0 → N ≡ count_of (length s) → k < N / 2 ^ h → sha256 (chunk_in (length s) s k) ≡ tree_of s h (k * 2 ^ h)
 leaf-hash s N h k z n l = tree_chunk s k (omega (arith, leaf_in N h k z l)) ∙ ap (λ (x : ℕ). tree_of s x (k * 2 ^ x)) (sym z)
-
-pub less : (N h : ℕ) → N / 2 ^ h ≤ N
-less N h = omega (arith, above_in h N, mul-le-mul_left (N / 2 ^ h) (pow_pos h))
 
 combined_is : (N : ℕ) (held : ℕ → ℕ → List ℕ) → given sha256 filler N held (levels N) 0 ≡ combined sha256 filler N held
 unfolding combined
