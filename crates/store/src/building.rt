@@ -67,7 +67,7 @@ fn hash_of(hashes: &[u32], content: &[u8], n: u32, h: u32, k: u32) -> HashValue
 }
 
 impl Nodes<'_> {
-    // Writes and trusts it.
+    // Writes the hash of the k-th node of height h, inside a content of n chunks, and trusts it.
     fn put_node(&mut self, content: &[u8], n: u32, h: u32, k: u32)
         requires h_bound { (h ≤ 32)
             × (k < n / 2 ^ h)
