@@ -1,20 +1,18 @@
 -- DATA: the ACK, and the chunk taken by the store, return by return as the code has them. Assumes nothing.
-use Rattle.std.proofs.Common.{◌≡◌, ℕ, ◌+◌, ◌-◌, ◌%◌, ◌^◌, ◌<◌, true, ◌≢◌, List, [], length, take, drop, sym, refl, ap, ◌∙◌, ap₂, arith, eq-eqb}
+use Rattle.std.proofs.Common.{◌≡◌, ℕ, ◌+◌, ◌-◌, ◌<◌, true, ◌≢◌, List, length, take, drop, sym, refl, ap, ◌∙◌, arith, eq-eqb}
 use Rattle.bits.proofs.Promise.{bit_at}
 use Rattle.wire.proofs.Promise.{placed}
 use Rattle.writer.proofs.Promise.{within, nameable}
-use Rattle.replies.proofs.Promise.{ack_reply}
 use Rattle.held.proofs.Promise.{Biggest, complete_interval, complete-biggest}
 use Rattle.wire.specs.declared.range.Range.{Range}
-use Rattle.table.proofs.Promise.{row_at, order_in}
-use Rattle.table.specs.declared.rows.Row.{Row}
+use Rattle.table.proofs.Promise.{order_in}
 use Rattle.order.specs.declared.Order.{Order}
 use Rattle.hash.proofs.Promise.{bytes_of}
 use Rattle.store.proofs.Promise.{Rooms, Integrity, count_of, length_answer, length_accepted, integrity_of}
 use Rattle.store.proofs.Promise.{take_spec as store_take, refused-same, taken-chunk, taken-map}
 use Rattle.channel.specs.World.{Channels, channels_of, World, Out, out_at, out_of, order_length, chunk_count}
-use Rattle.channel.specs.World.{table_rows, order_format}
-use Rattle.channel.specs.Take.{row_for, messages_number, affected, delay, acknowledged, acknowledgement, replied}
+use Rattle.channel.specs.World.{order_format}
+use Rattle.channel.specs.Take.{messages_number, affected, acknowledged, acknowledgement}
 use Rattle.channel.specs.Take.{data_by, store_out, data_taken}
 use Rattle.base.proofs.OutLaws.{at-not, at_done, unless-done}
 use Rattle.base.specs.Out.{Named}

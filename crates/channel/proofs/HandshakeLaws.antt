@@ -1,14 +1,13 @@
 -- A HANDSHAKE taken in, step by step as the code takes it. Assumes nothing.
-use Rattle.std.proofs.Common.{◌≡◌, ℕ, ◌+◌, ◌-◌, ◌*◌, ◌^◌, ◌<◌, ◌≤◌, min, Bool, false, eqb, ◌≢◌, List, length, get_or, drop, sym, ap, ◌∙◌, arith, length-drop, length-take, get_or-drop, eq-eqb, ne_eqb}
+use Rattle.std.proofs.Common.{◌≡◌, ℕ, ◌+◌, ◌-◌, ◌*◌, ◌^◌, ◌<◌, ◌≤◌, min, Bool, false, eqb, ◌≢◌, List, length, get_or, drop, sym, ap, ◌∙◌, arith, length-drop, length-take, get_or-drop, ne_eqb}
 use Rattle.hash.proofs.Promise.{bytes_of, words, same, same_not, bytes-length, bytes-words}
 use Rattle.base.specs.Pick.{pick}
 use Rattle.wire.proofs.Promise.{be32}
 use Rattle.wire.specs.declared.message.Options.{Options}
-use Rattle.wire.specs.declared.message.Options.TheVariants.{Fixed, EndOnly, Other}
+use Rattle.wire.specs.declared.message.Options.TheVariants.{Fixed}
 use Rattle.writer.proofs.Promise.{within}
-use Rattle.table.proofs.Promise.{row_of, row_at, row_after, put_row, order_in, handshake_row, handshake_answer}
+use Rattle.table.proofs.Promise.{row_of, row_at, row_after, put_row, handshake_row, handshake_answer}
 use Rattle.table.specs.declared.rows.Row.{Row}
-use Rattle.hash.specs.declared.value.HashValue.{HashValue}
 use Rattle.channel.specs.World.{Channels, channels_of, Out, out_of, order_root, table_rows}
 use Rattle.channel.specs.Opening.{opened_row, occupied}
 use Rattle.channel.specs.Take.{row_for, ours, handshake_taken}
@@ -32,23 +31,6 @@ pub root-same : (root s : List ℕ) (at : ℕ) {v : List ℕ} {b : Bool} → ((i
 unfolding ours
 root-same root s at {v} few l e q =
     q ∙ ap (λ (x : List ℕ). same x root) (ap bytes_of e ∙ bytes-words 8 (drop at s) (λ i. rw (get_or-drop at s i 0) (few (at + i))) (omega (arith, length-drop at s)))
-
--- By the kind of the options.
-module _ (root s : List ℕ) {o : Options} where
-  pub ours-of : {at : ℕ} {b : Bool} → o ≡ Fixed at → b ≡ ours root s (Fixed at) → b ≡ ours root s o
-  ours-of e p = rw e p
-
-  pub ours-end : o ≡ EndOnly → false ≡ ours root s o
-  unfolding ours
-  ours-end e = rw e
-
-  pub ours-other : o ≡ Other → false ≡ ours root s o
-  unfolding ours
-  ours-other e = rw e
-
--- With the root that was read.
-pub ours-read : (st s : List ℕ) (o : Options) {root : HashValue} {b : Bool} → root ≡ (order_in st).root → b ≡ ours (bytes_of root.words) s o → b ≡ ours (order_root st) s o
-ours-read st s o e p = p ∙ ap (λ (r : HashValue). ours (bytes_of r.words) s o) e
 
 -- ---- a HANDSHAKE
 

@@ -20,11 +20,13 @@ use Rattle.channel.proofs.AckLaws as acknowledging
 use Rattle.channel.proofs.NameLaws as naming
 pub use Rattle.channel.specs.World.{Channels, channels_of, World, world_of, Out, out_at, out_of, Unaltered}
 pub use Rattle.channel.specs.World.{is_named, named_by, node_number, order_root, order_length, order_format, chunk_count, table_rows}
+pub use Rattle.channel.specs.Lent.{rooms_in, channels_in, world_in, Kept}
+pub use Rattle.channel.specs.Sizes.{sizes_of, all_answer, own_answer, built_answer}
 pub use Rattle.channel.specs.Opening.{open_spec}
 pub use Rattle.channel.specs.Starting.{order_of, start_spec, build_spec}
 pub use Rattle.channel.specs.Take.{take_spec, row_for, delay}
 pub use Rattle.channel.specs.Write.{write_spec}
-pub use Rattle.channel.specs.Ask.{Asked, asked_of, ask_spec}
+pub use Rattle.channel.specs.Ask.{Asked, asked_of, asked_by, ask_spec}
 pub use Rattle.channel.specs.Named.{Names}
 pub use Rattle.channel.specs.Reply.{Reply, reply_of, open_reply, take_reply, write_reply, left_in, Replies, Acknowledges}
 pub use Rattle.channel.specs.Adding.{adding_spec}

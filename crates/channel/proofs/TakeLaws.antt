@@ -1,8 +1,8 @@
 -- Taking in a datagram, step by step as the code takes it. Assumes nothing.
-use Rattle.std.proofs.Common.{◌≡◌, ℕ, ◌+◌, ◌-◌, ◌*◌, ◌^◌, ◌<◌, ◌≤◌, Bool, true, false, eqb, leb, List, length, take, drop, sym, refl, ap, ◌∙◌, true≢false, mul-le-mul_left, arith, le-leb}
+use Rattle.std.proofs.Common.{◌≡◌, ℕ, ◌+◌, ◌*◌, ◌^◌, ◌<◌, ◌≤◌, Bool, false, eqb, leb, List, length, take, sym, refl, ap, ◌∙◌, true≢false, mul-le-mul_left, arith, le-leb}
 use borrow.Author.Tests.{lt-leb}
 use Rattle.bits.proofs.Promise.{row_words, row_words_lem}
-use Rattle.wire.proofs.Promise.{be32, min_size, Checked, layout_of, Says, layout_data, layout-entries, layout_passed, layout-told, length-told, entries-told, number_of, checked_of, check_spec, entry_words, has_size, size-refused, Fronted, front-layout, front-survey, no_survey, survey_all, survey_spec, survey_passed}
+use Rattle.wire.proofs.Promise.{be32, min_size, Checked, layout_of, Says, layout_data, layout-entries, layout-told, length-told, entries-told, number_of, checked_of, check_spec, entry_words, has_size, size-refused, Fronted, front-layout, front-survey, survey_all, survey_spec, survey_passed}
 use Rattle.wire.specs.declared.message.Options.{Options}
 use Rattle.wire.specs.declared.survey.Survey.{Survey}
 use Rattle.wire.specs.declared.pass.Front.{Front}
@@ -118,11 +118,7 @@ module _ (st : List ℕ) {F : Format} (fe : F ≡ order_format st) (room s : Lis
   pub laid : {m : Layout} → l ≡ m → m ≡ (layout_in st s).layout
   laid q = sym q ∙ layout-told F room s e ∙ ap (λ (G : Format). (layout_of G s).layout) fe
 
-  -- One that is not refused has its destination,
-  pub laid-long : {m : Layout} → l ≡ m → number_of m ≡ 0 → min_size ≤ length s
-  laid-long q z = (layout_passed (order_format st) s (ap number_of (sym (laid q)) ∙ z)).0
-
-  -- and its survey is that of all its messages.
+  -- Where it is not refused, its survey is that of all its messages.
   pub laid-survey : {m : Layout} → l ≡ m → number_of m ≡ 0 → {v : Survey} → v ≡ survey_spec F s → v ≡ survey_all (order_format st) s
   laid-survey q z g = g ∙ ap (λ (G : Format). survey_spec G s) fe ∙ survey_passed (order_format st) s (ap number_of (sym (laid q)) ∙ z)
 

@@ -1,12 +1,11 @@
 -- Writing the datagram of a chunk, return by return as the code has them. Assumes nothing.
-use Rattle.std.proofs.Common.{◌≡◌, ℕ, ◌+◌, ◌-◌, ◌*◌, ◌<◌, ◌≤◌, Bool, true, false, not, ltb, leb, ◌≢◌, List, length, take, drop, sym, ap, ◌∙◌, ap₂, arith, length-take, le-leb, leb-false}
-use Rattle.bits.proofs.Promise.{bit_at}
+use Rattle.std.proofs.Common.{◌≡◌, ℕ, ◌+◌, ◌-◌, ◌*◌, ◌<◌, ◌≤◌, ltb, leb, List, length, take, drop, sym, ap, ◌∙◌, ap₂, arith, length-take, leb-false}
 use Rattle.tree.proofs.Promise.{chunk_size, chunks, max_length, size, chunk_inside, chunk_some}
 use Rattle.wire.proofs.Promise.{placed, max_size}
 use Rattle.table.specs.declared.rows.Row.{Row}
 use Rattle.table.proofs.Promise.{open_row_of, row_at, write_answer}
 use Rattle.replies.proofs.Promise.{chunk_reply}
-use Rattle.store.proofs.Promise.{earlier, rooms_answer, passed, both_zero, order_accepted, length_accepted, rooms_accepted}
+use Rattle.store.proofs.Promise.{rooms_answer, passed, both_zero, order_accepted, length_accepted, rooms_accepted}
 use Rattle.channel.specs.World.{World, channels_of, Out, out_of, order_length, chunk_count, table_rows, order_format}
 use Rattle.channel.specs.Answers.{channels_answer, own_rooms_answer}
 use Rattle.channel.specs.Write.{held_answer, write_number, chunk_datagram, write_spec}

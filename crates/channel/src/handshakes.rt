@@ -63,14 +63,7 @@ pub(crate) fn handshake(
             peer: source,
             choked: false,
         };
-        return Ok(opening::occupy(
-            state,
-            rooms.has,
-            rooms.wants,
-            rooms.reply,
-            i,
-            row,
-        ));
+        return Ok(opening::occupy(state, rooms.has, rooms.wants, rooms.reply, i, row));
     }
     let row = words::row_at(state, i).after(source);
     words::put_row(state, i, row);

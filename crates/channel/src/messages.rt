@@ -53,7 +53,15 @@ fn apply_messages(rooms: &mut Rooms<'_>, format: Format, i: usize, datagram: &[u
     let row = words::row_at(state, i);
     let n = pack::chunk_count(words::length_in(state));
     let base = 32 * (bits::row_words(u64::from(n)) as usize * i);
-    let choked = effects::apply(rooms.has, rooms.wants, format, n, base, row.choked, datagram);
+    let choked = effects::apply(
+        rooms.has,
+        rooms.wants,
+        format,
+        n,
+        base,
+        row.choked,
+        datagram,
+    );
     if choked != row.choked {
         words::put_row(state, i, Row { choked, ..row });
     }
@@ -158,6 +166,7 @@ pub(crate) fn take_data(
         chunk,
         integrity,
     )?;
+    // By `&mut`, though they are read alone: (c) after `&*rooms.state` a proof knows how many words there are, and none.
     let state = &mut *rooms.state;
     let map = &mut *rooms.map;
     let sent = acknowledge(state, map, rooms.reply, format, i, clock, came, datagram);

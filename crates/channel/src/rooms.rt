@@ -37,7 +37,14 @@ impl Rooms<'_> {
     {
         let length = words::length_in(self.state);
         Sizes::of(
-            self.state, self.chunks, self.map, self.hashes, self.trusted, self.has, self.wants, self.reply,
+            self.state,
+            self.chunks,
+            self.map,
+            self.hashes,
+            self.trusted,
+            self.has,
+            self.wants,
+            self.reply,
         )
         .own_answer(length)
     }

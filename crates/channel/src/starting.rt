@@ -45,6 +45,7 @@ pub fn start(
 {
     rooms::method_answer(order.method)?;
     Sizes::of(state, chunks, map, hashes, trusted, has, wants, reply).order_answer(order.length)?;
+    // The store refuses nothing now.
     calls::start(order, chunks, map, hashes, trusted).unwrap();
     clear_rows(has, order.length);
     clear_rows(wants, order.length);
@@ -75,8 +76,11 @@ pub fn build(
 {
     let length = order.length;
     rooms::method_answer(order.method)?;
-    Sizes::of(state, chunks, map, hashes, trusted, has, wants, reply)
-        .build_answer(length, content.len())?;
+    Sizes::of(state, chunks, map, hashes, trusted, has, wants, reply).build_answer(
+        length,
+        content.len(),
+    )?;
+    // The store refuses nothing now.
     let root = calls::build(length, chunks, map, hashes, trusted, content).unwrap();
     clear_rows(has, length);
     clear_rows(wants, length);

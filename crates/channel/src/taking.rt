@@ -60,14 +60,22 @@ fn rule_behind(
             len,
             entries: n,
         } => {
-            let data = Data {
+            let came = Data {
                 chunk,
                 timestamp,
                 start,
                 len,
             };
             let nodes = &entries[..n];
-            let sent = messages::take_data(rooms, format, clock, data, nodes, datagram, pass.survey)?;
+            let sent = messages::take_data(
+                rooms,
+                format,
+                clock,
+                came,
+                nodes,
+                datagram,
+                pass.survey,
+            )?;
             Ok(Ruling::Taken(sent))
         }
     }
@@ -99,12 +107,7 @@ fn rule(
 }
 
 // Takes in a datagram at a clock; `id` is for a channel that it may open. The reply's length.
-pub fn take(
-    rooms: &mut Rooms<'_>,
-    clock: u64,
-    id: u32,
-    datagram: &[u8],
-) -> Result<usize, Refusal>
+pub fn take(rooms: &mut Rooms<'_>, clock: u64, id: u32, datagram: &[u8]) -> Result<usize, Refusal>
     ensures kept { Kept rooms.old rooms.new }
     ensures out { out_by result (len_of result) (world_in rooms.new)
         ≡ take_spec (world_in rooms.old) clock id datagram.now }

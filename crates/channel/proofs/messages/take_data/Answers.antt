@@ -1,6 +1,6 @@
-use Rattle.std.proofs.Common.{◌≡◌, ℕ, Err, refl, rules}
+use Rattle.std.proofs.Common.{◌≡◌, Err, refl, rules}
 use Rattle.base.proofs.OutLaws.{refusal_number}
-use Rattle.channel.specs.Lent.{rooms_in, channels_in, world_in}
+use Rattle.channel.specs.Lent.{world_in}
 use Rattle.channel.specs.Take.{data_taken}
 use Rattle.channel.proofs.TakeLaws.{quiet_affected}
 use Rattle.channel.proofs.DataLaws.{part_is, data-held, data-unfit, data-done}

@@ -1,4 +1,4 @@
-use Rattle.std.proofs.Common.{◌≡◌, rules}
+use Rattle.std.proofs.Common.{rules}
 use Rattle.channel.specs.Opening.{occupied}
 use Rattle.channel.proofs.opening.occupy.Goals as goal
 

@@ -2,7 +2,6 @@ use Rattle.std.proofs.Common.{◌≡◌, refl, ap, Ok, Err, arith, length-take, 
 use Rattle.wire.specs.declared.layout.Layout as src
 use Rattle.wire.proofs.Promise.{layout_said, refusal-told}
 use Rattle.channel.specs.Lent.{world_in}
-use Rattle.channel.specs.Steps.{left, settled}
 use Rattle.channel.proofs.TakeLaws.{laid, laid-survey, laid_end, laid-few, laid-entries, ruled-laid, ruled-messages, ruled-fault, ruled-handshake, ruled-data}
 use Rattle.channel.proofs.taking.rule_behind.Goals as goal
 

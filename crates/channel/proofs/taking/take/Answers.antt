@@ -1,4 +1,4 @@
-use Rattle.std.proofs.Common.{◌≡◌, ℕ, Err, sym, ap, ◌∙◌, rules}
+use Rattle.std.proofs.Common.{◌≡◌, Err, sym, ap, ◌∙◌, rules}
 use Rattle.wire.proofs.Promise.{size-sound}
 use Rattle.store.proofs.Promise.{length_answer}
 use Rattle.channel.specs.World.{World, order_length, order_format}
@@ -23,9 +23,6 @@ plain_front-front-requires-clause-datagram_len_bound c = (size-sound _ (sym c.if
 
 pub rule-requires-clause-state_value : goal.rule-requires-clause-state_value
 rule-requires-clause-state_value c = let p = sym c.in_ok-own_answer.ensures.0 in (own_accepted (world_in c.args.rooms.now) p).0
-
-pub rule-requires-clause-format_value : goal.rule-requires-clause-format_value
-rule-requires-clause-format_value c = search rules
 
 pub rule-requires-clause-max_size_in_bounds : goal.rule-requires-clause-max_size_in_bounds
 rule-requires-clause-max_size_in_bounds c = let p = sym c.in_ok-own_answer.ensures.0 in (own_accepted (world_in c.args.rooms.now) p).2
