@@ -1,15 +1,13 @@
 -- What it says of the order and of the rooms that neither 12 nor 11 refuses a call. Assumes nothing.
-use Rattle.std.proofs.Common.{◌≡◌, ℕ, ◌≤◌, Bool, true, false, ltb, List, length, sym, refl, arith, ltb-false}
+use Rattle.std.proofs.Common.{◌≡◌, ℕ, ◌≤◌, Bool, true, false, ltb, length, sym, refl, arith, ltb-false}
 use Rattle.base.specs.Pick.{pick}
 use Rattle.table.proofs.Promise.{state_words}
 use Rattle.wire.proofs.Promise.{max_size}
-use Rattle.store.proofs.Promise.{passed, both_zero, count_of, length_answer, rooms_answer, build_answer, order_accepted}
+use Rattle.store.proofs.Promise.{passed, both_zero, count_of, length_answer, rooms_answer, order_answer, build_answer, order_accepted}
 use Rattle.channel.specs.World.{World, order_length}
-use Rattle.channel.specs.Answers.{peer_words, channel_rooms_answer, channels_answer, all_rooms_answer, own_rooms_answer, method_answer}
-use Rattle.channel.specs.Sizes.{sizes_of, own_answer}
+use Rattle.channel.specs.Answers.{peer_words, channel_rooms_answer, channels_answer, own_rooms_answer, method_answer}
+use Rattle.channel.specs.Sizes.{sizes_of, sides_answer, all_answer, own_answer, built_answer}
 use Rattle.channel.specs.declared.rooms.Sizes.{Sizes}
-use Rattle.channel.specs.Starting.{build_number, start_number}
-use Rattle.order.specs.declared.Order.{Order}
 use Rattle.format.specs.Format.{is_method}
 
 -- The rooms for what the peers have and want hold their rows, and the reply room a datagram.
@@ -38,20 +36,22 @@ own_accepted w e =
     let r = channel_rooms_accepted L (length w.channels.state) (length w.channels.has) (length w.channels.wants) (length w.channels.reply) p.1 in
     ((order_accepted L _ _ _ _ p.0).0, r.0, r.3)
 
--- Neither 12 nor 11 under a new order, and for a building: the state has its room.
-rooms-state : (L : ℕ) (w : World) → all_rooms_answer L w ≡ 0 → state_words ≤ length w.channels.state
-rooms-state L w e =
-    (channel_rooms_accepted L (length w.channels.state) (length w.channels.has) (length w.channels.wants) (length w.channels.reply)
-    (both_zero (rooms_answer L w.rooms) (channels_answer L w.channels) e).1).0
+-- The same by the sizes alone: the reply room holds a datagram,
+pub own_reply : (L : ℕ) (s : Sizes) → 0 ≡ own_answer L s → max_size ≤ s.reply
+own_reply L s z =
+    let p = both_zero (order_answer L s.store.chunks s.store.map s.store.hashes s.store.trusted) (sides_answer L s) (passed (ltb s.state state_words) 10 _ (sym z)).1 in
+    (channel_rooms_accepted L s.state s.has s.wants s.reply p.1).3
 
-pub start-state : (w : World) (o : Order) → start_number w o ≡ 0 → state_words ≤ length w.channels.state
-start-state w o e = rooms-state o.length w (both_zero (method_answer o.method) (all_rooms_answer o.length w) e).1
+-- and under a new order, and for a building, the state has its room.
+pub all_state : (L : ℕ) (s : Sizes) → 0 ≡ all_answer L s → state_words ≤ s.state
+all_state L s z =
+    let p = both_zero (order_answer L s.store.chunks s.store.map s.store.hashes s.store.trusted) (sides_answer L s) (sym z) in
+    (channel_rooms_accepted L s.state s.has s.wants s.reply p.1).0
 
-pub build-state : (w : World) (o : Order) (s : List ℕ) → build_number w o s ≡ 0 → state_words ≤ length w.channels.state
-build-state w o s e =
-    let L = o.length in
-    (channel_rooms_accepted L (length w.channels.state) (length w.channels.has) (length w.channels.wants) (length w.channels.reply)
-    (both_zero (build_answer L (length s) (length w.rooms.bytes) (length w.rooms.map) (length w.rooms.hashes) (length w.rooms.trusted)) (channels_answer L w.channels) (both_zero (method_answer o.method) _ e).1).1).0
+pub built_state : (L n : ℕ) (s : Sizes) → 0 ≡ built_answer L n s → state_words ≤ s.state
+built_state L n s z =
+    let p = both_zero (build_answer L n s.store.chunks s.store.map s.store.hashes s.store.trusted) (sides_answer L s) (sym z) in
+    (channel_rooms_accepted L s.state s.has s.wants s.reply p.1).0
 
 -- A method that is not refused.
 pub method_accepted : (k : ℕ) → method_answer k ≡ 0 → is_method k ≡ true

@@ -7,11 +7,11 @@ use Rattle.hash.proofs.Promise.{bytes_of, words, Words, words-bytes}
 use Rattle.hash.specs.declared.value.HashValue.{HashValue}
 use Rattle.bits.proofs.Promise.{clear_words}
 use Rattle.table.proofs.Promise.{fresh_words}
-use Rattle.store.proofs.Promise.{Rooms, count_of, root_of, rooms_answer, build_answer, both_zero, start-zero, build-zero}
+use Rattle.store.proofs.Promise.{Rooms, earlier, count_of, root_of, rooms_answer, build_answer, both_zero, start-zero, build-zero}
 use Rattle.store.proofs.Promise as store
 use Rattle.order.specs.declared.Order.{Order}
 use Rattle.channel.specs.World.{World, Channels, channels_of, Out, out_of}
-use Rattle.channel.specs.Answers.{peer_words, method_answer, channels_answer, all_rooms_answer}
+use Rattle.channel.specs.Answers.{peer_words, method_answer}
 use Rattle.channel.specs.Sizes.{sizes_of, all_answer, built_answer}
 use Rattle.channel.specs.declared.rooms.Sizes.{Sizes}
 use Rattle.channel.specs.Starting.{fresh_channels, order_of, start_spec, build_number, build_spec, start_number}
@@ -38,12 +38,10 @@ pub start_passed : (w : World) (o : Order) {s : Sizes} → 0 ≡ method_answer o
 start_passed w o m e z = rw (← m) (sym (rw e at z))
 
 -- The store starts then.
-pub start-begun : (w : World) (o : Order) → start_number w o ≡ 0 → {A : Type 0} (r : Result A Refusal) {rooms : Rooms}
-    → out_by r 0 rooms ≡ store.start_spec w.rooms (bytes_of o.root.words) o.length → IsOk r
-start-begun w o z {A} r e =
-    let q = both_zero (method_answer o.method) (all_rooms_answer o.length w) z in
-    let p = both_zero (rooms_answer o.length w.rooms) (channels_answer o.length w.channels) q.1 in
-    answered_ok r (ap (λ (x : Out Rooms). x.answer) e ∙ start-zero w.rooms (bytes_of o.root.words) o.length p.0)
+pub start-begun : {A : Type 0} (r : Result A Refusal) {rooms : Rooms} (w : Rooms) (x : List ℕ) (L n : ℕ) → out_by r 0 rooms ≡ store.start_spec w x L
+    → 0 ≡ earlier (rooms_answer L w) n → IsOk r
+start-begun r w x L n e z =
+    answered_ok r (ap (λ (y : Out Rooms). y.answer) e ∙ start-zero w x L (both_zero (rooms_answer L w) n (sym z)).0)
 
 -- One that is not refused: the store's rooms as its start leaves them, the rooms for peers cleared.
 pub start-done : (w : World) (o : Order) → start_number w o ≡ 0 → {A : Type 0} (r : Result A Refusal) {st : List ℕ} {rooms : Rooms} {has wants : List ℕ}
@@ -63,12 +61,11 @@ pub build_passed : (w : World) (o : Order) (s : List ℕ) {x : Sizes} → 0 ≡ 
     → 0 ≡ built_answer o.length (length s) x → build_number w o s ≡ 0
 build_passed w o s m e z = rw (← m) (sym (rw e at z))
 
-pub build-begun : (w : World) (o : Order) (s : List ℕ) → build_number w o s ≡ 0 → {A : Type 0} (r : Result A Refusal) {rooms : Rooms}
-    → out_by r 0 rooms ≡ store.build_spec w.rooms o.length s → IsOk r
-build-begun w o s z {A} r e =
-    let q = both_zero (method_answer o.method) _ z in
-    let p = both_zero (build_answer o.length (length s) (length w.rooms.bytes) (length w.rooms.map) (length w.rooms.hashes) (length w.rooms.trusted)) (channels_answer o.length w.channels) q.1 in
-    answered_ok r (ap (λ (x : Out Rooms). x.answer) e ∙ build-zero w.rooms o.length s p.0)
+pub build-begun : {A : Type 0} (r : Result A Refusal) {rooms : Rooms} (w : Rooms) (L : ℕ) (s : List ℕ) (n : ℕ) → out_by r 0 rooms ≡ store.build_spec w L s
+    → 0 ≡ earlier (build_answer L (length s) (length w.bytes) (length w.map) (length w.hashes) (length w.trusted)) n → IsOk r
+build-begun r w L s n e z =
+    answered_ok r (ap (λ (x : Out Rooms). x.answer) e
+    ∙ build-zero w L s (both_zero (build_answer L (length s) (length w.bytes) (length w.map) (length w.hashes) (length w.trusted)) n (sym z)).0)
 
 -- The words found are those of the root's bytes.
 found_words : (u r : List ℕ) → length u ≡ 8 → Words u → bytes_of u ≡ r → u ≡ words 8 r

@@ -49,6 +49,7 @@ pub(crate) fn occupy(
 }
 
 // Opens a channel under an ID: it calls, and the reply is our HANDSHAKE to channel 0, of this length.
+// The rooms one by one: (a) C lends the pack's four `const` (ppspp_open).
 pub fn open(
     state: &mut [u32],
     chunks: &[u8],

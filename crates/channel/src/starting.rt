@@ -24,6 +24,7 @@ fn clear_rows(ws: &mut [u32], length: u32)
 }
 
 // Starts a store under an order. The words of the state need not be one.
+// The rooms one by one: (a) C lends the chunks and the reply `const` (ppspp_start).
 pub fn start(
     state: &mut [u32],
     chunks: &[u8],
@@ -54,6 +55,7 @@ pub fn start(
 }
 
 // Builds a whole store from its content, under an order whose root is not looked at; the root found becomes the order's.
+// The rooms one by one: (a) C lends the reply `const` (ppspp_build).
 pub fn build(
     state: &mut [u32],
     chunks: &mut [u8],

@@ -24,7 +24,7 @@ fn held_answer(n: u32, c: u32, map: &[u32]) -> Result<(), Refusal>
 }
 
 // The datagram for chunk c on the channel of an ID, with the clock as its timestamp: the hashes that go out with it,
-// then DATA; its length.
+// then DATA; its length. The rooms one by one: (a) C lends all but the reply `const` (ppspp_write).
 pub fn write(
     state: &[u32],
     chunks: &[u8],

@@ -1,7 +1,6 @@
 use Rattle.std.proofs.Common.{rules}
-use Rattle.channel.specs.World.{world_of}
 use Rattle.channel.specs.Opening.{open_spec}
-use Rattle.channel.proofs.AcceptLaws.{own_passed, own_accepted}
+use Rattle.channel.proofs.AcceptLaws.{own_passed, own_reply}
 use Rattle.channel.proofs.OpenLaws.{open_done}
 use Rattle.channel.proofs.opening.open.Goals as goal
 
@@ -14,7 +13,7 @@ unfolding open_spec
 returns-in_err-i c = search rules
 
 pub occupy-requires-clause-max_size_in_bounds : goal.occupy-requires-clause-max_size_in_bounds
-occupy-requires-clause-max_size_in_bounds c = let w = world_of c.args.state.now c.args.chunks.now c.args.map.now c.args.hashes.now c.args.trusted.now c.args.has.now c.args.wants.now c.args.reply.now in let p = own_passed w c.length_in-length.ensures c.of.ensures c.in_ok-own_answer.ensures.0 in (own_accepted w p).2
+occupy-requires-clause-max_size_in_bounds c = rw c.of.ensures at (own_reply _ _ c.in_ok-own_answer.ensures.0)
 
 pub returns : goal.returns
-returns c = let w = world_of c.args.state.now c.args.chunks.now c.args.map.now c.args.hashes.now c.args.trusted.now c.args.has.now c.args.wants.now c.args.reply.now in let p = own_passed w c.length_in-length.ensures c.of.ensures c.in_ok-own_answer.ensures.0 in open_done w c.args.id p c.in_ok-i.ensures.answer.0 c.occupy.ensures
+returns c = open_done _ _ (own_passed _ c.length_in-length.ensures c.of.ensures c.in_ok-own_answer.ensures.0) c.in_ok-i.ensures.answer.0 c.occupy.ensures
