@@ -166,7 +166,7 @@ pub(crate) fn take_data(
         chunk,
         integrity,
     )?;
-    // By `&mut`, though they are read alone: (c) after `&*rooms.state` a proof knows how many words there are, and none.
+    // Both are only read: (c) after `&*rooms.state` a proof knows the number of words, and none of them.
     let state = &mut *rooms.state;
     let map = &mut *rooms.map;
     let sent = acknowledge(state, map, rooms.reply, format, i, clock, came, datagram);

@@ -54,7 +54,7 @@ pub fn start(
     Ok(())
 }
 
-// Builds a whole store from its content, under an order whose root is not looked at; the root found becomes the order's.
+// Builds a whole store from its content, under an order whose root is not looked at: the root found takes its place.
 // The rooms one by one: (a) C lends the reply `const` (ppspp_build).
 pub fn build(
     state: &mut [u32],
