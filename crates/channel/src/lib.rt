@@ -1,5 +1,5 @@
-// The channels of a store: 01's entry points over eight lent rooms, the state's words among them. Any words, any rooms,
-// any numbers and any bytes get an answer; a refusal changes nothing.
+// The channels of a store: 01's entry points over eight lent rooms, the state's words among them. Any words, any
+// rooms, any numbers and any bytes get an answer; a refusal changes nothing.
 #![tactic(auto)]
 
 pub mod asking; // ask: the held count, whole or not

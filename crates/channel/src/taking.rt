@@ -81,8 +81,8 @@ fn rule_behind(
     }
 }
 
-// A datagram of sound size. Its messages, if it has no DATA, are left to the caller: they are taken at one place, which
-// the compiler puts in line.
+// A datagram of sound size. Its messages, if it has no DATA, are left to the caller: they are taken at one place,
+// which the compiler puts in line.
 fn rule(
     rooms: &mut Rooms<'_>,
     format: Format,
