@@ -1,21 +1,17 @@
--- The INTEGRITY messages of nodes: each can be written, and its size; a hash is put word by word. Assumes nothing.
-use Prim.Native.Nat.{ℕ, ◌+◌, ◌-◌, ◌*◌, ◌^◌, ◌<◌, ◌≤◌}
+-- The INTEGRITY messages of nodes: each can be written, its size and its bytes. Assumes nothing.
+use Prim.Native.Nat.{ℕ, ◌*◌, ◌≤◌}
 use native.Mathlib.Omega.{arith}
-use native.Mathlib.Numerals.{add-one}
-use mathlib.Core.Path.{◌≡◌, refl, sym, ap, ◌∙◌}
+use mathlib.Core.Path.{◌≡◌, refl, sym}
 use mathlib.Core.List.{List, [], ◌∷◌, map}
 use mathlib.Core.Bool.{true}
-use lib.ListN.{length, get_or, take, length-append}
-use lib.Pow.{pow_pos}
-use lib.Seq.{take_all, length-take-le}
+use lib.ListN.{length, length-append}
 use Rattle.format.specs.declared.Format.{Format}
-use Rattle.hash.proofs.Promise.{words, bytes_of as word_bytes, words-length, bytes-length, bytes_zeros, bytes-more}
 use Rattle.tree.proofs.Promise.{first, last}
-use Rattle.store.proofs.Promise.{hash_in, hash-length, hash-words}
+use Rattle.store.proofs.Promise.{hash_in, hash-length}
 use Rattle.wire.proofs.Promise.{integrity_size, place_most}
 use Rattle.wire.specs.declared.message.Message.TheVariants.{Integrity}
 use Rattle.writer.specs.declared.place.Writer.{Writer}
-use Rattle.writer.proofs.Promise.{Wrote, wrote_none, wrote_then, wrote_as, bytes32, nameable, name_bytes, node-nameable, writable, size_of, bytes_of, encode, message-size, integrity-bytes}
+use Rattle.writer.proofs.Promise.{Wrote, wrote_then, wrote_as, name_bytes, writable, size_of, bytes_of, encode, message-size, integrity-bytes}
 use Rattle.replies.specs.Replies.{hash_item}
 use Rattle.replies.specs.Steps.{Puts}
 use Rattle.replies.proofs.DatagramLaws.{puts_one}
@@ -29,35 +25,6 @@ integrity-writable F n f l e = rw e refl
 integrity-size : (F : Format) (f l h : ℕ) → size_of F (Integrity f l h) ≡ integrity_size F
 unfolding size_of
 integrity-size F f l h = refl
-
--- ---- a hash into a room, word by word
-
--- The words of a node's hash.
-abbrev pub node_words : List ℕ → ℕ → List ℕ
-node_words hashes b = words 8 (hash_in hashes b)
-
--- No word yet.
-pub words-none : (w : Writer) → Wrote w w (word_bytes [])
-words-none w = wrote_as (sym (bytes_zeros 0)) (wrote_none w)
-
--- The bytes of as many words.
-pub words-long : (hashes : List ℕ) (b j : ℕ) → j ≤ 8 → length (word_bytes (take j (node_words hashes b))) ≡ 4 * j
-words-long hashes b j h =
-    let l = words-length 8 (hash_in hashes b) in
-    bytes-length (take j (node_words hashes b)) ∙ ap (λ (n : ℕ). 4 * n) (length-take-le j (node_words hashes b) (omega arith))
-
-module _ (hashes : List ℕ) (b : ℕ) {w v : Writer} where
-  -- One word more.
-  pub word_more : (j : ℕ) → j < 8 → {u : Writer} {x : ℕ} → Wrote w v (word_bytes (take j (node_words hashes b))) → x ≡ get_or (node_words hashes b) j 0
-      → Wrote v u (bytes32 x) → Wrote w u (word_bytes (take (j + 1) (node_words hashes b)))
-  unfolding bytes32
-  word_more j h p e q =
-      let l = words-length 8 (hash_in hashes b) in
-      rw (add-one j, bytes-more (node_words hashes b) j (omega arith)) (wrote_then p (rw e at q))
-
-  -- The last word written.
-  pub words-all : Wrote w v (word_bytes (take 8 (node_words hashes b))) → Wrote w v (hash_in hashes b)
-  words-all p = wrote_as (ap word_bytes (take_all 8 (node_words hashes b) (omega (arith, words-length 8 (hash_in hashes b)))) ∙ hash-words hashes b) p
 
 -- ---- the items of nodes
 

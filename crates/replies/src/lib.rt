@@ -65,14 +65,12 @@ pub fn ack(
     writer.at
 }
 
-// The hash of node b. Each word is read right before it is written: the compiler then makes one store of its four bytes.
+// The hash of node b.
 fn put_hash(writer: &mut Writer<'_>, hashes: &[u32], b: u64)
     requires { Free writer.old 32 }
     ensures { Wrote writer.old writer.new (hash_in hashes.now b) }
 {
-    for j in 0..8 {
-        writer.number32(room::word(hashes, b, j));
-    }
+    writer.bytes(&value::bytes(room::read(hashes, b)));
 }
 
 // The INTEGRITY of a node, if there is one.

@@ -50,7 +50,7 @@ impl Writer<'_> {
         self.at += 1;
     }
 
-    pub(crate) fn bytes(&mut self, bytes: &[u8])
+    pub fn bytes(&mut self, bytes: &[u8])
         requires { Free self.old (length bytes.now) }
         ensures { Wrote self.old self.new bytes.now }
     {
