@@ -88,6 +88,7 @@ impl Channel<'_> {
 
 // The effects of a datagram's messages on a channel of a pack of n chunks, one after the other; whether the peer choked
 // us afterwards. Each message has a byte at least.
+// The parameters stay apart: else the one caller would make the `Channel`.
 pub fn apply(
     has: &mut [u32],
     wants: &mut [u32],
