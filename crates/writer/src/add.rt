@@ -78,8 +78,8 @@ fn seen_answer(entries: &[u64], node: Option<u64>) -> Result<(), Refusal>
     }
 }
 
-// What a datagram so far, which has others than plain messages, says to one message more: what it is refused for itself,
-// or else what refuses the message behind it. Its scratch is made here alone.
+// What a datagram so far, which has others than plain messages, says to one message more: what it is refused for
+// itself, or else what refuses the message behind it. Its scratch is made here alone.
 fn behind_others(
     format: Format,
     prefix: &[u8],
@@ -152,8 +152,8 @@ pub fn begin(room: &mut [u8], destination: u32) -> Result<usize, Refusal>
     Ok(MIN_SIZE)
 }
 
-// Adds a message to the datagram in the first `len` bytes of the room; its hash, chunk or root is taken from `bytes`; the
-// datagram's length.
+// Adds a message to the datagram in the first `len` bytes of the room; its hash, chunk or root is taken from `bytes`;
+// the datagram's length.
 pub fn add(
     room: &mut [u8],
     format: Format,
