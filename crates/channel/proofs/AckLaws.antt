@@ -3,7 +3,7 @@
 use Rattle.std.proofs.Common.{◌≡◌, ℕ, ◌≤◌, List, length, take, zero-add, arith}
 use Rattle.base.proofs.OutLaws.{at_zero, unless-zero}
 use Rattle.wire.proofs.Promise.{placed, max_size, place_most, placed-front}
-use Rattle.wire.specs.Layout.{MessagesAndData}
+use Rattle.wire.proofs.Promise.{MessagesAndData}
 use Rattle.replies.proofs.Promise.{ack-long}
 use Rattle.held.proofs.Promise.{Biggest}
 use Rattle.table.proofs.Promise.{row_at}

@@ -6,7 +6,7 @@ use Rattle.table.specs.declared.rows.Row.{Row}
 use Rattle.table.proofs.Promise.{put_row, handshake_answer}
 use Rattle.wire.proofs.Promise.{be32}
 use Rattle.wire.specs.declared.message.Options.{Options}
-use Rattle.wire.specs.Layout.{Layout, Fault, HandshakeAlone, Messages, MessagesAndData}
+use Rattle.wire.proofs.Promise.{Layout, Fault, HandshakeAlone, Messages, MessagesAndData}
 use Rattle.channel.specs.World.{Channels, channels_of, World, Out, out_of, order_root, table_rows}
 use Rattle.channel.specs.Answers.{own_rooms_answer}
 use Rattle.channel.specs.Opening.{opened_row, occupied}

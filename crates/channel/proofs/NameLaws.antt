@@ -9,7 +9,7 @@ use Rattle.base.proofs.AmongLaws.{all_among, one_of_more, not_one}
 use Rattle.base.proofs.OutLaws.{unless-nameless}
 use Rattle.format.specs.Format.{format_of}
 use Rattle.wire.proofs.Promise.{number_of, layout-one}
-use Rattle.wire.specs.Layout.{Layout, Fault, HandshakeAlone, Messages, MessagesAndData}
+use Rattle.wire.proofs.Promise.{Layout, Fault, HandshakeAlone, Messages, MessagesAndData}
 use Rattle.wire.specs.declared.message.Message.{Message}
 use Rattle.writer.proofs.Promise.{within, add_nameless}
 use Rattle.store.proofs.Promise.{Integrity, integrity_of, taken-named, named_small, take_spec as store_take}

@@ -8,7 +8,7 @@ use Rattle.bits.proofs.Promise.{bit_at}
 use Rattle.table.proofs.Promise.{state_words, messages_answer, handshake_answer, write_answer, open_numbered, messages_numbered, handshake_numbered, write_numbered}
 use Rattle.wire.proofs.Promise.{be32, min_size, max_size, number_of, layout-one}
 use Rattle.wire.specs.declared.message.Options.{Options}
-use Rattle.wire.specs.Layout.{Layout, Fault, HandshakeAlone, Messages, MessagesAndData}
+use Rattle.wire.proofs.Promise.{Layout, Fault, HandshakeAlone, Messages, MessagesAndData}
 use Rattle.effects.proofs.Promise.{any_past}
 use Rattle.held.proofs.Promise.{ask_numbered}
 use Rattle.store.proofs.Promise.{passed, both_zero, count_of, rooms_answer, build_answer, order_numbered, build_numbered, take_numbered}

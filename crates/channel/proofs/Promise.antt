@@ -32,7 +32,7 @@ pub use Rattle.channel.specs.Reply.{Reply, reply_of, open_reply, take_reply, wri
 pub use Rattle.channel.specs.Adding.{adding_spec}
 pub use Rattle.channel.specs.Answers.{method_answer, peer_words, Suffice}
 use Rattle.wire.specs.declared.message.Message.{Message}
-use Rattle.wire.specs.Layout.{MessagesAndData}
+use Rattle.wire.proofs.Promise.{MessagesAndData}
 use Rattle.table.proofs.Promise.{row_at}
 use Rattle.format.specs.Format.{is_method}
 

@@ -10,7 +10,7 @@ use Rattle.tree.proofs.Promise.{chunk_size, max_length, chunks, chunk_some}
 use Rattle.wire.proofs.Promise.{be32, placed, min_size, max_size, number_of, layout_of, Numbered, handshake_fault, Alone, layout_numbered, layout_passed, layout-alone}
 use Rattle.wire.specs.declared.message.Options.{Options}
 use Rattle.wire.specs.declared.message.Options.TheVariants.{Fixed, EndOnly, Other}
-use Rattle.wire.specs.Layout.{Layout, Fault, HandshakeAlone, Messages, MessagesAndData}
+use Rattle.wire.proofs.Promise.{Layout, Fault, HandshakeAlone, Messages, MessagesAndData}
 use Rattle.writer.proofs.Promise.{Item, AreBytes, be32-fits, Reads, Plain, rewritable, write_all, datagram_of, round_trip_read}
 use Rattle.replies.proofs.Promise.{handshake_items, handshake_reply, chunk_items, chunk_reply, handshake-long, chunk-fits, handshake_reads, ack_reads, chunk_reads}
 use Rattle.store.proofs.Promise.{earlier, both_zero, chunk_in, length_answer, length_accepted}

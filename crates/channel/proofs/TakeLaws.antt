@@ -6,7 +6,7 @@ use Rattle.wire.proofs.Promise.{be32, min_size, Checked, layout_of, Says, layout
 use Rattle.wire.specs.declared.message.Options.{Options}
 use Rattle.wire.specs.declared.survey.Survey.{Survey}
 use Rattle.wire.specs.declared.pass.Front.{Front}
-use Rattle.wire.specs.Layout.{Layout, Fault, HandshakeAlone, Messages, MessagesAndData}
+use Rattle.wire.proofs.Promise.{Layout, Fault, HandshakeAlone, Messages, MessagesAndData}
 use Rattle.writer.proofs.Promise.{read_all}
 use Rattle.effects.proofs.Promise.{any_past, Peer, peer_of, effects, past-survey, quiet_survey}
 use Rattle.table.proofs.Promise.{row_count, row_at, put_row, messages_answer, put_row_same}

@@ -1,8 +1,9 @@
 -- The eight rooms as they are lent together: their contents, and that the same rooms are lent still. Assumes nothing.
-use Rattle.std.specs.Prelude.{◌≡◌, length}
-use Rattle.store.proofs.Promise.{Rooms, rooms_of}
+use Rattle.std.specs.Prelude.{ℕ, ◌≡◌, List, length}
+use Rattle.format.specs.declared.Format.{Format}
+use Rattle.store.proofs.Promise.{Rooms, rooms_of, length_answer}
 use Rattle.channel.specs.declared.rooms.Rooms.{Rooms as Lent}
-use Rattle.channel.specs.World.{World, Channels, channels_of}
+use Rattle.channel.specs.World.{World, Channels, channels_of, order_length, order_format}
 
 abbrev pub rooms_in : Lent → Rooms
 rooms_in r = rooms_of r.chunks.now r.map.now r.hashes.now r.trusted.now
@@ -31,3 +32,8 @@ pub record Kept (r s : Lent) : Type 0 where
   pub has_size : length s.has.now ≡ length r.has.now
   pub wants_size : length s.wants.now ≡ length r.wants.now
   pub reply_size : length s.reply.now ≡ length r.reply.now
+
+-- The words of a state have an order of a length that a pack may have, and datagrams under it have this format.
+pub record Ordered (st : List ℕ) (F : Format) : Type 0 where
+  pub length : length_answer (order_length st) ≡ 0
+  pub format : F ≡ order_format st

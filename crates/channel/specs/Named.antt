@@ -1,7 +1,7 @@
 -- The node that taking in a datagram names (02, No. 3): what it says of the datagram and of the store. Assumes nothing.
 use Rattle.std.specs.Prelude.{◌≡◌, ℕ, List, Some}
 use Rattle.base.specs.Out.{Named}
-use Rattle.wire.specs.Layout.{MessagesAndData}
+use Rattle.wire.proofs.Promise.{MessagesAndData}
 use Rattle.writer.proofs.Promise.{within}
 use Rattle.store.proofs.Promise.{Integrity, integrity_of}
 use Rattle.channel.specs.Take.{layout_in}

@@ -6,7 +6,7 @@ use Rattle.std.proofs.Math.Option.{Option, none, some}
 use Rattle.base.specs.Pick.{pick}
 use Rattle.format.specs.declared.Format.{Format}
 use Rattle.wire.proofs.Promise.{be32}
-use Rattle.wire.specs.Layout.{Layout, Fault, HandshakeAlone, Messages, MessagesAndData}
+use Rattle.wire.proofs.Promise.{Layout, Fault, HandshakeAlone, Messages, MessagesAndData}
 use Rattle.writer.proofs.Promise.{Item, Reads}
 use Rattle.replies.proofs.Promise.{handshake_items, ack_items, ack_reply, chunk_items}
 use Rattle.held.proofs.Promise.{Biggest}

@@ -3,7 +3,7 @@ use Rattle.std.specs.Prelude.{ℕ, length, nat_lt}
 use Rattle.base.specs.Pick.{pick}
 use Rattle.table.proofs.Promise.{state_words}
 use Rattle.store.proofs.Promise.{earlier, order_answer, build_answer}
-use Rattle.store.specs.Answers.{sizes_of as store_sizes}
+use Rattle.store.proofs.Promise.{sizes_of as store_sizes}
 use Rattle.channel.specs.declared.rooms.Sizes.{Sizes}
 use Rattle.channel.specs.World.{World}
 use Rattle.channel.specs.Answers.{channel_rooms_answer}

@@ -4,7 +4,7 @@ use Rattle.base.specs.Refusal.{number, node}
 use Rattle.base.specs.declared.Refusal.{Refusal}
 use Rattle.wire.proofs.Promise.{no_survey, survey_all}
 use Rattle.wire.specs.declared.survey.Survey.{Survey}
-use Rattle.wire.specs.Layout.{Layout, Fault, HandshakeAlone, Messages, MessagesAndData}
+use Rattle.wire.proofs.Promise.{Layout, Fault, HandshakeAlone, Messages, MessagesAndData}
 use Rattle.channel.specs.declared.taking.Ruling.{Ruling}
 use Rattle.channel.specs.declared.taking.Ruling.TheVariants.{Taken, MessagesLeft}
 use Rattle.channel.specs.World.{World, Out, out_at, out_of, order_format}

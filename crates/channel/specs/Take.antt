@@ -5,7 +5,7 @@ use Rattle.base.specs.Pick.{pick}
 use Rattle.wire.proofs.Promise.{be32, placed, min_size, Checked, layout_of}
 use Rattle.wire.specs.declared.message.Options.{Options}
 use Rattle.wire.specs.declared.message.Options.TheVariants.{Fixed, EndOnly, Other}
-use Rattle.wire.specs.Layout.{Layout, Fault, HandshakeAlone, Messages, MessagesAndData}
+use Rattle.wire.proofs.Promise.{Layout, Fault, HandshakeAlone, Messages, MessagesAndData}
 use Rattle.writer.proofs.Promise.{within, Item, read_all}
 use Rattle.effects.proofs.Promise.{any_past, Peer, peer_of, effects}
 use Rattle.replies.proofs.Promise.{ack_reply}

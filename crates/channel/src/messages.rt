@@ -1,13 +1,13 @@
 // Messages other than a HANDSHAKE: why they are refused, their effects, and the chunk that DATA brings with its reply.
 ghost use Rattle.std.specs.Prelude.{◌≡◌, ◌+◌, ◌<◌, ◌≤◌, true, length, IfOk};
 ghost use Rattle.wire.proofs.Promise.{min_size, max_size, survey_all};
-ghost use Rattle.replies.specs.Steps.{Sends};
+ghost use Rattle.replies.proofs.Promise.{Sends};
 ghost use Rattle.bits.proofs.Promise.{bit_at};
 ghost use Rattle.store.proofs.Promise.{length_answer};
 ghost use Rattle.table.proofs.Promise.{row_count};
 ghost use Rattle.base.specs.Out.{Answers, out_by, len_of};
 ghost use Rattle.channel.specs.World.{beside, order_length, order_format, chunk_count};
-ghost use Rattle.channel.specs.Lent.{Kept, rooms_in, channels_in, world_in};
+ghost use Rattle.channel.specs.Lent.{Kept, Ordered, rooms_in, channels_in, world_in};
 ghost use Rattle.channel.specs.Take.{row_for, messages_number, affected, messages_taken};
 ghost use Rattle.channel.specs.Take.{acknowledgement, data_taken};
 
@@ -42,8 +42,7 @@ fn row_for(rooms: &Rooms<'_>, datagram: &[u8], survey: Survey) -> Result<usize, 
 
 // The effects of messages on the channel in row i, which they go to.
 fn apply_messages(rooms: &mut Rooms<'_>, format: Format, i: usize, datagram: &[u8])
-    requires state_value { length_answer (order_length rooms.old.state.now) ≡ 0 }
-    requires format_value { format ≡ order_format rooms.old.state.now }
+    requires ordered { Ordered rooms.old.state.now format }
     requires i_value { (i ≡ row_for rooms.old.state.now datagram.now) × (i < row_count) }
     ensures kept { Kept rooms.old rooms.new }
     ensures pack { rooms_in rooms.new ≡ rooms_in rooms.old }
@@ -74,8 +73,7 @@ pub(crate) fn take_messages(
     datagram: &[u8],
     survey: Survey,
 ) -> Result<usize, Refusal>
-    requires state_value { length_answer (order_length rooms.old.state.now) ≡ 0 }
-    requires format_value { format ≡ order_format rooms.old.state.now }
+    requires ordered { Ordered rooms.old.state.now format }
     requires min_size_in_bounds { min_size ≤ length datagram.now }
     requires survey_value { survey ≡ survey_all (order_format rooms.old.state.now) datagram.now }
     ensures kept { Kept rooms.old rooms.new }
@@ -111,8 +109,7 @@ fn acknowledge(
     datagram: &[u8],
 ) -> usize
     requires max_size_in_bounds { max_size ≤ length reply.old }
-    requires state_value { length_answer (order_length state.now) ≡ 0 }
-    requires format_value { format ≡ order_format state.now }
+    requires ordered { Ordered state.now format }
     requires c_bound { (came.chunk < chunk_count state.now) × (bit_at map.now came.chunk ≡ true) }
     requires i_value { i ≡ row_for state.now datagram.now }
     ensures { Sends reply.old
@@ -137,8 +134,7 @@ pub(crate) fn take_data(
     datagram: &[u8],
     survey: Survey,
 ) -> Result<usize, Refusal>
-    requires state_value { length_answer (order_length rooms.old.state.now) ≡ 0 }
-    requires format_value { format ≡ order_format rooms.old.state.now }
+    requires ordered { Ordered rooms.old.state.now format }
     requires max_size_in_bounds { max_size ≤ length rooms.old.reply.now }
     requires min_size_in_bounds { min_size ≤ length datagram.now }
     requires len_in_bounds { came.start + came.len ≤ length datagram.now }

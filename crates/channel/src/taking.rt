@@ -1,10 +1,8 @@
 // Taking in a datagram: its checks in 01's order, then its effects and its reply.
 ghost use Rattle.std.specs.Prelude.{◌≡◌, ◌≤◌, length};
 ghost use Rattle.wire.proofs.Promise.{max_size, Fronted};
-ghost use Rattle.store.proofs.Promise.{length_answer};
 ghost use Rattle.base.specs.Out.{out_by, len_of};
-ghost use Rattle.channel.specs.World.{order_length, order_format};
-ghost use Rattle.channel.specs.Lent.{Kept, world_in};
+ghost use Rattle.channel.specs.Lent.{Kept, Ordered, world_in};
 ghost use Rattle.channel.specs.Take.{layout_in, take_spec};
 ghost use Rattle.channel.specs.Steps.{ruled_of, ruled_by};
 
@@ -36,8 +34,7 @@ fn rule_behind(
     datagram: &[u8],
     front: Front,
 ) -> Result<Ruling, Refusal>
-    requires state_value { length_answer (order_length rooms.old.state.now) ≡ 0 }
-    requires format_value { format ≡ order_format rooms.old.state.now }
+    requires ordered { Ordered rooms.old.state.now format }
     requires max_size_in_bounds { max_size ≤ length rooms.old.reply.now }
     requires fronted { Fronted format datagram.now front }
     ensures kept { Kept rooms.old rooms.new }
@@ -91,8 +88,7 @@ fn rule(
     datagram: &[u8],
     front: Front,
 ) -> Result<Ruling, Refusal>
-    requires state_value { length_answer (order_length rooms.old.state.now) ≡ 0 }
-    requires format_value { format ≡ order_format rooms.old.state.now }
+    requires ordered { Ordered rooms.old.state.now format }
     requires max_size_in_bounds { max_size ≤ length rooms.old.reply.now }
     requires fronted { Fronted format datagram.now front }
     ensures kept { Kept rooms.old rooms.new }

@@ -4,8 +4,8 @@ use Rattle.std.proofs.Math.Option.{Option, none, some}
 use Rattle.base.specs.Pick.{pick}
 use Rattle.order.specs.declared.Order.{Order}
 use Rattle.wire.proofs.Promise.{max_size}
-use Rattle.wire.specs.Layout.{Layout}
-use Rattle.wire.specs.Layout.{Fault, HandshakeAlone, Messages, MessagesAndData}
+use Rattle.wire.proofs.Promise.{Layout}
+use Rattle.wire.proofs.Promise.{Fault, HandshakeAlone, Messages, MessagesAndData}
 use Rattle.writer.proofs.Promise.{within}
 use Rattle.channel.specs.World.{World, channels_of, Out, out_of}
 use Rattle.channel.specs.Opening.{open_spec}

@@ -13,6 +13,7 @@ use Rattle.wire.proofs.Promise.{min_size, max_size, timed_size, everything_bin}
 use Rattle.writer.proofs.Promise.{Reads, nameable}
 use Rattle.replies.proofs.ReplyLaws.{handshake-length, ack-length, chunk-length}
 use Rattle.replies.proofs.ReadLaws as reading
+pub use Rattle.replies.specs.Steps.{Sends}
 pub use Rattle.replies.specs.Replies.{datagram, handshake_items, handshake_reply, ack_items, ack_reply, hash_item, chunk_items, chunk_reply}
 
 -- Our HANDSHAKE has 60 bytes by either method.

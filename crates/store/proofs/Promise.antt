@@ -32,7 +32,7 @@ pub use Rattle.verdict.proofs.RoomLaws.{hash-length, hash-words}
 pub use Rattle.verdict.specs.Integrity.{Integrity, integrity_of}
 pub use Rattle.verdict.specs.Rooms.{Rooms, rooms_of, count_of, chunk_in, state_of}
 pub use Rattle.store.specs.Building.{root_of}
-pub use Rattle.store.specs.Answers.{earlier, length_answer, map_words, hash_words, trusted_words, Enough, room_answer, order_answer, chunk_answer}
+pub use Rattle.store.specs.Answers.{earlier, length_answer, map_words, hash_words, trusted_words, Enough, room_answer, order_answer, chunk_answer, sizes_of}
 pub use Rattle.store.specs.Calls.{rooms_answer, start_spec, build_answer, build_spec, take_spec}
 pub use Rattle.store.specs.Whole.{HangsIn, Alike}
 pub use Rattle.store.proofs.Running.{SameSizes, SoundRooms, Running}

@@ -20,14 +20,13 @@ use Rattle.wire.proofs.FrontLaws as fronts
 use Rattle.wire.proofs.SurveyLaws as surveys
 use Rattle.std.specs.Prelude.{Some, None}
 use Rattle.wire.specs.declared.message.Step.TheVariants.{Read}
-use Rattle.wire.specs.Layout.{Layout}
-use Rattle.wire.specs.Layout.{Fault, Messages}
 use Rattle.wire.specs.declared.pass.Front.{Front}
 pub use Rattle.wire.specs.Bytes.{be32, be64, placed}
 pub use Rattle.wire.specs.Limits.{min_size, max_size}
 pub use Rattle.wire.specs.Place.{named_size, timed_size, integrity_size, empty_bin, everything_bin, first_of, last_of, is_empty, reach}
 pub use Rattle.wire.specs.Options.{fixed_head, fixed_tail, fixed_size}
 pub use Rattle.wire.specs.Read.{step_number, cursor, named, step_at}
+pub use Rattle.wire.specs.Layout.{Layout, Fault, HandshakeAlone, Messages, MessagesAndData}
 pub use Rattle.wire.specs.Layout.{Checked, checked_of, number_of, is_end_only, layout_of, layout_said}
 pub use Rattle.wire.specs.Steps.{entry_words, has_size, check_spec, Fronted, survey_of, no_survey, surveyed, survey_step, survey_all, survey_spec, range_of, plain_size, some_size, pass_said}
 unfoldable pub use Rattle.wire.specs.Layout.{seen, handshake_fault}

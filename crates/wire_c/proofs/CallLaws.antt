@@ -10,7 +10,7 @@ use Rattle.wire.proofs.Promise.{entry_words, number_of, checked_of, check_spec, 
 use Rattle.std.specs.Prelude.{Ok}
 use Rattle.wire.specs.declared.layout.Layout as src
 use Rattle.wire.specs.declared.layout.Layout.TheVariants as sound
-use Rattle.wire.specs.Layout.{Layout}
+use Rattle.wire.proofs.Promise.{Layout}
 use Rattle.wire_c.specs.Words.{layout_words}
 use Rattle.wire_c.specs.Calls.{laid_of, layout_told}
 

@@ -8,8 +8,8 @@ use lib.Seq.{sets}
 use Rattle.std.proofs.lemmas.List.Edits.{sets-eq}
 use Rattle.wire.specs.declared.message.Options.{Options}
 use Rattle.wire.specs.declared.message.Options.TheVariants.{Fixed, EndOnly, Other}
-use Rattle.wire.specs.Layout.{Layout}
-use Rattle.wire.specs.Layout.{HandshakeAlone, Messages, MessagesAndData}
+use Rattle.wire.proofs.Promise.{Layout}
+use Rattle.wire.proofs.Promise.{HandshakeAlone, Messages, MessagesAndData}
 use Rattle.wire_c.specs.Words.{layout_words}
 use Rattle.wire_c.specs.Steps.{kind_of, root_of}
 

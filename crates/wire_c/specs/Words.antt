@@ -1,8 +1,8 @@
 -- Layouts as words. Assumes nothing.
 use Rattle.std.specs.Prelude.{ℕ, List, [], ◌∷◌}
 use Rattle.wire.specs.declared.message.Options.TheVariants.{Fixed, EndOnly, Other}
-use Rattle.wire.specs.Layout.{Layout}
-use Rattle.wire.specs.Layout.{Fault, HandshakeAlone, Messages, MessagesAndData}
+use Rattle.wire.proofs.Promise.{Layout}
+use Rattle.wire.proofs.Promise.{Fault, HandshakeAlone, Messages, MessagesAndData}
 
 -- The words of a layout; none of one that is refused. A HANDSHAKE's options are two: 1 and the place of the root, 2
 -- and 0 for End alone, 0 and 0 for others.

@@ -21,8 +21,8 @@ plain_front-front-requires-clause-min_size_in_bounds c = (size-sound _ (sym c.if
 pub plain_front-front-requires-clause-datagram_len_bound : goal.plain_front-front-requires-clause-datagram_len_bound
 plain_front-front-requires-clause-datagram_len_bound c = (size-sound _ (sym c.if-not-has_size.ensures)).1
 
-pub rule-requires-clause-state_value : goal.rule-requires-clause-state_value
-rule-requires-clause-state_value c = let p = sym c.in_ok-own_answer.ensures.0 in (own_accepted (world_in c.args.rooms.now) p).0
+pub rule-requires-clause-ordered : goal.rule-requires-clause-ordered
+rule-requires-clause-ordered c = let p = sym c.in_ok-own_answer.ensures.0 in record { length = (own_accepted (world_in c.args.rooms.now) p).0; format = c.format-format.ensures }
 
 pub rule-requires-clause-max_size_in_bounds : goal.rule-requires-clause-max_size_in_bounds
 rule-requires-clause-max_size_in_bounds c = let p = sym c.in_ok-own_answer.ensures.0 in (own_accepted (world_in c.args.rooms.now) p).2
@@ -30,11 +30,14 @@ rule-requires-clause-max_size_in_bounds c = let p = sym c.in_ok-own_answer.ensur
 pub returns-in_err-sent-clause-out : goal.returns-in_err-sent-clause-out
 returns-in_err-sent-clause-out c = let p = sym c.in_ok-own_answer.ensures.0 in let e : c.from_residual-in_err-sent.result ≡ Err c.in_err-sent.field-0.0 = search rules in rw e (take_laid (world_in c.args.rooms.now) c.args.clock c.args.id c.args.datagram.now p (ruled-done (world_in c.args.rooms.now) c.args.clock c.args.id c.args.datagram.now (layout_in c.args.rooms.now.state.now c.args.datagram.now).layout c.in_err-sent.ensures.ruled))
 
-pub take_messages-requires-clause-state_value : goal.take_messages-requires-clause-state_value
-take_messages-requires-clause-state_value c = let p = sym c.in_ok-own_answer.ensures.0 in let l = ruled-left (world_in c.args.rooms.now) c.args.clock c.args.id c.args.datagram.now (layout_in c.args.rooms.now.state.now c.args.datagram.now).layout (rw c.in-MessagesLeft.is at c.in_ok-sent.ensures.ruled) in ap (λ (x : World). length_answer (order_length x.channels.state)) l.0 ∙ (own_accepted (world_in c.args.rooms.now) p).0
-
-pub take_messages-requires-clause-format_value : goal.take_messages-requires-clause-format_value
-take_messages-requires-clause-format_value c = let p = sym c.in_ok-own_answer.ensures.0 in let l = ruled-left (world_in c.args.rooms.now) c.args.clock c.args.id c.args.datagram.now (layout_in c.args.rooms.now.state.now c.args.datagram.now).layout (rw c.in-MessagesLeft.is at c.in_ok-sent.ensures.ruled) in c.format-format.ensures ∙ sym (ap (λ (x : World). order_format x.channels.state) l.0)
+pub take_messages-requires-clause-ordered : goal.take_messages-requires-clause-ordered
+take_messages-requires-clause-ordered c =
+    let p = sym c.in_ok-own_answer.ensures.0 in
+    let l = ruled-left (world_in c.args.rooms.now) c.args.clock c.args.id c.args.datagram.now (layout_in c.args.rooms.now.state.now c.args.datagram.now).layout (rw c.in-MessagesLeft.is at c.in_ok-sent.ensures.ruled) in
+    record {
+      length = ap (λ (x : World). length_answer (order_length x.channels.state)) l.0 ∙ (own_accepted (world_in c.args.rooms.now) p).0;
+      format = c.format-format.ensures ∙ sym (ap (λ (x : World). order_format x.channels.state) l.0);
+    }
 
 pub returns-in-Taken-clause-out : goal.returns-in-Taken-clause-out
 returns-in-Taken-clause-out c = let p = sym c.in_ok-own_answer.ensures.0 in take_laid (world_in c.args.rooms.now) c.args.clock c.args.id c.args.datagram.now p (ruled-done (world_in c.args.rooms.now) c.args.clock c.args.id c.args.datagram.now (layout_in c.args.rooms.now.state.now c.args.datagram.now).layout (rw c.in-Taken.is at c.in_ok-sent.ensures.ruled))
