@@ -2,7 +2,7 @@
 use Rattle.std.proofs.Common.{◌≡◌, ℕ, ◌+◌, ◌-◌, ◌<◌, ◌≤◌, min, Bool, true, false, eqb, List, [], Option, Some, None, length, take, drop, sym, refl, arith, length-drop, length-take-le, eq-eqb, ne_eqb, eqb-true}
 use borrow.Author.Tests.{eqb-false}
 use Rattle.base.specs.Pick.{pick}
-use Rattle.channel.proofs.Promise.{World, world_of, asked_of, ask_spec}
+use Rattle.channel.proofs.Promise.{World, asked_of, ask_spec}
 use Rattle.script.proofs.Promise.{Filled, filled, before_feed, kept, appended, answer_line, closing_line, feed_bound, append_nothing, front, added_bound}
 use Rattle.trace.specs.declared.session.Stage.{Stage}
 use Rattle.trace.specs.declared.session.Stage.TheVariants.{First, Later, Over}
@@ -39,13 +39,6 @@ module _ (room : List ℕ) (used : ℕ) (w : World) {stage : Stage} where
   pub end-over : stage ≡ Over → filled room used ≡ appended room used (end_at stage w)
   unfolding end_at
   end-over e = rw e (append_nothing room used)
-
--- It looks at the state and the map alone.
-end_rooms : (stage : Stage) (w : World) → end_at stage (world_of w.channels.state [] w.rooms.map [] [] [] [] []) ≡ end_at stage w
-unfolding end_at
-end_rooms First w = refl
-end_rooms Later w = refl
-end_rooms Over w = refl
 
 -- ---- a line answered
 
@@ -125,10 +118,10 @@ unfolding input_done
 input-line s h = rw (ne_eqb s.line.used 0 h)
 
 pub finish_with : (r : Replay) (line : Filled) (out : List ℕ) {s : Stream} {o : Filled} → s ≡ input_done (stream_of r line 0 (filled out 0))
-    → o ≡ appended s.out.room s.out.used (end_at s.replay.stage (world_of s.replay.world.channels.state [] s.replay.world.rooms.map [] [] [] [] []))
+    → o ≡ appended s.out.room s.out.used (end_at s.replay.stage s.replay.world)
     → stream_of s.replay s.line s.read o ≡ finished r line out
 unfolding finished
-finish_with r line out {s} e f = rw (f, end_rooms s.replay.stage s.replay.world, e)
+finish_with r line out {s} e f = rw (f, e)
 
 pub finish-within : (r : Replay) (line : Filled) (out : List ℕ) → (finished r line out).out.used ≤ length (finished r line out).out.room
 unfolding finished input_done line_done

@@ -2,7 +2,7 @@
 ghost use Rattle.std.specs.Prelude.{◌≡◌, ◌≤◌, length, Some, None};
 ghost use Rattle.base.specs.Pick.{pick};
 ghost use Rattle.wire.proofs.Promise.{be32};
-ghost use Rattle.channel.proofs.Promise.{world_of, order_of};
+ghost use Rattle.channel.proofs.Promise.{world_in, Kept, order_of};
 ghost use Rattle.trace.specs.Limits.{bad_first, replay_method};
 ghost use Rattle.trace.specs.declared.session.Stage.TheVariants.{Over};
 ghost use Rattle.trace.specs.Session.{replay_of, answer_of, takes_length, is_order, line_order, first_line};
@@ -10,6 +10,7 @@ ghost use Rattle.trace.specs.Steps.{reply_of, spoken};
 
 use crate::limits::{BAD_FIRST, LENGTH_MAX, ORDER_DIGITS, ORDER_SIZE};
 use crate::session::{Answered, Reply, Session, Stage};
+use channel::rooms::Rooms;
 use channel::starting;
 use format::RANGES;
 use hash::value;
@@ -70,44 +71,38 @@ fn bad_first(id: u32) -> Answered
 }
 
 // Starts the store.
-pub(crate) fn first_line(
-    session: Session,
-    state: &mut [u32],
-    chunks: &[u8],
-    map: &mut [u32],
-    hashes: &mut [u32],
-    trusted: &mut [u32],
-    has: &mut [u32],
-    wants: &mut [u32],
-    reply: &[u8],
-    line: &[u8],
-) -> Answered
-    ensures { answer_of
-        (replay_of (world_of state.new chunks.now map.new hashes.new
-        trusted.new has.new wants.new reply.now)
-        result.session.id result.session.stage)
-        (spoken result.answer reply.now)
-        ≡ first_line
-        (replay_of (world_of state.old chunks.now map.old hashes.old
-        trusted.old has.old wants.old reply.now)
-        session.id session.stage)
-        line.now }
+pub(crate) fn first_line(session: Session, rooms: &mut Rooms<'_>, line: &[u8]) -> Answered
+    ensures kept { Kept rooms.old rooms.new }
+    ensures answered { answer_of
+        (replay_of (world_in rooms.new) result.session.id result.session.stage)
+        (spoken result.answer rooms.new.reply.now)
+        ≡ first_line (replay_of (world_in rooms.old) session.id session.stage) line.now }
 {
     let id = session.id;
     let Some(order) = order_of(line) else {
         return bad_first(id);
     };
-    let answer = starting::start(
-        state, chunks, map, hashes, trusted, has, wants, reply, order,
+    let chunks = &mut *rooms.chunks;
+    let reply = &mut *rooms.reply;
+    let started = starting::start(
+        rooms.state,
+        chunks,
+        rooms.map,
+        rooms.hashes,
+        rooms.trusted,
+        rooms.has,
+        rooms.wants,
+        reply,
+        order,
     );
-    if answer != 0 {
-        return bad_first(id);
-    }
-    Answered {
-        session: Session {
-            id,
-            stage: Stage::Later,
+    match started {
+        Ok(()) => Answered {
+            session: Session {
+                id,
+                stage: Stage::Later,
+            },
+            answer: None,
         },
-        answer: None,
+        Err(_) => bad_first(id),
     }
 }

@@ -1,11 +1,12 @@
 // A store under replay, line after line: line one is its order, each later one a datagram.
 ghost use Rattle.std.specs.Prelude.{◌≡◌};
-ghost use Rattle.channel.proofs.Promise.{world_of};
+ghost use Rattle.channel.proofs.Promise.{world_in, Kept};
 ghost use Rattle.trace.specs.declared.session.Stage.TheVariants.{First};
 ghost use Rattle.trace.specs.Session.{replay_of, answer_of, line_answer};
 ghost use Rattle.trace.specs.Steps.{spoken};
 
 use crate::{first, later};
+use channel::rooms::Rooms;
 
 #[derive(Clone, Copy)]
 pub enum Stage {
@@ -49,36 +50,16 @@ pub fn fresh() -> Session
 }
 
 // Answers a line.
-pub(crate) fn answer(
-    session: Session,
-    state: &mut [u32],
-    chunks: &mut [u8],
-    map: &mut [u32],
-    hashes: &mut [u32],
-    trusted: &mut [u32],
-    has: &mut [u32],
-    wants: &mut [u32],
-    reply: &mut [u8],
-    line: &[u8],
-) -> Answered
-    ensures { answer_of
-        (replay_of (world_of state.new chunks.new map.new hashes.new
-        trusted.new has.new wants.new reply.new)
-        result.session.id result.session.stage)
-        (spoken result.answer reply.new)
-        ≡ line_answer
-        (replay_of (world_of state.old chunks.old map.old hashes.old
-        trusted.old has.old wants.old reply.old)
-        session.id session.stage)
-        line.now }
+pub(crate) fn answer(session: Session, rooms: &mut Rooms<'_>, line: &[u8]) -> Answered
+    ensures kept { Kept rooms.old rooms.new }
+    ensures answered { answer_of
+        (replay_of (world_in rooms.new) result.session.id result.session.stage)
+        (spoken result.answer rooms.new.reply.now)
+        ≡ line_answer (replay_of (world_in rooms.old) session.id session.stage) line.now }
 {
     match session.stage {
-        Stage::First => first::first_line(
-            session, state, chunks, map, hashes, trusted, has, wants, reply, line,
-        ),
-        Stage::Later => later::later_line(
-            session, state, chunks, map, hashes, trusted, has, wants, reply, line,
-        ),
+        Stage::First => first::first_line(session, rooms, line),
+        Stage::Later => later::later_line(session, rooms, line),
         Stage::Over => Answered {
             session,
             answer: None,

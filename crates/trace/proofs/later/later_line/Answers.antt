@@ -11,8 +11,8 @@ slice_bounds-take-end c = frame-length _ c.read.ensures c.in-Some.is
 pub take-requires : goal.take-requires
 take-requires c = frame-clock _ c.read.ensures c.in-Some.is
 
-pub returns-in-Some : goal.returns-in-Some
-returns-in-Some c = c.take.ensures ∙ frame-taken _ c.read.ensures c.in-Some.is _
+pub returns-in-Some-clause-answered : goal.returns-in-Some-clause-answered
+returns-in-Some-clause-answered c = c.take.ensures.answered ∙ frame-taken _ c.read.ensures c.in-Some.is _
 
-pub returns-in-None : goal.returns-in-None
-returns-in-None c = no-frame _ c.read.ensures _ c.in-None.is _
+pub returns-in-None-clause-answered : goal.returns-in-None-clause-answered
+returns-in-None-clause-answered c = no-frame _ c.read.ensures _ c.in-None.is _

@@ -1,8 +1,11 @@
-use Rattle.trace.proofs.SessionLaws.{part, taken_byte, took}
+use Rattle.base.proofs.OutLaws.{refusal_number}
+use Rattle.trace.proofs.SessionLaws.{part, id-refused, took}
 use Rattle.trace.proofs.later.take.Goals as goal
 
-pub overflow_cast-result : goal.overflow_cast-result
-overflow_cast-result c = record { fits = taken_byte _ _ _ _ c.take-out.ensures }
+pub returns-in-Ok-clause-answered : goal.returns-in-Ok-clause-answered
+returns-in-Ok-clause-answered c = took _ _ _ c.load64-clock.ensures (part 8 c.args.frame.now) c.in-Ok.ensures.out c.next_id.ensures
 
-pub returns : goal.returns
-returns c = took _ _ _ c.load64-clock.ensures (part 8 c.args.frame.now) c.take-out.ensures c.next_id.ensures
+pub returns-in-Err-clause-answered : goal.returns-in-Err-clause-answered
+returns-in-Err-clause-answered c =
+    rw c.number.ensures
+    (took _ _ _ c.load64-clock.ensures (part 8 c.args.frame.now) c.in-Err.ensures.out (id-refused _ _ _ (refusal_number _)))
