@@ -4,10 +4,11 @@
 #![tactic(auto)]
 
 ghost use Rattle.std.specs.Prelude.{◌≤◌, [], length};
-ghost use Rattle.channel.proofs.Promise.{world_of};
+ghost use Rattle.channel.proofs.Promise.{world_in, Kept};
 ghost use Rattle.script.proofs.Promise.{filled_in, SameRoom, line_size};
 ghost use Rattle.trace.proofs.Promise.{replay_of, ReplayRooms, Fed};
 
+use channel::rooms::Rooms;
 use script::buffer::Buffer;
 use std::io::{Read, Write};
 use table::words::STATE_WORDS;
@@ -29,37 +30,25 @@ fn flush(output: &mut impl Write, out: &Buffer<'_>) {
 fn feed(
     output: &mut impl Write,
     session: Session,
-    state: &mut [u32],
-    chunks: &mut [u8],
-    map: &mut [u32],
-    hashes: &mut [u32],
-    trusted: &mut [u32],
-    has: &mut [u32],
-    wants: &mut [u32],
-    reply: &mut [u8],
+    rooms: &mut Rooms<'_>,
     line: &mut Buffer<'_>,
     block: &[u8],
     out: &mut Buffer<'_>,
 ) -> Session
-    requires { line_size (length reply.old) ≤ length out.old.room.now }
+    requires { line_size (length rooms.old.reply.now) ≤ length out.old.room.now }
+    ensures kept { Kept rooms.old rooms.new }
     ensures same { SameRoom line.old line.new × SameRoom out.old out.new }
     ensures fed { Fed
-        (replay_of (world_of state.old chunks.old map.old hashes.old
-        trusted.old has.old wants.old reply.old)
-        session.id session.stage)
+        (replay_of (world_in rooms.old) session.id session.stage)
         (filled_in line.old)
         block.now []
-        (replay_of (world_of state.new chunks.new map.new hashes.new
-        trusted.new has.new wants.new reply.new)
-        result.id result.stage)
+        (replay_of (world_in rooms.new) result.id result.stage)
         (filled_in line.new) }
 {
     let mut current = session;
     let mut rest = block;
     while !rest.is_empty() {
-        let p = stream::answer_lines(
-            current, state, chunks, map, hashes, trusted, has, wants, reply, line, rest, out,
-        );
+        let p = stream::answer_lines(current, rooms, line, rest, out);
         flush(output, out);
         current = p.session;
         let read = p.read;
@@ -73,22 +62,12 @@ fn feed(
 fn run(
     input: &mut impl Read,
     output: &mut impl Write,
-    state: &mut [u32],
-    chunks: &mut [u8],
-    map: &mut [u32],
-    hashes: &mut [u32],
-    trusted: &mut [u32],
-    has: &mut [u32],
-    wants: &mut [u32],
-    reply: &mut [u8],
+    rooms: &mut Rooms<'_>,
     line: &mut [u8],
     block: &mut [u8],
     out: &mut [u8],
 )
-    requires { ReplayRooms
-        (world_of state.old chunks.old map.old hashes.old
-        trusted.old has.old wants.old reply.old)
-        line.old out.old }
+    requires { ReplayRooms (world_in rooms.old) line.old out.old }
 {
     let mut line = Buffer {
         room: line,
@@ -101,25 +80,9 @@ fn run(
         if n == 0 {
             break;
         }
-        current = feed(
-            output,
-            current,
-            state,
-            chunks,
-            map,
-            hashes,
-            trusted,
-            has,
-            wants,
-            reply,
-            &mut line,
-            &block[..n],
-            &mut out,
-        );
+        current = feed(output, current, rooms, &mut line, &block[..n], &mut out);
     }
-    ending::finish(
-        current, state, chunks, map, hashes, trusted, has, wants, reply, &mut line, &mut out,
-    );
+    ending::finish(current, rooms, &mut line, &mut out);
     flush(output, &out);
 }
 
@@ -136,20 +99,23 @@ fn main(rt: HostRuntime) {
     let mut has = [0u32; 16];
     let mut wants = [0u32; 16];
     let mut reply = [0u8; MAX_SIZE];
+    let mut rooms = Rooms {
+        state: &mut state,
+        chunks: &mut chunks,
+        map: &mut map,
+        hashes: &mut hashes,
+        trusted: &mut trusted,
+        has: &mut has,
+        wants: &mut wants,
+        reply: &mut reply,
+    };
     let mut line = [0u8; LINE_ROOM];
     let mut block = [0u8; BLOCK_ROOM];
     let mut out = [0u8; BLOCK_ROOM];
     run(
         &mut input,
         &mut output,
-        &mut state,
-        &mut chunks,
-        &mut map,
-        &mut hashes,
-        &mut trusted,
-        &mut has,
-        &mut wants,
-        &mut reply,
+        &mut rooms,
         &mut line,
         &mut block,
         &mut out,

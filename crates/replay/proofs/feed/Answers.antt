@@ -3,7 +3,7 @@ use Rattle.trace.proofs.Promise.{fed_none, fed-turn, read-bound, read_some, rest
 use Rattle.replay.proofs.feed.Goals as goal
 
 pub loop-rest-init : goal.loop-rest-init
-loop-rest-init g c = record { line = search rules; out = search rules; fed = fed_none _ _ _ }
+loop-rest-init g c = record { rooms = search rules; line = search rules; out = search rules; fed = fed_none _ _ _ }
 
 pub slice_bounds-rest-count : goal.slice_bounds-rest-count
 slice_bounds-rest-count g c = read-bound _ _ _ _ c.answer_lines-p.ensures.lines
@@ -16,11 +16,12 @@ loop-rest-smaller g c =
     let here = c.loop-rest.invariant in
     let some : 0 < length c.loop-rest.rest.now = search rules in
     rest_shorter _ c.loop-rest.rest.now
-    (read_some _ _ _ _ c.answer_lines-p.ensures.lines (omega (arith, c.loop-rest.auto.reply, here.out.size, c.requires)) some)
+    (read_some _ _ _ _ c.answer_lines-p.ensures.lines (omega (arith, here.rooms.reply_size, here.out.size, c.requires)) some)
     (read-bound _ _ _ _ c.answer_lines-p.ensures.lines)
 
 pub loop-rest-preserved : goal.loop-rest-preserved
 loop-rest-preserved g c = record {
+  rooms = search rules;
   line = search rules;
   out = search rules;
   fed = fed-turn c.loop-rest.invariant.fed _ c.answer_lines-p.ensures.lines;
