@@ -6,7 +6,7 @@ ghost use Rattle.std.proofs.lemmas.List.Edits.{sets};
 ghost use Rattle.format.specs.Format.{format_of};
 ghost use Rattle.table.specs.Rows.{row_count, in_table, lowest_free, row_of, open_row_of, row_at};
 ghost use Rattle.table.specs.Words.{state_words, rows_place, row_place, phase_of, row_in, rows_in, has_order, order_in};
-ghost use Rattle.table.specs.Words.{phase_word, flag, row_cells, put_row, order_words, fresh_words};
+ghost use Rattle.table.specs.Words.{phase_word, row_cells, put_row, order_words, fresh_words};
 
 use crate::rows::{Phase, ROWS, Row};
 use format::Format;
@@ -169,12 +169,6 @@ impl From<Phase> for u32 {
             Phase::Open => 2,
         }
     }
-}
-
-pub fn flag(on: bool) -> u32
-    ensures { result ≡ flag on }
-{
-    u32::from(on)
 }
 
 // Writes the words of row i.

@@ -150,9 +150,11 @@ fn typed(format: Format, rest: &[u8], kind: u8, at: usize) -> Option<(Message, C
         ACK => ack(format, rest, at),
         HAVE | REQUEST | CANCEL => ranged(format, rest, kind, at),
         INTEGRITY => integrity(format, rest, at),
+        5..=7 => None,
         CHOKE => Some((Message::Choke, Cursor { at: at + 1 })),
         UNCHOKE => Some((Message::Unchoke, Cursor { at: at + 1 })),
-        _ => None,
+        12..=254 => None,
+        255 => None,
     }
 }
 

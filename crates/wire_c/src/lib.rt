@@ -14,6 +14,7 @@ ghost use Rattle.std.specs.Prelude.{◌≡◌};
 ghost use Rattle.format.specs.Format.{format_of};
 ghost use Rattle.wire_c.specs.Calls.{laid_of, layout_told};
 
+use base::Refusal;
 use wire::limits::ENTRIES;
 use wire::pass;
 
@@ -32,10 +33,10 @@ pub extern "C" fn wire_layout(
         ≡ layout_told (format_of addressing) datagram.now entries.old out.old }
 {
     if out.len() < 6 {
-        return 11;
+        return Refusal::RoomTooSmall.number();
     }
     if entries.len() < ENTRIES {
-        return 11;
+        return Refusal::RoomTooSmall.number();
     }
     match pass::check(format::of_method(addressing), datagram, entries) {
         Ok(layout) => {

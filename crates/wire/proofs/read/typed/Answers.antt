@@ -29,8 +29,11 @@ returns-in-10 c = row-choke _ _ _ _ c.in-10.is
 pub returns-in-11 : goal.returns-in-11
 returns-in-11 c = row-unchoke _ _ _ _ c.in-11.is
 
-pub returns-in_default : goal.returns-in_default
-returns-in_default c = no_row _ _ _ _ (omega arith) (omega arith) (omega arith) (omega arith) (omega arith) (omega arith) (omega arith) (omega arith) (omega arith)
+pub returns-in-255 : goal.returns-in-255
+returns-in-255 c = no_row _ _ _ _ (omega arith) (omega arith) (omega arith) (omega arith) (omega arith) (omega arith) (omega arith) (omega arith) (omega arith)
 
-pub returns-in_default-2 : goal.returns-in_default-2
-returns-in_default-2 c = no_row _ _ _ _ (omega arith) (omega arith) (omega arith) (omega arith) (omega arith) (omega arith) (omega arith) (omega arith) (omega arith)
+pub returns-in-5-to-7 : goal.returns-in-5-to-7
+returns-in-5-to-7 c = no_row _ _ _ _ (omega arith) (omega arith) (omega arith) (omega arith) (omega arith) (omega arith) (omega arith) (omega arith) (omega arith)
+
+pub returns-in-12-to-254 : goal.returns-in-12-to-254
+returns-in-12-to-254 c = no_row _ _ _ _ (omega arith) (omega arith) (omega arith) (omega arith) (omega arith) (omega arith) (omega arith) (omega arith) (omega arith)
