@@ -17,7 +17,7 @@ use table::{answers, words};
 use wire::bytes;
 use wire::message::Options;
 
-// Whether 32 bytes from a place of a datagram are the root's.
+// Whether 32 bytes from a place of a datagram are the root's. `same` is `==`, told by the bytes, as `ours` has it.
 fn is_root(root: HashValue, datagram: &[u8], at: usize) -> bool
     ensures { result ≡ ours (bytes_of root.words) datagram.now (Options.Fixed at) }
 {

@@ -41,7 +41,7 @@ impl Channel<'_> {
         bits::clear_range(self.wants, from, upto);
     }
 
-    // The effect of a plain message, which `rest` begins with.
+    // The effect of a plain message, which `rest` begins with. It is told by its type: no message value is made for it.
     fn apply_plain(&mut self, format: Format, rest: &[u8])
         requires base_bound { self.old.base < 2 ^ 32 }
         requires in_bounds { 1 ≤ length rest.now }

@@ -19,7 +19,7 @@ fn run_around(map: &[u32], n: u32, c: u32) -> Range
     }
 }
 
-// Whether the node of height h above chunk c lies within an interval.
+// Whether the node of height h above chunk c lies within an interval. The type is wire's, so this is no method.
 fn is_within(h: u32, c: u32, interval: Range) -> bool
     requires { h < 60 }
     ensures { result ≡ is_within h c interval }

@@ -23,6 +23,7 @@ impl<'a> Buffer<'a> {
         ensures same { SameRoom self.old self.new }
         ensures kept { filled_in self.new ≡ kept self.old.room.now self.old.used part.now }
     {
+        // A call needs nothing, and a buffer may say that more is in use than its room has.
         if self.room.len() <= self.used {
             return;
         }

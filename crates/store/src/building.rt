@@ -78,6 +78,7 @@ impl Nodes<'_> {
         ensures puts { Puts (λ put l. put l (bin h (k * 2 ^ h)) (tree_of content.now h (k * 2 ^ h)))
             self.old self.new }
     {
+        // Only read: after `self.hashes` is passed as `&[u32]` a proof knows the number of words, and none of them.
         let hashes = &mut *self.hashes;
         let v = hash_of(hashes, content, n, h, k);
         self.trust(nth(u64::from(k), h), v);

@@ -63,7 +63,7 @@ pub fn sibling(c: u32, h: u32) -> u64
     nth(sibling_index(c, h), h)
 }
 
-// The index of the peak of n of height h, where bit h of n is set, among the nodes of that height.
+// The index among the nodes of height h of the one that is the peak of n where bit h of n is set.
 pub fn peak_index(n: u32, h: u32) -> u64
     requires { h < 60 }
     ensures { result * 2 ^ h ≡ above (suc h) n }

@@ -25,7 +25,7 @@ fn peak_untrusted(trusted: &[u32], n: u32, h: u32) -> bool
     }
 }
 
-// Whether all peaks of n are trusted.
+// Whether all peaks of n are trusted. A `for` knows that each height is small, which a closure for `all` would have to ask.
 pub fn all_trusted(trusted: &[u32], n: u32) -> bool
     ensures { result ≡ every (trusted_in trusted.now) (peaks n) }
 {

@@ -82,7 +82,7 @@ fn counts(trusted: &[u32], place: Place, h: u32) -> bool
     bits::test(trusted, b as usize) || !place.opened && tree::peaks::is_peak(place.n, place.c, h)
 }
 
-// The height of the first node at or above the chunk that counts as trusted.
+// The height of the first node at or above the chunk that counts as trusted. By `for`, as `peaks::all_trusted`.
 fn reach(trusted: &[u32], place: Place) -> u32
     ensures { (result
         ≡ least_from (λ h. room_counts place.opened place.n trusted.now h (above h place.c))
