@@ -9,9 +9,10 @@ ghost use Rattle.effects.specs.Effects.{peer_of, have, inside, effect, effects};
 ghost use Rattle.effects.specs.Steps.{peer_in, Kept, turn_of, turned};
 
 use format::Format;
+use wire::chunks::Chunks;
 use wire::limits::MIN_SIZE;
 use wire::message::{ACK, CANCEL, CHOKE, Cursor, HAVE, REQUEST, Step};
-use wire::{plain, range, read};
+use wire::{plain, read};
 
 // The end of chunks up to `last` of n: their part inside the pack.
 fn inside(n: u32, last: u32) -> usize
@@ -55,12 +56,13 @@ impl Channel<'_> {
             self.choked = kind == CHOKE;
             return;
         }
-        if range::is_empty(format, rest) {
+        let chunks = Chunks { format, rest };
+        if chunks.is_empty() {
             return;
         }
-        let chunks = range::read(format, rest);
-        let from = self.base + chunks.first as usize;
-        let upto = self.base + inside(self.n, chunks.last);
+        let range = chunks.read();
+        let from = self.base + range.first as usize;
+        let upto = self.base + inside(self.n, range.last);
         match kind {
             ACK | HAVE => self.have(from, upto),
             REQUEST => bits::set_range(self.wants, from, upto),

@@ -3,6 +3,7 @@
 #![tactic(auto)]
 
 pub mod bytes; // big-endian numbers
+pub mod chunks; // the bytes that name chunks
 pub mod layout; // what a datagram is
 pub mod limits; // the sizes of the yard profile
 pub mod message; // the messages as values

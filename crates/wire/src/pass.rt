@@ -6,6 +6,7 @@ ghost use Rattle.wire.specs.Layout.{checked_of, layout_said};
 ghost use Rattle.wire.specs.Steps.{Fronted, entry_words, has_size, check_spec, survey_spec, pass_said, turn_said};
 ghost use Rattle.wire.specs.Steps.{turned_of, noted, turn_at, last_on, last_at, Standing};
 
+use crate::chunks::Chunks;
 use crate::layout::Layout;
 use crate::limits::{ENTRIES, MAX_SIZE, MIN_SIZE};
 use crate::message::{Cursor, Message, Step};
@@ -146,13 +147,16 @@ fn take_turn(format: Format, datagram: &[u8], entries: &mut [u64], reached: Reac
     }
     if plain::is_node(format, datagram, at) {
         let named = range::named_size(format);
-        let rest = &datagram[at..];
+        let chunks = Chunks {
+            format,
+            rest: &datagram[at..],
+        };
         let behind = Reached {
             at: at + (named + 32),
             entries: reached.entries,
-            survey: reached.survey.naming(range::last(format, rest)),
+            survey: reached.survey.naming(chunks.last()),
         };
-        return note(entries, behind, range::node(format, rest), at + named);
+        return note(entries, behind, chunks.node(), at + named);
     }
     let pass = last_turn(format, datagram, reached)?;
     Ok(ControlFlow::Break(pass))

@@ -4,6 +4,7 @@ ghost use Rattle.std.specs.Prelude.{◌≡◌, length};
 ghost use Rattle.wire.specs.Read.{step_at, is_ranged};
 ghost use Rattle.wire.specs.Steps.{is_single, ranged_size, ack_size, plain_size, is_node, some_size};
 
+use crate::chunks::Chunks;
 use crate::message::{ACK, CANCEL, CHOKE, HAVE, INTEGRITY, REQUEST, UNCHOKE};
 use crate::range;
 use format::Format;
@@ -27,7 +28,11 @@ fn ranged_size(format: Format, rest: &[u8]) -> Option<usize>
     ensures { result ≡ some_size (ranged_size format rest.now) }
 {
     let size = range::named_size(format);
-    if rest.len() < size || !range::in_order(format, rest) {
+    if rest.len() < size {
+        return None;
+    }
+    let chunks = Chunks { format, rest };
+    if !chunks.in_order() {
         return None;
     }
     Some(size)
@@ -38,7 +43,11 @@ fn ack_size(format: Format, rest: &[u8]) -> Option<usize>
     ensures { result ≡ some_size (ack_size format rest.now) }
 {
     let size = range::named_size(format) + 8;
-    if rest.len() < size || range::is_special(format, rest) || !range::in_order(format, rest) {
+    if rest.len() < size {
+        return None;
+    }
+    let chunks = Chunks { format, rest };
+    if chunks.is_special() || !chunks.in_order() {
         return None;
     }
     Some(size)
@@ -90,5 +99,5 @@ pub(crate) fn is_node(format: Format, datagram: &[u8], at: usize) -> bool
     if rest[0] != INTEGRITY || rest.len() < range::named_size(format) + 32 {
         return false;
     }
-    range::names_node(format, rest)
+    Chunks { format, rest }.names_node()
 }

@@ -5,6 +5,7 @@ ghost use Rattle.wire.specs.Read.{kind_of, handshake_at, data_at, integrity_at, 
 ghost use Rattle.wire.specs.Read.{typed, step_at};
 ghost use Rattle.wire.specs.Steps.{step_said};
 
+use crate::chunks::Chunks;
 use crate::message::{
     ACK, CANCEL, CHOKE, Cursor, DATA, HANDSHAKE, HAVE, INTEGRITY, Message, Options, REQUEST, Step,
     UNCHOKE,
@@ -51,10 +52,14 @@ fn chunk(format: Format, rest: &[u8], at: usize) -> Option<(Message, Cursor)>
 {
     let named = range::named_size(format);
     let head = named + 8;
-    if rest.len() < head || range::is_special(format, rest) {
+    if rest.len() < head {
         return None;
     }
-    let r = range::read(format, rest);
+    let chunks = Chunks { format, rest };
+    if chunks.is_special() {
+        return None;
+    }
+    let r = chunks.read();
     if r.first != r.last {
         return None;
     }
@@ -75,10 +80,14 @@ fn integrity(format: Format, rest: &[u8], at: usize) -> Option<(Message, Cursor)
 {
     let named = range::named_size(format);
     let size = named + 32;
-    if rest.len() < size || !range::names_node(format, rest) {
+    if rest.len() < size {
         return None;
     }
-    let r = range::read(format, rest);
+    let chunks = Chunks { format, rest };
+    if !chunks.names_node() {
+        return None;
+    }
+    let r = chunks.read();
     let message = Message::Integrity {
         first: r.first,
         last: r.last,
@@ -93,10 +102,14 @@ fn ack(format: Format, rest: &[u8], at: usize) -> Option<(Message, Cursor)>
 {
     let named = range::named_size(format);
     let size = named + 8;
-    if rest.len() < size || range::is_special(format, rest) {
+    if rest.len() < size {
         return None;
     }
-    let r = range::read(format, rest);
+    let chunks = Chunks { format, rest };
+    if chunks.is_special() {
+        return None;
+    }
+    let r = chunks.read();
     if r.last < r.first {
         return None;
     }
@@ -128,10 +141,11 @@ fn ranged(format: Format, rest: &[u8], kind: u8, at: usize) -> Option<(Message, 
         return None;
     }
     let next = Cursor { at: at + size };
-    if range::is_empty(format, rest) {
+    let chunks = Chunks { format, rest };
+    if chunks.is_empty() {
         return Some((Message::Empty { kind }, next));
     }
-    let r = range::read(format, rest);
+    let r = chunks.read();
     if r.last < r.first {
         return None;
     }

@@ -2,6 +2,7 @@
 ghost use Rattle.std.specs.Prelude.{◌≡◌, ◌≤◌, length};
 ghost use Rattle.wire.specs.Steps.{no_survey, naming, acting};
 
+use crate::chunks::Chunks;
 use crate::range;
 use format::Format;
 
@@ -41,7 +42,7 @@ impl Survey {
                 effective: true,
             };
         }
-        let reached = range::reach(format, rest);
+        let reached = Chunks { format, rest }.reach();
         Survey {
             highest: self.highest.max(reached),
             effective: true,

@@ -11,14 +11,14 @@ pub returns-then-is_empty-clause-effect : goal.returns-then-is_empty-clause-effe
 returns-then-is_empty-clause-effect c = empty-does c.args.format c.args.self.now.n c.args.self.now.base _ _ _ c.args.rest.now c.if-kind-gt-CANCEL.false c.is_empty.ensures c.if-is_empty.true
 
 pub returns-in-2-clause-effect : goal.returns-in-2-clause-effect
-returns-in-2-clause-effect c = have-does c.args.format c.args.self.now.n c.args.self.now.base _ _ _ c.args.rest.now c.if-kind-gt-CANCEL.false c.is_empty.ensures c.if-is_empty.false _ c.read-chunks.ensures refl c.inside.ensures.0 refl (omega arith) (omega arith) c.have.ensures.effect
+returns-in-2-clause-effect c = have-does c.args.format c.args.self.now.n c.args.self.now.base _ _ _ c.args.rest.now c.if-kind-gt-CANCEL.false c.is_empty.ensures c.if-is_empty.false _ c.read-range.ensures refl c.inside.ensures.0 refl (omega arith) (omega arith) c.have.ensures.effect
 
 pub returns-in-8-clause-effect : goal.returns-in-8-clause-effect
-returns-in-8-clause-effect c = request-does c.args.format c.args.self.now.n c.args.self.now.base _ _ _ c.args.rest.now c.if-kind-gt-CANCEL.false c.is_empty.ensures c.if-is_empty.false _ c.read-chunks.ensures refl c.inside.ensures.0 refl c.in-8.is c.set_range.ensures
+returns-in-8-clause-effect c = request-does c.args.format c.args.self.now.n c.args.self.now.base _ _ _ c.args.rest.now c.if-kind-gt-CANCEL.false c.is_empty.ensures c.if-is_empty.false _ c.read-range.ensures refl c.inside.ensures.0 refl c.in-8.is c.set_range.ensures
 
 pub returns-in_default-clause-effect : goal.returns-in_default-clause-effect
 returns-in_default-clause-effect c =
     elim c.in_default.branch [
-      | in_default-via-then-kind-lt2 w ↦ cancel-does c.args.format c.args.self.now.n c.args.self.now.base _ _ _ c.args.rest.now c.if-kind-gt-CANCEL.false c.is_empty.ensures c.if-is_empty.false _ c.read-chunks.ensures refl c.inside.ensures.0 refl (λ p. omega arith) (λ p. omega arith) (λ p. omega arith) c.clear_range.ensures
-      | in_default-via-else-kind-lt2+else-kind-lt4 w ↦ cancel-does c.args.format c.args.self.now.n c.args.self.now.base _ _ _ c.args.rest.now c.if-kind-gt-CANCEL.false c.is_empty.ensures c.if-is_empty.false _ c.read-chunks.ensures refl c.inside.ensures.0 refl (λ p. omega arith) (λ p. omega arith) (λ p. omega arith) c.clear_range.ensures
+      | in_default-via-then-kind-lt2 w ↦ cancel-does c.args.format c.args.self.now.n c.args.self.now.base _ _ _ c.args.rest.now c.if-kind-gt-CANCEL.false c.is_empty.ensures c.if-is_empty.false _ c.read-range.ensures refl c.inside.ensures.0 refl (λ p. omega arith) (λ p. omega arith) (λ p. omega arith) c.clear_range.ensures
+      | in_default-via-else-kind-lt2+else-kind-lt4 w ↦ cancel-does c.args.format c.args.self.now.n c.args.self.now.base _ _ _ c.args.rest.now c.if-kind-gt-CANCEL.false c.is_empty.ensures c.if-is_empty.false _ c.read-range.ensures refl c.inside.ensures.0 refl (λ p. omega arith) (λ p. omega arith) (λ p. omega arith) c.clear_range.ensures
     ]

@@ -22,17 +22,14 @@ acting-requires c = simp (part, length-drop) (omega (arith, size-inside-said _ _
 pub returns-in-Some : goal.returns-in-Some
 returns-in-Some c = let h = size-said _ c.in-Some.ensures in turn-plain _ _ _ _ _ _ h.0 h.1 (rw part at c.acting.ensures)
 
-pub slice_bounds-rest-count : goal.slice_bounds-rest-count
-slice_bounds-rest-count c = omega (arith, node-inside _ _ _ c.is_node.ensures c.if-is_node.true)
+pub slice_bounds-chunks-count : goal.slice_bounds-chunks-count
+slice_bounds-chunks-count c = omega (arith, node-inside _ _ _ c.is_node.ensures c.if-is_node.true)
 
-pub slice_bounds-rest-start : goal.slice_bounds-rest-start
-slice_bounds-rest-start c = omega (arith, node-inside _ _ _ c.is_node.ensures c.if-is_node.true)
+pub slice_bounds-chunks-start : goal.slice_bounds-chunks-start
+slice_bounds-chunks-start c = omega (arith, node-inside _ _ _ c.is_node.ensures c.if-is_node.true)
 
-pub last-requires : goal.last-requires
-last-requires c = simp (part, length-drop) (omega (arith, node-inside _ _ _ c.is_node.ensures c.if-is_node.true))
-
-pub node-requires : goal.node-requires
-node-requires c = simp (part, length-drop) (omega (arith, node-inside _ _ _ c.is_node.ensures c.if-is_node.true))
+pub invariant_of-chunks : goal.invariant_of-chunks
+invariant_of-chunks c = simp (part, length-drop) (omega (arith, node-inside _ _ _ c.is_node.ensures c.if-is_node.true))
 
 pub overflow_add-at : goal.overflow_add-at
 overflow_add-at c = omega (arith, c.requires.high, c.named_size-named.ensures.0, node-inside _ _ _ c.is_node.ensures c.if-is_node.true)

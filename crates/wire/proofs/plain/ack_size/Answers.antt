@@ -4,14 +4,16 @@ use native.Mathlib.Omega.{arith}
 use Rattle.wire.proofs.PlainLaws.{ack-cut, ack-special, ack-order, ack-good}
 use Rattle.wire.proofs.SizeLaws.{size-none, size-there}
 use Rattle.wire.proofs.plain.ack_size.Goals as goal
-use Rattle.wire.proofs.plain.ack_size.Goals.{then-rest-size-via-then-rest-size, then-rest-size-via-else-rest-size+then-is_special, then-rest-size-via-else-rest-size+else-is_special+then-not-in_order}
+use Rattle.wire.proofs.plain.ack_size.Goals.{then-is_special-via-then-is_special, then-is_special-via-else-is_special+then-not-in_order}
 
 pub returns-then-rest-size : goal.returns-then-rest-size
-returns-then-rest-size c =
-    elim c.then-rest-size.branch [
-      | then-rest-size-via-then-rest-size w ↦ size-none (ack-cut _ _ c.named_size-size.ensures.0 w.if-rest-size.true)
-      | then-rest-size-via-else-rest-size+then-is_special w ↦ size-none (ack-special _ _ c.named_size-size.ensures.0 w.if-rest-size.false w.is_special.ensures w.if-is_special.true)
-      | then-rest-size-via-else-rest-size+else-is_special+then-not-in_order w ↦ size-none (ack-order _ _ c.named_size-size.ensures.0 w.if-rest-size.false w.is_special.ensures w.if-is_special.false w.in_order.ensures (ap not w.if-not-in_order.true))
+returns-then-rest-size c = size-none (ack-cut _ _ c.named_size-size.ensures.0 c.if-rest-size.true)
+
+pub returns-then-is_special : goal.returns-then-is_special
+returns-then-is_special c =
+    elim c.then-is_special.branch [
+      | then-is_special-via-then-is_special w ↦ size-none (ack-special _ _ c.named_size-size.ensures.0 c.if-rest-size.false c.is_special.ensures w.if-is_special.true)
+      | then-is_special-via-else-is_special+then-not-in_order w ↦ size-none (ack-order _ _ c.named_size-size.ensures.0 c.if-rest-size.false c.is_special.ensures w.if-is_special.false w.in_order.ensures (ap not w.if-not-in_order.true))
     ]
 
 pub returns : goal.returns

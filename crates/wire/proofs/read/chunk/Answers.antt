@@ -1,13 +1,11 @@
 use Rattle.wire.proofs.ReadLaws.{data-cut, data-special, data-range, data-good}
 use Rattle.wire.proofs.read.chunk.Goals as goal
-use Rattle.wire.proofs.read.chunk.Goals.{then-rest-head-via-then-rest-head, then-rest-head-via-else-rest-head+then-is_special}
 
 pub returns-then-rest-head : goal.returns-then-rest-head
-returns-then-rest-head c =
-    elim c.then-rest-head.branch [
-      | then-rest-head-via-then-rest-head w ↦ data-cut _ _ _ c.named_size-named.ensures.0 w.if-rest-head.true
-      | then-rest-head-via-else-rest-head+then-is_special w ↦ data-special _ _ _ c.named_size-named.ensures.0 w.if-rest-head.false w.is_special.ensures w.if-is_special.true
-    ]
+returns-then-rest-head c = data-cut _ _ _ c.named_size-named.ensures.0 c.if-rest-head.true
+
+pub returns-then-is_special : goal.returns-then-is_special
+returns-then-is_special c = data-special _ _ _ c.named_size-named.ensures.0 c.if-rest-head.false c.is_special.ensures c.if-is_special.true
 
 pub returns-then-r : goal.returns-then-r
 returns-then-r c = data-range _ _ _ c.named_size-named.ensures.0 c.if-rest-head.false c.is_special.ensures c.if-is_special.false _ c.read-r.ensures c.if-r.true

@@ -1,15 +1,15 @@
 use native.Mathlib.Omega.{arith}
 use Rattle.wire.proofs.PlaceLaws.{place_ranges, range-bins, range-ranges, place-least}
-use Rattle.wire.proofs.range.read.Goals as goal
+use Rattle.wire.proofs.chunks.Chunks.read.Goals as goal
 
 pub load32-b-requires : goal.load32-b-requires
-load32-b-requires c = omega (arith, c.requires, place-least c.args.format)
+load32-b-requires c = omega (arith, c.args.self.whole, place-least c.args.self.format)
 
 pub load32-requires : goal.load32-requires
-load32-requires c = omega (arith, c.requires, place-least c.args.format)
+load32-requires c = omega (arith, c.args.self.whole, place-least c.args.self.format)
 
 pub load32-requires-in-Ranges : goal.load32-requires-in-Ranges
-load32-requires-in-Ranges c = omega (arith, c.requires, place_ranges c.args.format c.in-Ranges.is)
+load32-requires-in-Ranges c = omega (arith, c.args.self.whole, place_ranges c.args.self.format c.in-Ranges.is)
 
 pub returns-in-Bins : goal.returns-in-Bins
 returns-in-Bins c = range-bins _ _ c.in-Bins.is c.load32-b.ensures c.first.ensures c.last.ensures
