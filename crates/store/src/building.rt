@@ -148,7 +148,7 @@ pub fn build(
     nodes.put_levels(content, n);
     let hashes = &mut *nodes.hashes;
     let held: &[u32] = hashes;
-    let root = peaks::root_of_peaks(&held, n);
+    let root = peaks::root_of_peaks(&held, n, tree::pack::levels(n));
     nodes.trust(w - 1, root);
     root
 }

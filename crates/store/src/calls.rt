@@ -91,6 +91,7 @@ fn store_if_fits(
 }
 
 // Takes chunk c with the hashes that came: stores it if it fits.
+// `c, chunk, integrity` stay three: a struct of them would be made for one call and taken apart in the next.
 pub fn take(
     order: Order,
     chunks: &mut [u8],

@@ -1,8 +1,7 @@
 // The peaks of n: trusted, combined to the root.
-ghost use Rattle.std.specs.Prelude.{◌≡◌, ◌≤◌, ◌<◌, false, not};
+ghost use Rattle.std.specs.Prelude.{◌≡◌, ◌≤◌, ◌<◌, ◌^◌, false, not};
 ghost use Rattle.hash.proofs.Promise.{bytes_of, sha256};
 ghost use Rattle.base.specs.Pick.{pick};
-ghost use Rattle.tree.specs.Pack.{levels};
 ghost use Rattle.tree.specs.Peaks.{peaks};
 ghost use Rattle.tree.specs.Steps.{peak_bit, peak_at, folded};
 ghost use Rattle.tree.specs.Tree.{given};
@@ -52,15 +51,17 @@ fn fold<S: Source>(source: &S, n: u32, h: u32, acc: HashValue) -> HashValue
     node::parent(acc, value::zero())
 }
 
-// The root that the peaks of n give; of a power of two it is the one peak.
-pub fn root_of_peaks<S: Source>(source: &S, n: u32) -> HashValue
-    ensures { bytes_of result.words ≡ given sha256 filler n (by_node (S.hash_at source.now)) (levels n) 0 }
+// The root that the peaks of n give in a tree of `top` levels; of 2 to the top chunks it is the one peak.
+pub fn root_of_peaks<S: Source>(source: &S, n: u32, top: u32) -> HashValue
+    requires { (top ≤ 32) × (n ≤ 2 ^ top) }
+    ensures { bytes_of result.words ≡ given sha256 filler n (by_node (S.hash_at source.now)) top 0 }
 {
-    if u64::from(n) == tree::pack::leaf_places(n) {
-        return source.hash(tree::pack::root_node(n));
+    let w = tree::bin::pow2(top);
+    if u64::from(n) == w {
+        return source.hash(w - 1);
     }
     let mut acc = value::zero();
-    for h in 0..tree::pack::levels(n) {
+    for h in 0..top {
         acc = fold(source, n, h, acc);
     }
     acc

@@ -156,7 +156,8 @@ fn rooted(integrity: Integrity, place: Place, root: HashValue) -> bool
         (same (given sha256 filler place.n (got_by (integrity_in integrity.entry)) (levels place.n) 0)
         (bytes_of root.words)) }
 {
-    place.opened || value::same(peaks::root_of_peaks(&integrity, place.n), root)
+    let top = tree::pack::levels(place.n);
+    place.opened || value::same(peaks::root_of_peaks(&integrity, place.n, top), root)
 }
 
 // Whether the climb from the leaf's hash gives the hash that counts for the node of height t; the scratch keeps it.

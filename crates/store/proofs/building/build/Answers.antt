@@ -14,14 +14,17 @@ pub put_levels-requires : goal.put_levels-requires
 put_levels-requires c = let W = c.requires in
     (W.0, omega (arith, W.1, levels-holds c.args.n))
 
+pub root_of_peaks-root-requires : goal.root_of_peaks-root-requires
+root_of_peaks-root-requires c = (c.levels.ensures.1, rw c.levels.ensures.0 (levels-holds c.args.n))
+
 pub returns-clause-root : goal.returns-clause-root
 returns-clause-root c = let W = c.requires in
     let r : 16 * c.args.n ≤ length c.args.nodes.now.hashes.now + 8 = omega (arith, W.1, levels-holds c.args.n) in
     (built_is c.args.chunks.now c.args.map.now c.args.nodes.now.hashes.now c.args.nodes.now.trusted.now c.args.content.now c.args.n (levels c.args.n) c.leaf_places-w.result W.0 refl c.leaf_places-w.ensures r
-    c.copy_in.ensures c.mark_all.ensures (c.put_levels.ensures.puts.hashes, c.put_levels.ensures.puts.trusted) c.root_of_peaks-root.ensures (c.trust.ensures.puts.hashes, c.trust.ensures.puts.trusted)).0
+    c.copy_in.ensures c.mark_all.ensures (c.put_levels.ensures.puts.hashes, c.put_levels.ensures.puts.trusted) (rw (← c.levels.ensures.0) c.root_of_peaks-root.ensures) (c.trust.ensures.puts.hashes, c.trust.ensures.puts.trusted)).0
 
 pub returns-clause-rooms : goal.returns-clause-rooms
 returns-clause-rooms c = let W = c.requires in
     let r : 16 * c.args.n ≤ length c.args.nodes.now.hashes.now + 8 = omega (arith, W.1, levels-holds c.args.n) in
     (built_is c.args.chunks.now c.args.map.now c.args.nodes.now.hashes.now c.args.nodes.now.trusted.now c.args.content.now c.args.n (levels c.args.n) c.leaf_places-w.result W.0 refl c.leaf_places-w.ensures r
-    c.copy_in.ensures c.mark_all.ensures (c.put_levels.ensures.puts.hashes, c.put_levels.ensures.puts.trusted) c.root_of_peaks-root.ensures (c.trust.ensures.puts.hashes, c.trust.ensures.puts.trusted)).1
+    c.copy_in.ensures c.mark_all.ensures (c.put_levels.ensures.puts.hashes, c.put_levels.ensures.puts.trusted) (rw (← c.levels.ensures.0) c.root_of_peaks-root.ensures) (c.trust.ensures.puts.hashes, c.trust.ensures.puts.trusted)).1

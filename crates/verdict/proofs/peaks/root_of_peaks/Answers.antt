@@ -1,22 +1,22 @@
-use Rattle.std.proofs.Common.{◌≡◌, ℕ, ◌^◌, ◌<◌, sym, ap, ◌∙◌, add-one, arith}
+use Rattle.std.proofs.Common.{◌≡◌, ℕ, ◌-◌, ◌^◌, sym, ap, ◌∙◌, add-one, arith}
 use Rattle.hash.proofs.Promise.{sha256}
+use Rattle.tree.specs.Bin.{bin}
 use Rattle.tree.specs.Node.{above}
-use Rattle.tree.specs.Pack.{levels}
 use Rattle.tree.specs.Steps.{folded}
 use Rattle.tree.specs.Tree.{given}
 use Rattle.tree.proofs.NodeLaws.{above-top}
-use Rattle.tree.proofs.PackLaws.{levels-holds}
 use Rattle.tree.proofs.PeakLaws.{folded-given, folded_start}
 use Rattle.verdict.specs.Room.{filler}
 use Rattle.verdict.specs.Steps.{by_node}
 use Rattle.verdict.proofs.LoopLaws.{given-one}
 use Rattle.verdict.proofs.peaks.root_of_peaks.Goals as goal
 
-pub returns-then-from-leaf_places : goal.returns-then-from-leaf_places
-returns-then-from-leaf_places g c =
+pub returns-then-from-w : goal.returns-then-from-w
+returns-then-from-w g c =
     let held = g.S.Source.hash_at c.args.source.now in
-    let e : c.args.n ≡ 2 ^ levels c.args.n = omega (arith, c.if-from-leaf_places.true, c.leaf_places.ensures) in
-    c.hash.ensures ∙ ap held c.root_node.ensures ∙ sym (given-one sha256 filler c.args.n (by_node held) (levels c.args.n) e)
+    let e : c.args.n ≡ 2 ^ c.args.top = omega (arith, c.if-from-w.true, c.pow2-w.ensures.0) in
+    let f : c.pow2-w.result - 1 ≡ bin c.args.top 0 = omega arith in
+    c.hash.ensures ∙ ap held f ∙ sym (given-one sha256 filler c.args.n (by_node held) c.args.top e)
 
 pub loop-h-init : goal.loop-h-init
 unfolding filler
@@ -31,7 +31,6 @@ loop-h-preserved g c =
 pub returns : goal.returns
 returns g c =
     let held = by_node (g.S.Source.hash_at c.args.source.now) in
-    let e : c.loop-h.h ≡ levels c.args.n = omega (arith, c.levels-h-end.ensures.0) in
-    let l : c.args.n < 2 ^ levels c.args.n = omega (arith, levels-holds c.args.n, c.if-from-leaf_places.false, c.leaf_places.ensures) in
+    let e : c.loop-h.h ≡ c.args.top = omega arith in
     c.loop-h.invariant ∙ ap (λ (x : ℕ). given sha256 filler c.args.n held x (above x c.args.n)) e
-    ∙ ap (given sha256 filler c.args.n held (levels c.args.n)) (above-top (levels c.args.n) c.args.n l)
+    ∙ ap (given sha256 filler c.args.n held c.args.top) (above-top c.args.top c.args.n (omega arith))
