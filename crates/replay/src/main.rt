@@ -82,7 +82,7 @@ fn run(
         }
         current = feed(output, current, rooms, &mut line, &block[..n], &mut out);
     }
-    ending::finish(current, rooms, &mut line, &mut out);
+    ending::finish(current, rooms, &line, &mut out);
     flush(output, &out);
 }
 

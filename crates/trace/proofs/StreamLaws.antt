@@ -109,7 +109,7 @@ module _ (block : List ℕ) (s : Stream) where
 
 -- ---- the end of input
 
-pub input_none : (s : Stream) → s.line.used ≡ 0 → s ≡ input_done s
+pub input_none : (s : Stream) → s.line.used ≡ 0 → stream_of s.replay (filled s.line.room 0) s.read s.out ≡ input_done s
 unfolding input_done
 input_none s e = rw e
 

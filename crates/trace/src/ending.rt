@@ -1,7 +1,7 @@
 // The end of the input: the line that has begun, and what stands at the end of the output.
 ghost use Rattle.std.specs.Prelude.{◌≡◌};
 ghost use Rattle.channel.proofs.Promise.{world_in, Kept};
-ghost use Rattle.script.proofs.Promise.{filled_in, SameRoom, appended};
+ghost use Rattle.script.proofs.Promise.{filled, filled_in, SameRoom, appended};
 ghost use Rattle.trace.specs.Session.{replay_of, end_at};
 ghost use Rattle.trace.specs.Stream.{stream_of, input_done, finished};
 
@@ -16,17 +16,17 @@ use script::buffer::Buffer;
 fn end_input(
     session: Session,
     rooms: &mut Rooms<'_>,
-    line: &mut Buffer<'_>,
+    line: &Buffer<'_>,
     out: &mut Buffer<'_>,
 ) -> Session
     ensures kept { Kept rooms.old rooms.new }
-    ensures same { SameRoom line.old line.new × SameRoom out.old out.new }
+    ensures same { SameRoom out.old out.new }
     ensures done { stream_of
         (replay_of (world_in rooms.new) result.id result.stage)
-        (filled_in line.new) 0 (filled_in out.new)
+        (filled line.now.room.now 0) 0 (filled_in out.new)
         ≡ input_done (stream_of
         (replay_of (world_in rooms.old) session.id session.stage)
-        (filled_in line.old) 0 (filled_in out.old)) }
+        (filled_in line.now) 0 (filled_in out.old)) }
 {
     if line.used == 0 {
         return session;
@@ -51,21 +51,21 @@ fn put_end(out: &mut Buffer<'_>, stage: Stage, rooms: &Rooms<'_>)
 }
 
 // Where the input ends: answers the line that has begun, and adds what stands at the end, from the front of an output
-// room on.
+// room on. It only reads the line: the clause has the same room with nothing in use.
 pub fn finish(
     session: Session,
     rooms: &mut Rooms<'_>,
-    line: &mut Buffer<'_>,
+    line: &Buffer<'_>,
     out: &mut Buffer<'_>,
 ) -> Session
     ensures kept { Kept rooms.old rooms.new }
-    ensures same { SameRoom line.old line.new × SameRoom out.old out.new }
+    ensures same { SameRoom out.old out.new }
     ensures finished { stream_of
         (replay_of (world_in rooms.new) result.id result.stage)
-        (filled_in line.new) 0 (filled_in out.new)
+        (filled line.now.room.now 0) 0 (filled_in out.new)
         ≡ finished
         (replay_of (world_in rooms.old) session.id session.stage)
-        (filled_in line.old) out.old.room.now }
+        (filled_in line.now) out.old.room.now }
 {
     out.used = 0;
     let after = end_input(session, rooms, line, out);

@@ -2,7 +2,7 @@
 ghost use Rattle.std.specs.Prelude.{◌≡◌, ℕ, ◌≤◌, false, length, nat_lt};
 ghost use Rattle.base.specs.Pick.{pick};
 ghost use Rattle.channel.proofs.Promise.{world_in, Kept};
-ghost use Rattle.script.proofs.Promise.{filled_in, SameRoom, fits, appended};
+ghost use Rattle.script.proofs.Promise.{filled, filled_in, SameRoom, fits, appended};
 ghost use Rattle.trace.specs.Session.{replay_of};
 ghost use Rattle.trace.specs.Steps.{spoken};
 ghost use Rattle.trace.specs.Stream.{stream_of, line_done, advanced, answer_lines};
@@ -34,24 +34,23 @@ fn put_answer(out: &mut Buffer<'_>, answer: Option<Reply>, rooms: &Rooms<'_>)
     }
 }
 
-// Answers the line that has begun; none has begun then.
+// Answers the line that has begun. It only reads the line: the clause has the same room with nothing in use.
 pub(crate) fn end_line(
     session: Session,
     rooms: &mut Rooms<'_>,
-    line: &mut Buffer<'_>,
+    line: &Buffer<'_>,
     out: &mut Buffer<'_>,
 ) -> Session
     ensures kept { Kept rooms.old rooms.new }
-    ensures same { SameRoom line.old line.new × SameRoom out.old out.new }
+    ensures same { SameRoom out.old out.new }
     ensures done { (read : ℕ) → stream_of
         (replay_of (world_in rooms.new) result.id result.stage)
-        (filled_in line.new) read (filled_in out.new)
+        (filled line.now.room.now 0) read (filled_in out.new)
         ≡ line_done (stream_of
         (replay_of (world_in rooms.old) session.id session.stage)
-        (filled_in line.old) read (filled_in out.old)) }
+        (filled_in line.now) read (filled_in out.old)) }
 {
     let answered = session::answer(session, rooms, line.front());
-    line.used = 0;
     put_answer(out, answered.answer, rooms);
     answered.session
 }
@@ -85,6 +84,7 @@ fn advance(
         };
     }
     let after = end_line(session, rooms, line, out);
+    line.used = 0;
     Progress {
         session: after,
         read: read + n + 1,
