@@ -1,11 +1,11 @@
 // The bytes by which a message names chunks. They are read here alone.
-ghost use Rattle.std.specs.Prelude.{◌≡◌, ◌+◌, ◌≤◌, length, not, ltb};
+ghost use Rattle.std.specs.Prelude.{◌≡◌, ◌+◌, ◌≤◌, ◌<◌, length, not, ltb, None, IfSome};
 ghost use Rattle.wire.specs.Place.{named_size, first_of, last_of, is_empty, is_special, reach};
 ghost use Rattle.wire.specs.Read.{names_node};
 ghost use Rattle.wire.specs.Steps.{range_of};
 
 use crate::bytes;
-use crate::range::{EMPTY_BIN, EVERYTHING_BIN, Range, is_node};
+use crate::range::{EMPTY_BIN, EVERYTHING_BIN, Range, is_node, named_size};
 use format::{Addressing, Format};
 use tree::bin;
 
@@ -17,7 +17,21 @@ pub struct Chunks<'a> {
     ghost whole: { named_size format ≤ length rest.now },
 }
 
-impl Chunks<'_> {
+impl<'a> Chunks<'a> {
+    // None where the message is cut short; it has `behind` bytes behind its chunks.
+    pub(crate) fn of(format: Format, rest: &'a [u8], behind: usize) -> Option<Chunks<'a>>
+        requires { behind ≤ 32 }
+        ensures cut { result ≡ None → length rest.now < named_size format + behind }
+        ensures whole { IfSome result (λ c. (c.format ≡ format) × (c.rest.now ≡ rest.now)
+            × (named_size format + behind ≤ length rest.now)) }
+    {
+        if rest.len() < named_size(format) + behind {
+            return None;
+        }
+        Some(Chunks { format, rest })
+    }
+
+    // First and last of them.
     pub fn read(self) -> Range
         ensures { result ≡ range_of self.entry.format self.entry.rest.now }
     {

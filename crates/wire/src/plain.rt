@@ -27,30 +27,22 @@ pub fn is_ranged(kind: u8) -> bool
 fn ranged_size(format: Format, rest: &[u8]) -> Option<usize>
     ensures { result ≡ some_size (ranged_size format rest.now) }
 {
-    let size = range::named_size(format);
-    if rest.len() < size {
-        return None;
-    }
-    let chunks = Chunks { format, rest };
+    let chunks = Chunks::of(format, rest, 0)?;
     if !chunks.in_order() {
         return None;
     }
-    Some(size)
+    Some(range::named_size(format))
 }
 
 // The size of ACK, if the message has as many bytes and its chunks are in order, and neither none nor all.
 fn ack_size(format: Format, rest: &[u8]) -> Option<usize>
     ensures { result ≡ some_size (ack_size format rest.now) }
 {
-    let size = range::named_size(format) + 8;
-    if rest.len() < size {
-        return None;
-    }
-    let chunks = Chunks { format, rest };
+    let chunks = Chunks::of(format, rest, 8)?;
     if chunks.is_special() || !chunks.in_order() {
         return None;
     }
-    Some(size)
+    Some(range::named_size(format) + 8)
 }
 
 // The size of the plain message at a place of a datagram, if one stands there.
@@ -96,8 +88,11 @@ pub(crate) fn is_node(format: Format, datagram: &[u8], at: usize) -> bool
         return false;
     }
     let rest = &datagram[at..];
-    if rest[0] != INTEGRITY || rest.len() < range::named_size(format) + 32 {
+    if rest[0] != INTEGRITY {
         return false;
     }
-    Chunks { format, rest }.names_node()
+    match Chunks::of(format, rest, 32) {
+        Some(chunks) => chunks.names_node(),
+        None => false,
+    }
 }

@@ -50,12 +50,7 @@ fn chunk(format: Format, rest: &[u8], at: usize) -> Option<(Message, Cursor)>
     requires { at + length rest.now < 2 ^ 64 }
     ensures { step_said result ≡ data_at format at rest.now }
 {
-    let named = range::named_size(format);
-    let head = named + 8;
-    if rest.len() < head {
-        return None;
-    }
-    let chunks = Chunks { format, rest };
+    let chunks = Chunks::of(format, rest, 8)?;
     if chunks.is_special() {
         return None;
     }
@@ -63,6 +58,8 @@ fn chunk(format: Format, rest: &[u8], at: usize) -> Option<(Message, Cursor)>
     if r.first != r.last {
         return None;
     }
+    let named = range::named_size(format);
+    let head = named + 8;
     let message = Message::Data {
         first: r.first,
         last: r.last,
@@ -78,34 +75,28 @@ fn integrity(format: Format, rest: &[u8], at: usize) -> Option<(Message, Cursor)
     requires { at + length rest.now < 2 ^ 64 }
     ensures { step_said result ≡ integrity_at format at rest.now }
 {
-    let named = range::named_size(format);
-    let size = named + 32;
-    if rest.len() < size {
-        return None;
-    }
-    let chunks = Chunks { format, rest };
+    let chunks = Chunks::of(format, rest, 32)?;
     if !chunks.names_node() {
         return None;
     }
     let r = chunks.read();
+    let named = range::named_size(format);
     let message = Message::Integrity {
         first: r.first,
         last: r.last,
         hash: at + named,
     };
-    Some((message, Cursor { at: at + size }))
+    let next = Cursor {
+        at: at + (named + 32),
+    };
+    Some((message, next))
 }
 
 fn ack(format: Format, rest: &[u8], at: usize) -> Option<(Message, Cursor)>
     requires { at + length rest.now < 2 ^ 64 }
     ensures { step_said result ≡ ack_at format at rest.now }
 {
-    let named = range::named_size(format);
-    let size = named + 8;
-    if rest.len() < size {
-        return None;
-    }
-    let chunks = Chunks { format, rest };
+    let chunks = Chunks::of(format, rest, 8)?;
     if chunks.is_special() {
         return None;
     }
@@ -113,12 +104,16 @@ fn ack(format: Format, rest: &[u8], at: usize) -> Option<(Message, Cursor)>
     if r.last < r.first {
         return None;
     }
+    let named = range::named_size(format);
     let message = Message::Ack {
         first: r.first,
         last: r.last,
         delay: bytes::load64(rest, named),
     };
-    Some((message, Cursor { at: at + size }))
+    let next = Cursor {
+        at: at + (named + 8),
+    };
+    Some((message, next))
 }
 
 // HAVE, REQUEST or CANCEL, by its type.
@@ -136,12 +131,10 @@ fn ranged(format: Format, rest: &[u8], kind: u8, at: usize) -> Option<(Message, 
     requires { at + length rest.now < 2 ^ 64 }
     ensures { step_said result ≡ ranged_at format kind at rest.now }
 {
-    let size = range::named_size(format);
-    if rest.len() < size {
-        return None;
-    }
-    let next = Cursor { at: at + size };
-    let chunks = Chunks { format, rest };
+    let chunks = Chunks::of(format, rest, 0)?;
+    let next = Cursor {
+        at: at + range::named_size(format),
+    };
     if chunks.is_empty() {
         return Some((Message::Empty { kind }, next));
     }

@@ -1,14 +1,16 @@
+use mathlib.Core.Path.{refl}
+use native.Mathlib.Omega.{arith}
 use Rattle.wire.proofs.ReadLaws.{ack-cut, ack-special, ack-order, ack-good}
 use Rattle.wire.proofs.read.ack.Goals as goal
 
-pub returns-then-rest-size : goal.returns-then-rest-size
-returns-then-rest-size c = ack-cut _ _ _ c.named_size-named.ensures.0 c.if-rest-size.true
+pub returns-in_err-chunks : goal.returns-in_err-chunks
+returns-in_err-chunks c = rw c.from_residual.ensures (ack-cut _ _ _ refl (c.in_err-chunks.ensures.cut refl))
 
 pub returns-then-is_special : goal.returns-then-is_special
-returns-then-is_special c = ack-special _ _ _ c.named_size-named.ensures.0 c.if-rest-size.false c.is_special.ensures c.if-is_special.true
+returns-then-is_special c = let h = c.in_ok-chunks.ensures.whole in ack-special _ _ _ refl h.2 (rw (h.0, h.1) at c.is_special.ensures) c.if-is_special.true
 
 pub returns-then-r : goal.returns-then-r
-returns-then-r c = ack-order _ _ _ c.named_size-named.ensures.0 c.if-rest-size.false c.is_special.ensures c.if-is_special.false _ c.read-r.ensures c.if-r.true
+returns-then-r c = let h = c.in_ok-chunks.ensures.whole in ack-order _ _ _ refl h.2 (rw (h.0, h.1) at c.is_special.ensures) c.if-is_special.false _ (rw (h.0, h.1) at c.read-r.ensures) c.if-r.true
 
 pub returns : goal.returns
-returns c = ack-good _ _ _ c.named_size-named.ensures.0 c.if-rest-size.false c.is_special.ensures c.if-is_special.false _ c.read-r.ensures c.if-r.false c.load64.ensures
+returns c = let h = c.in_ok-chunks.ensures.whole in ack-good _ _ _ c.named_size-named.ensures.0 (omega (arith, c.named_size-named.ensures.0, h.2)) (rw (h.0, h.1) at c.is_special.ensures) c.if-is_special.false _ (rw (h.0, h.1) at c.read-r.ensures) c.if-r.false c.load64.ensures

@@ -1,11 +1,13 @@
+use mathlib.Core.Path.{refl}
+use native.Mathlib.Omega.{arith}
 use Rattle.wire.proofs.ReadLaws.{integrity-cut, integrity-no-node, integrity-good}
 use Rattle.wire.proofs.read.integrity.Goals as goal
 
-pub returns-then-rest-size : goal.returns-then-rest-size
-returns-then-rest-size c = integrity-cut _ _ _ c.named_size-named.ensures.0 c.if-rest-size.true
+pub returns-in_err-chunks : goal.returns-in_err-chunks
+returns-in_err-chunks c = rw c.from_residual.ensures (integrity-cut _ _ _ refl (c.in_err-chunks.ensures.cut refl))
 
 pub returns-then-not-names_node : goal.returns-then-not-names_node
-returns-then-not-names_node c = integrity-no-node _ _ _ c.named_size-named.ensures.0 c.if-rest-size.false c.names_node.ensures c.if-not-names_node.true
+returns-then-not-names_node c = let h = c.in_ok-chunks.ensures.whole in integrity-no-node _ _ _ refl h.2 (rw (h.0, h.1) at c.names_node.ensures) c.if-not-names_node.true
 
 pub returns : goal.returns
-returns c = integrity-good _ _ _ c.named_size-named.ensures.0 c.if-rest-size.false c.names_node.ensures c.if-not-names_node.false _ c.read-r.ensures
+returns c = let h = c.in_ok-chunks.ensures.whole in integrity-good _ _ _ c.named_size-named.ensures.0 (omega (arith, c.named_size-named.ensures.0, h.2)) (rw (h.0, h.1) at c.names_node.ensures) c.if-not-names_node.false _ (rw (h.0, h.1) at c.read-r.ensures)
