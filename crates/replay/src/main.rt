@@ -82,7 +82,8 @@ fn run(
         }
         current = feed(output, current, rooms, &mut line, &block[..n], &mut out);
     }
-    ending::finish(current, rooms, &line, &mut out);
+    let len = line.used;
+    ending::finish(current, rooms, line.room, len, &mut out);
     flush(output, &out);
 }
 

@@ -42,6 +42,10 @@ module _ (room : List ℕ) (used : ℕ) (w : World) {stage : Stage} where
 
 -- ---- a line answered
 
+-- The bytes in use of a line's room, by the count as the code has it.
+pub begun_text : (room : List ℕ) (used : ℕ) {n : ℕ} → n ≡ min used (length room) → take n room ≡ front (filled room used)
+begun_text room used e = rw (e, take_min used room)
+
 pub line-done : (r : Replay) (line : Filled) (read : ℕ) (out : Filled) {text : List ℕ} {after : Replay} {written : List ℕ} {o : Filled}
     → text ≡ front line → answer_of after written ≡ line_answer r text → o ≡ appended out.room out.used written
     → stream_of after (filled line.room 0) read o ≡ line_done (stream_of r line read out)

@@ -16,22 +16,23 @@ use script::buffer::Buffer;
 fn end_input(
     session: Session,
     rooms: &mut Rooms<'_>,
-    line: &Buffer<'_>,
+    line: &[u8],
+    len: usize,
     out: &mut Buffer<'_>,
 ) -> Session
     ensures kept { Kept rooms.old rooms.new }
     ensures same { SameRoom out.old out.new }
     ensures done { stream_of
         (replay_of (world_in rooms.new) result.id result.stage)
-        (filled line.now.room.now 0) 0 (filled_in out.new)
+        (filled line.now 0) 0 (filled_in out.new)
         ≡ input_done (stream_of
         (replay_of (world_in rooms.old) session.id session.stage)
-        (filled_in line.now) 0 (filled_in out.old)) }
+        (filled line.now len) 0 (filled_in out.old)) }
 {
-    if line.used == 0 {
+    if len == 0 {
         return session;
     }
-    stream::end_line(session, rooms, line, out)
+    stream::end_line(session, rooms, line, len, out)
 }
 
 // Adds what stands at the end of the output. Where asking is refused, nothing is held.
@@ -52,23 +53,25 @@ fn put_end(out: &mut Buffer<'_>, stage: Stage, rooms: &Rooms<'_>)
 
 // Where the input ends: answers the line that has begun, and adds what stands at the end, from the front of an output
 // room on. It only reads the line: the clause has the same room with nothing in use.
+// (a) `finish`: the line stays bytes and a count, since whoever lends it shared has no Buffer: its room is `&mut`.
 pub fn finish(
     session: Session,
     rooms: &mut Rooms<'_>,
-    line: &Buffer<'_>,
+    line: &[u8],
+    len: usize,
     out: &mut Buffer<'_>,
 ) -> Session
     ensures kept { Kept rooms.old rooms.new }
     ensures same { SameRoom out.old out.new }
     ensures finished { stream_of
         (replay_of (world_in rooms.new) result.id result.stage)
-        (filled line.now.room.now 0) 0 (filled_in out.new)
+        (filled line.now 0) 0 (filled_in out.new)
         ≡ finished
         (replay_of (world_in rooms.old) session.id session.stage)
-        (filled_in line.now) out.old.room.now }
+        (filled line.now len) out.old.room.now }
 {
     out.used = 0;
-    let after = end_input(session, rooms, line, out);
+    let after = end_input(session, rooms, line, len, out);
     put_end(out, after.stage, rooms);
     after
 }

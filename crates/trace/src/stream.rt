@@ -38,19 +38,21 @@ fn put_answer(out: &mut Buffer<'_>, answer: Option<Reply>, rooms: &Rooms<'_>)
 pub(crate) fn end_line(
     session: Session,
     rooms: &mut Rooms<'_>,
-    line: &Buffer<'_>,
+    line: &[u8],
+    len: usize,
     out: &mut Buffer<'_>,
 ) -> Session
     ensures kept { Kept rooms.old rooms.new }
     ensures same { SameRoom out.old out.new }
     ensures done { (read : ℕ) → stream_of
         (replay_of (world_in rooms.new) result.id result.stage)
-        (filled line.now.room.now 0) read (filled_in out.new)
+        (filled line.now 0) read (filled_in out.new)
         ≡ line_done (stream_of
         (replay_of (world_in rooms.old) session.id session.stage)
-        (filled_in line.now) read (filled_in out.old)) }
+        (filled line.now len) read (filled_in out.old)) }
 {
-    let answered = session::answer(session, rooms, line.front());
+    let n = len.min(line.len());
+    let answered = session::answer(session, rooms, &line[..n]);
     put_answer(out, answered.answer, rooms);
     answered.session
 }
@@ -83,7 +85,8 @@ fn advance(
             read: read + n,
         };
     }
-    let after = end_line(session, rooms, line, out);
+    let room = &mut *line.room;
+    let after = end_line(session, rooms, room, line.used, out);
     line.used = 0;
     Progress {
         session: after,
