@@ -40,7 +40,8 @@ fn row_for(rooms: &Rooms<'_>, datagram: &[u8], survey: Survey) -> Result<usize, 
     Ok(i)
 }
 
-// The effects of messages on the channel in row i, which they go to.
+// The effects of messages on the channel in row i, which they go to. What a call requires of row and survey stands in two
+// or three contracts here: no value holds these together.
 fn apply_messages(rooms: &mut Rooms<'_>, format: Format, i: usize, datagram: &[u8])
     requires ordered { Ordered rooms.old.state.now format }
     requires i_value { (i ≡ row_for rooms.old.state.now datagram.now) × (i < row_count) }

@@ -51,7 +51,7 @@ impl TryFrom<u32> for Addressing {
     }
 }
 
-// Whether a number is a method's.
+// Whether a number is a method's. It and `of_method` stay: they say for any number what 02 says of it.
 pub fn is_method(method: u32) -> bool
     ensures { result ≡ is_method method }
 {

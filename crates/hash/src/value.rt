@@ -9,7 +9,7 @@ pub struct HashValue {
     pub words: [u32; 8],
 }
 
-// The word whose four bytes stand at a place, the highest first.
+// The word whose four bytes stand at a place, the highest first. Crate wire has the same: neither cites the other.
 fn word(b: &[u8], at: usize) -> u32
     requires { at + 4 ≤ length b.now }
     ensures { result ≡ word32 b.now at }

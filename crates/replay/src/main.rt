@@ -47,6 +47,7 @@ fn feed(
 {
     let mut current = session;
     let mut rest = block;
+    // As many bytes as one call reads are gone each time: no index counts.
     while !rest.is_empty() {
         let p = stream::answer_lines(current, rooms, line, rest, out);
         flush(output, out);

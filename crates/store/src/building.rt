@@ -146,6 +146,7 @@ pub fn build(
     storing::copy_in(chunks, 0, content);
     mark_all(map, nodes.trusted, n, w);
     nodes.put_levels(content, n);
+    // Only read, as in `put_node`.
     let hashes = &mut *nodes.hashes;
     let held: &[u32] = hashes;
     let root = peaks::root_of_peaks(&held, n, tree::pack::levels(n));

@@ -82,6 +82,7 @@ pub(crate) fn first_line(session: Session, rooms: &mut Rooms<'_>, line: &[u8]) -
     let Some(order) = order_of(line) else {
         return bad_first(id);
     };
+    // Both are only read, as in crate channel's `take_data`.
     let chunks = &mut *rooms.chunks;
     let reply = &mut *rooms.reply;
     let started = starting::start(

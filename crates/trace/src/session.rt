@@ -18,7 +18,8 @@ pub enum Stage {
     Over,
 }
 
-// The ID for the next channel, and which line is to come.
+// The ID for the next channel, and which line is to come. It is a value of its own, which each line gives anew: in one
+// struct with the rooms two numbers would need a loan of all.
 #[derive(Clone, Copy)]
 pub struct Session {
     pub id: u32,

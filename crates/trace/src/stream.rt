@@ -85,6 +85,7 @@ fn advance(
             read: read + n,
         };
     }
+    // Only read, as in crate channel's `take_data`.
     let room = &mut *line.room;
     let after = end_line(session, rooms, room, line.used, out);
     line.used = 0;
@@ -123,6 +124,7 @@ pub fn answer_lines(
 {
     out.used = 0;
     let mut p = Progress { session, read: 0 };
+    // It goes on by what was read of the block: no index counts.
     while goes_on(block.len(), p.read, out, rooms.reply.len()) {
         p = advance(p.session, rooms, line, block, p.read, out);
     }

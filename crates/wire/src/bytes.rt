@@ -1,4 +1,4 @@
-// Big-endian numbers in a slice of bytes.
+// Big-endian numbers in a slice of bytes. Crate hash has a `word` of its own: neither cites the other.
 ghost use Rattle.std.specs.Prelude.{◌≡◌, ◌+◌, ◌≤◌, length};
 ghost use Rattle.wire.specs.Bytes.{be16, be32, be64};
 

@@ -152,8 +152,8 @@ pub fn begin(room: &mut [u8], destination: u32) -> Result<usize, Refusal>
     Ok(MIN_SIZE)
 }
 
-// Adds a message to the datagram in the first `len` bytes of the room; its hash, chunk or root is taken from `bytes`;
-// the datagram's length.
+// Adds a message to the datagram in the first `len` bytes of the room, a number that the loader keeps; its hash, chunk or
+// root is taken from `bytes`; the datagram's length.
 pub fn add(
     room: &mut [u8],
     format: Format,
