@@ -1,11 +1,11 @@
 -- Laws of hexadecimal digits. Assumes nothing.
 use Prim.Native.Nat.{ℕ, suc, ◌+◌, ◌*◌, ◌/◌, ◌%◌, ◌<◌, ◌≤◌}
 use native.Mathlib.Omega.{arith}
-use mathlib.Core.Path.{◌≡◌, refl}
-use mathlib.Core.List.{List, [], ◌∷◌, ◌++◌}
+use mathlib.Core.Path.{◌≡◌, refl, sym, ◌∙◌}
+use mathlib.Core.List.{List, [], ◌∷◌, ◌++◌, append-nil}
 use mathlib.Core.Bool.{Bool, true, false}
 use lib.ListN.{length, get_or, set, drop, length-append}
-use lib.Seq.{sets, drop-cons}
+use lib.Seq.{sets, sets-eq, drop-cons}
 use lib.Dec.{ltb}
 use Rattle.std.specs.Option.{unwrap_or, is_some}
 use Rattle.std.specs.Prelude.{◌&&◌, Option, Some, None}
@@ -72,25 +72,33 @@ digits_end [] false h e = refl
 digits_end (c ∷ []) all h e = absurd (omega arith)
 digits_end (c ∷ d ∷ s) all h e = absurd (omega arith)
 
--- ---- digits stored from a place of a room on
+-- ---- digits stored to a part that they fill
 
--- The two digits of a byte.
-pub encode_byte : (room : List ℕ) (at n : ℕ) {x y : ℕ} → x ≡ digit_for (n / 16) → y ≡ digit_for (n % 16)
-    → set (set room at x) (at + 1) y ≡ sets room at (encoded (n ∷ []))
+-- Two digits a byte.
+pub length-encoded : (s : List ℕ) → length (encoded s) ≡ 2 * length s
 unfolding encoded
-encode_byte room at n e f = rw (e, f, one at)
+length-encoded [] = refl
+length-encoded (b ∷ s) = rw (length-encoded s) (omega arith)
 
--- Those of the byte at an index, then the others.
-pub encode_one : (bytes : List ℕ) (i : ℕ) (room : List ℕ) (at : ℕ) {t : List ℕ} → i < length bytes
-    → t ≡ sets room (at + 2 * i) (encoded (get_or bytes i 0 ∷ []))
-    → sets t (at + 2 * (i + 1)) (encoded (drop (i + 1) bytes)) ≡ sets room (at + 2 * i) (encoded (drop i bytes))
+-- What is as long as a room takes its place.
+pub sets_whole : (room s : List ℕ) → length room ≡ length s → sets room 0 s ≡ s
+sets_whole room s h = sets-eq s room 0 (omega arith) ∙ rw (drop_all (0 + length s) room (omega arith)) (append-nil s)
+
+-- The two of the byte at an index, then those of the others.
+pub encode_one : (bytes : List ℕ) (i : ℕ) (part : List ℕ) {x y : ℕ} → i < length bytes
+    → x ≡ digit_for (get_or bytes i 0 / 16) → y ≡ digit_for (get_or bytes i 0 % 16)
+    → sets (set (set part (2 * i) x) (2 * i + 1) y) (2 * (i + 1)) (encoded (drop (i + 1) bytes)) ≡ sets part (2 * i) (encoded (drop i bytes))
 unfolding encoded
-encode_one bytes i room at h e = rw (e, drop-cons bytes i 0 h, one i, further)
+encode_one bytes i part h e f = rw (e, f, drop-cons bytes i 0 h, one i, one (2 * i), further)
   where
-    further : at + 2 * suc i ≡ suc (suc (at + 2 * i))
+    further : 2 * suc i ≡ suc (suc (2 * i))
     further = omega arith
 
 -- No byte is left.
-pub encode_end : (bytes : List ℕ) (i : ℕ) (room : List ℕ) (at : ℕ) → length bytes ≤ i → room ≡ sets room at (encoded (drop i bytes))
+pub encode_end : (bytes : List ℕ) (i : ℕ) (part room : List ℕ) → length bytes ≤ i → length room ≡ 2 * length bytes
+    → sets part (2 * i) (encoded (drop i bytes)) ≡ sets room 0 (encoded bytes) → part ≡ encoded bytes
 unfolding encoded
-encode_end bytes i room at h = rw (drop_all i bytes h)
+encode_end bytes i part room h long e = last ∙ e ∙ sets_whole room (encoded bytes) (long ∙ sym (length-encoded bytes))
+  where
+    last : part ≡ sets part (2 * i) (encoded (drop i bytes))
+    last = rw (drop_all i bytes h)

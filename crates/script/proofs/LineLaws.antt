@@ -5,8 +5,8 @@ use mathlib.Core.Path.{◌≡◌, refl, sym, ap, ◌∙◌}
 use mathlib.Core.List.{List, [], ◌∷◌, ◌++◌}
 use Rattle.std.proofs.Common.{append_assoc}
 use mathlib.Core.Bool.{Bool, true, false}
-use lib.ListN.{length, get_or, set, take, length-append, length-take}
-use lib.Seq.{sets, sets-eq, drop-drop, length-sets}
+use lib.ListN.{length, get_or, set, take, drop, length-append, length-take, length-drop}
+use lib.Seq.{sets-eq, drop-drop, length-sets}
 use Rattle.std.proofs.lemmas.List.{take_min}
 use borrow.Rule.Slice.PartMut.{put_mid}
 use lib.Dec.{leb, eqb}
@@ -14,7 +14,8 @@ use Rattle.std.specs.Prelude.{Option, Some, None, MatchOption}
 use Rattle.std.specs.Option.{unwrap_or}
 use borrow.Author.Tests.{le-leb, leb-true}
 use Rattle.base.specs.Pick.{pick}
-use Rattle.script.specs.Hex.{encoded}
+use Rattle.script.specs.Hex.{digit_for, encoded}
+use Rattle.script.proofs.HexLaws.{length-encoded}
 use Rattle.script.specs.Lines.{before_feed, filled, fitting, kept}
 use Rattle.script.specs.Answers.{answer_line, closing_line, line_size, fits, appended}
 
@@ -23,7 +24,7 @@ use Rattle.script.specs.Answers.{answer_line, closing_line, line_size, fits, app
 one : (n : ℕ) → n + 1 ≡ suc n
 one n = omega arith
 
-two : (n : ℕ) → n + 2 ≡ suc (suc n)
+two : (n : ℕ) → 2 + n ≡ suc (suc n)
 two n = omega arith
 
 -- A place with a line feed and none before it is the first's; where there is none, all stand before.
@@ -107,31 +108,28 @@ append_nothing room at = go (leb (at + 0) (length room))
     go false = refl
 
 -- A line as long as its digits and the line feed.
-pub length-encoded : (s : List ℕ) → length (encoded s) ≡ 2 * length s
-unfolding encoded
-length-encoded [] = refl
-length-encoded (b ∷ s) = rw (length-encoded s) (omega arith)
-
 pub length-line : (n : ℕ) (reply : List ℕ) → length (answer_line n reply) ≡ line_size (length reply)
 unfolding answer_line
 length-line n reply = length-append (encoded (n ∷ reply)) (10 ∷ []) ∙ rw (length-encoded (n ∷ reply)) (omega arith)
 
--- One element more behind a run of stores.
-pub sets_behind : (room : List ℕ) (at : ℕ) (s : List ℕ) (x : ℕ) → set (sets room at s) (at + length s) x ≡ sets room at (s ++ x ∷ [])
-sets_behind room at [] x = rw (zero-behind at)
-  where
-    zero-behind : (n : ℕ) → n + 0 ≡ n
-    zero-behind n = omega arith
-sets_behind room at (y ∷ s) x = rw (sym (moved (length s))) (sets_behind (set room at y) (suc at) s x)
-  where
-    moved : (n : ℕ) → suc at + n ≡ at + suc n
-    moved n = omega arith
+-- One element behind others, stored.
+set_behind : (s rest : List ℕ) (x : ℕ) → length rest ≡ 1 → set (s ++ rest) (length s) x ≡ s ++ x ∷ []
+set_behind [] [] x h = absurd (omega arith)
+set_behind [] (y ∷ []) x h = refl
+set_behind [] (y ∷ z ∷ rest) x h = absurd (omega arith)
+set_behind (y ∷ s) rest x h = rw (set_behind s rest x h)
 
 -- An answer's line: the digits of its number, those of its reply, and the line feed.
-pub put-answer : (room : List ℕ) (at n : ℕ) (s : List ℕ) {t u : List ℕ} → t ≡ sets room at (encoded (n ∷ [])) → u ≡ sets t (at + 2) (encoded s)
-    → set u (at + 2 + 2 * length s) 10 ≡ sets room at (answer_line n s)
+pub put-answer : (line : List ℕ) (n : ℕ) (s : List ℕ) {t u : List ℕ} → length line ≡ line_size (length s) → t ≡ encoded (n ∷ []) → u ≡ encoded s
+    → set (put_mid 2 (2 + 2 * length s - 2) (t ++ drop 2 line) u) (2 + 2 * length s) 10 ≡ answer_line n s
 unfolding answer_line encoded
-put-answer room at n s e f = rw (f, e, two at, ← length-encoded s) (sets_behind _ (suc (suc at)) (encoded s) 10)
+put-answer line n s h e f = rw (f, e, ← length-encoded s, two digits) (ap (λ (l : List ℕ). digit_for (n / 16) ∷ digit_for (n % 16) ∷ l) (set_behind (encoded s) _ 10 left))
+  where
+    digits : ℕ
+    digits = length (encoded s)
+
+    left : length (drop (suc (suc digits) - 2) (drop 2 line)) ≡ 1
+    left = rw (length-drop (suc (suc digits) - 2) (drop 2 line), length-drop 2 line, h, ← length-encoded s) (omega arith)
 
 -- A line that fits has its place, and where it has, it fits.
 pub fits_bound : (room at n : ℕ) → fits room at n ≡ true → at + line_size n ≤ room
@@ -144,10 +142,15 @@ bound_fits room at n h = le-leb (at + line_size n) room h
 
 module _ (room : List ℕ) (at number : ℕ) (reply : List ℕ) where
   -- A line that fits, and one that does not.
-  pub line-fits : fits (length room) at (length reply) ≡ true
-      → filled (sets room at (answer_line number reply)) (at + line_size (length reply)) ≡ appended room at (answer_line number reply)
+  pub line-fits : {k used : ℕ} {line : List ℕ} → fits (length room) at (length reply) ≡ true → line ≡ answer_line number reply
+      → k ≡ line_size (length reply) → used ≡ at + line_size (length reply)
+      → filled (put_mid at k room line) used ≡ appended room at (answer_line number reply)
   unfolding appended fits
-  line-fits f = rw (length-line number reply, f)
+  line-fits f e g u =
+      let long = length-line number reply in
+      let place = fits_bound (length room) at (length reply) f in
+      rw (e, g, u, long, f, sets-eq (answer_line number reply) room at (omega (arith, long)), long, drop-drop (line_size (length reply)) at room)
+      (simp append_assoc)
 
   pub line-not : fits (length room) at (length reply) ≡ false → filled room at ≡ appended room at (answer_line number reply)
   unfolding appended fits

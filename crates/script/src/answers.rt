@@ -7,14 +7,15 @@ ghost use Rattle.script.specs.Answers.{line_size, fits, appended, answer_line, c
 use crate::buffer::Buffer;
 use crate::hex;
 
-// Puts an answer's line at a place of a room.
-fn put_line(room: &mut [u8], at: usize, number: u8, reply: &[u8])
-    requires { at + line_size (length reply.now) ≤ length room.old }
-    ensures { room.new ≡ sets room.old at (answer_line number reply.now) }
+// Fills a line with an answer: the digits of the number and of the reply, and the line feed.
+fn put_line(line: &mut [u8], number: u8, reply: &[u8])
+    requires { length line.old ≡ line_size (length reply.now) }
+    ensures { line.new ≡ answer_line number reply.now }
 {
-    hex::encode_byte(number, room, at);
-    hex::encode(reply, room, at + 2);
-    room[at + 2 + 2 * reply.len()] = b'\n';
+    let end = 2 + 2 * reply.len();
+    hex::encode(&[number], &mut line[..2]);
+    hex::encode(reply, &mut line[2..end]);
+    line[end] = b'\n';
 }
 
 impl<'a> Buffer<'a> {
@@ -34,8 +35,9 @@ impl<'a> Buffer<'a> {
             ≡ appended self.old.room.now self.old.used (answer_line number reply.now) }
     {
         if self.fits(reply.len()) {
-            put_line(self.room, self.used, number, reply);
-            self.used += 3 + 2 * reply.len();
+            let end = self.used + 3 + 2 * reply.len();
+            put_line(&mut self.room[self.used..end], number, reply);
+            self.used = end;
         }
     }
 

@@ -1,10 +1,10 @@
 // Hexadecimal digits: either case is read, lower case is written.
-ghost use Rattle.std.specs.Prelude.{◌≡◌, [], ◌∷◌, ◌+◌, ◌≤◌, ◌<◌, ◌/◌, ◌%◌, length};
+ghost use Rattle.std.specs.Prelude.{◌≡◌, ◌*◌, ◌≤◌, ◌<◌, ◌/◌, ◌%◌, length};
 ghost use Rattle.std.proofs.lemmas.List.Edits.{sets};
 ghost use Rattle.script.specs.Hex.{digit_for, all_digits, encoded};
 ghost use Rattle.script.specs.Steps.{digit_in, paired};
 
-// The value of a digit.
+// The value of a digit. By hand: the library's `to_digit` is of characters, and gives a `u32`; a byte has none.
 #[tactic(auto, using(std::proofs::lemmas::Bool::Decides::nat_tests), unfolding(crate::specs::Hex::digit_of))]
 fn digit(c: u8) -> Option<u8>
     ensures { result ≡ digit_in c }
@@ -36,7 +36,7 @@ pub(crate) fn decode(digits: &[u8], room: &mut [u8]) -> bool
     all
 }
 
-// The digit of a value.
+// The digit of a value. By hand: the library's `from_digit` gives a character or none, and a byte is wanted.
 #[tactic(auto, using(std::proofs::lemmas::Bool::Decides::nat_tests), unfolding(crate::specs::Hex::digit_for))]
 fn digit_for(x: u8) -> u8
     requires { x < 16 }
@@ -45,21 +45,14 @@ fn digit_for(x: u8) -> u8
     if x < 10 { b'0' + x } else { b'a' - 10 + x }
 }
 
-// The digits of a byte at a place of a room.
-pub(crate) fn encode_byte(x: u8, room: &mut [u8], at: usize)
-    requires { at + 2 ≤ length room.old }
-    ensures { room.new ≡ sets room.old at (encoded (x ∷ [])) }
-{
-    room[at] = digit_for(x / 16);
-    room[at + 1] = digit_for(x % 16);
-}
-
-// The digits of bytes from a place of a room on.
-pub(crate) fn encode(bytes: &[u8], room: &mut [u8], at: usize)
-    requires { at + (length bytes.now + length bytes.now) ≤ length room.old }
-    ensures { room.new ≡ sets room.old at (encoded bytes.now) }
+// The digits of bytes, to a part of a room that they fill. By an index: after a loop over the part's `chunks_exact_mut`
+// a proof does not know its elements.
+pub(crate) fn encode(bytes: &[u8], part: &mut [u8])
+    requires { length part.old ≡ 2 * length bytes.now }
+    ensures { part.new ≡ encoded bytes.now }
 {
     for (i, byte) in bytes.iter().enumerate() {
-        encode_byte(*byte, room, at + 2 * i);
+        part[2 * i] = digit_for(*byte / 16);
+        part[2 * i + 1] = digit_for(*byte % 16);
     }
 }
