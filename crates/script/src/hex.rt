@@ -45,8 +45,8 @@ fn digit_for(x: u8) -> u8
     if x < 10 { b'0' + x } else { b'a' - 10 + x }
 }
 
-// The digits of bytes, to a part of a room that they fill. By an index: after a loop over the part's `chunks_exact_mut`
-// a proof does not know its elements.
+// The digits of bytes, to a part of a room that they fill. By an index: after a loop over the part's
+// `chunks_exact_mut` a proof does not know its elements.
 pub(crate) fn encode(bytes: &[u8], part: &mut [u8])
     requires { length part.old ≡ 2 * length bytes.now }
     ensures { part.new ≡ encoded bytes.now }
