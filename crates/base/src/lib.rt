@@ -6,7 +6,7 @@ ghost use Rattle.std.specs.Prelude.{◌≡◌, Option, Some, None};
 ghost use Rattle.base.specs.Out.{node_number};
 ghost use Rattle.base.specs.Refusal.{number, node};
 
-// What stands for no node where a number is wanted: no tree over a pack has it.
+// What stands for no node where a number is wanted, which C gets: no tree over a pack has it.
 pub const NO_NODE: u64 = 18446744073709551615;
 
 // The number of the node named.

@@ -125,7 +125,7 @@ pub fn clear_words(ws: &mut [u32], from: usize, upto: usize)
     change_words::<false>(ws, from, upto);
 }
 
-// A word of a row; 0 past its end.
+// A word of a row; 0 past its end, as `get_or` says. Crate table has one too: it is one call of the library.
 fn word(ws: &[u32], w: usize) -> u32
     ensures { result ≡ get_or ws.now w 0 }
 {

@@ -1,4 +1,5 @@
-// The run of set bits around a place, by words.
+// The run of set bits around a place, by words. What looks in front and what looks from the end stay two: one for both
+// would take the iterator, the slice that is left and the count of ones as parameters.
 ghost use Rattle.std.specs.Prelude.{◌≡◌, ◌+◌, ◌-◌, ◌%◌, min};
 ghost use Rattle.std.specs.List.{prefix_len};
 ghost use mathlib.Core.List.{reverse};

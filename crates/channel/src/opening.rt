@@ -22,7 +22,8 @@ fn clear_row(ws: &mut [u32], n: u32, i: usize)
     bits::clear_words(ws, from, from + words);
 }
 
-// A channel in row i, the lowest free one; the reply is our HANDSHAKE, of this length.
+// A channel in row i, the lowest free one; the reply is our HANDSHAKE, of this length. The rooms come one by one: `open`,
+// which calls it, has no `Rooms`.
 pub(crate) fn occupy(
     state: &mut [u32],
     has: &mut [u32],

@@ -141,7 +141,7 @@ impl Sizes {
     }
 }
 
-// A paper gives this method.
+// A paper gives this method. It is a number: C gives it, and one that is no method's is refused.
 pub fn method_answer(method: u32) -> Result<(), Refusal>
     ensures { Answers result (method_answer method) }
 {

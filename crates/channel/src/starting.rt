@@ -15,7 +15,7 @@ use store::calls;
 use table::rows::ROWS;
 use table::words;
 
-// Clears all rows of a room for what peers have or want, of a pack of this length.
+// Clears all rows of a room for what peers have or want, of a pack of this length: one call of `clear_words`.
 fn clear_rows(ws: &mut [u32], length: u32)
     ensures { ws.new ≡ clear_words ws.old 0 (peer_words (count_of length)) }
 {

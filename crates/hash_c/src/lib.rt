@@ -1,5 +1,5 @@
 // The calls of the crate hash for C and Rust, on numbers and slices alone: what the comparisons and the benchmark link.
-// A hash value is eight words behind a reference.
+// A hash value is eight words behind a reference. Each export is one call.
 #![tactic(auto)]
 
 ghost use Rattle.std.specs.Prelude.{◌≡◌, ◌++◌, ◌+◌, ◌≤◌, length, take, drop};

@@ -1,5 +1,6 @@
 // The datagrams that a store sends: our HANDSHAKE, an ACK, one chunk with its hashes. Each is written from the front of
-// the reply room, and what stands past it stays.
+// the reply room, and what stands past it stays. That the room has 2,048 bytes is asked by each: a struct that holds a
+// `&mut` can have no fact of its own yet.
 #![tactic(auto)]
 
 ghost use Rattle.std.specs.Prelude.{◌≡◌, true, ◌≤◌, ◌<◌, ◌^◌, length, map, IfSome};

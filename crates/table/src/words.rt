@@ -26,6 +26,7 @@ const ROW_WORDS: usize = 4;
 
 // ---- a word
 
+// The word at a place; 0 past the room, as `get_or` says.
 fn word(words: &[u32], at: usize) -> u32
     ensures { result ≡ get_or words.now at 0 }
 {
@@ -50,7 +51,7 @@ fn has_order(words: &[u32]) -> bool
     word(words, 0) == LAYOUT_VERSION && format::is_method(word(words, METHOD_PLACE))
 }
 
-// The order; in words without one, zeros and the method of ranges.
+// The order; in words without one, zeros and the method of ranges, as its definition says of any words.
 pub fn order_in(words: &[u32]) -> Order
     ensures { result ≡ order_in words.now }
 {
@@ -119,7 +120,7 @@ fn row_in(words: &[u32], i: usize) -> Row
     }
 }
 
-// The row at a place; a free one past the table.
+// The row at a place; a free one past the table, as its definition says.
 pub fn row_at(words: &[u32], i: usize) -> Row
     ensures { result ≡ row_at (rows_in words.now) i }
 {

@@ -26,7 +26,7 @@ pub struct Session {
     pub stage: Stage,
 }
 
-// What is written for a line: a number, and so many bytes of the reply room.
+// What is written for a line: a number, and so many bytes of the reply room, which is lent apart.
 #[derive(Clone, Copy)]
 pub struct Reply {
     pub number: u8,

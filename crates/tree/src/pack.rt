@@ -15,7 +15,7 @@ pub fn chunk_count(length: u32) -> u32
     length.div_ceil(CHUNK_SIZE)
 }
 
-// The size of chunk i: 0 past the end.
+// The size of chunk i: 0 past the end, as its definition says.
 pub fn chunk_size(length: u32, i: u32) -> u32
     ensures { result ≡ size chunk_size length i }
 {

@@ -1,4 +1,5 @@
 // Nodes by chunk and height: those above a chunk and their siblings, the peaks of n, and what goes out with a chunk.
+// A height is a number that a loop counts, small enough for each shift: a type for it would be made in each turn.
 ghost use Rattle.std.specs.Prelude.{◌≡◌, suc, ◌+◌, ◌*◌, ◌^◌, ◌<◌, ◌≤◌, length, nat_le, Some, None};
 ghost use Rattle.std.specs.Option.{option_to_list};
 ghost use Rattle.std.specs.Bool.{then_some};

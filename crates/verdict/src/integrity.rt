@@ -42,7 +42,7 @@ impl Integrity<'_> {
         self.place(b).is_some()
     }
 
-    // Node b's hash, or the filler if it didn't come.
+    // Node b's hash, or the filler if it didn't come, as `got_at` says.
     pub fn get(self, b: u64) -> HashValue
         ensures { bytes_of result.words ≡ got_at (integrity_in self.entry) b }
     {

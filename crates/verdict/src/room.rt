@@ -15,7 +15,7 @@ fn place(hashes: &[u32], b: u64) -> Option<&[u32; 8]>
     places.get(b as usize)
 }
 
-// The hash of node b; of a node past the room the filler.
+// The hash of node b; of a node past the room the filler, as `hash_in` says.
 pub fn read(hashes: &[u32], b: u64) -> HashValue
     ensures { bytes_of result.words ≡ hash_in hashes.now b }
 {

@@ -1,4 +1,5 @@
-// Whether a chunk that came may be stored: the climb to the first trusted node, and the verdict.
+// Whether a chunk that came may be stored: the climb to the first trusted node, and the verdict. Its place and the hashes
+// that came stay two: the one is of the pack, the other of the datagram, and some functions take one alone.
 ghost use Rattle.std.specs.Prelude.{◌≡◌, suc, ◌+◌, ◌≤◌, ◌<◌, ◌^◌, true, false, [], ◌++◌, ltb};
 ghost use Rattle.std.specs.Bool.{then_some};
 ghost use Rattle.hash.proofs.Promise.{bytes_of, sha256, same};

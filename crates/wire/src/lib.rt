@@ -1,5 +1,5 @@
 // Datagrams of RFC 7574, section 8, in the yard profile: the messages as values, one message at a cursor, the layout
-// checks over a whole datagram.
+// checks over a whole datagram. A format and a datagram stay two parameters: what a function needs of the datagram differs.
 #![tactic(auto)]
 
 pub mod bytes; // big-endian numbers

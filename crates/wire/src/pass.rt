@@ -46,7 +46,8 @@ pub fn plain_front(format: Format, datagram: &[u8]) -> Front
     Front { at, survey }
 }
 
-// Where the pass stands: the place, how many words of the entries are written, and the survey so far.
+// Where the pass stands: the place, how many words of the entries are written, and the survey so far. The entries
+// themselves are lent beside it, since a struct with them could not be copied.
 #[derive(Clone, Copy)]
 pub struct Reached {
     pub at: usize,

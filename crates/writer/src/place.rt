@@ -59,6 +59,7 @@ impl Writer<'_> {
         self.at = end;
     }
 
+    // And `number64`: one for both would need a trait for `to_be_bytes`.
     pub fn number32(&mut self, x: u32)
         requires { Free self.old 4 }
         ensures { Wrote self.old self.new (bytes32 x) }
@@ -73,7 +74,8 @@ impl Writer<'_> {
         self.bytes(&x.to_be_bytes());
     }
 
-    // A message's type and the chunks that it names, which are written here alone.
+    // A message's type and the chunks that it names, which are written here alone. That they can be named hangs on the
+    // format, which the writer has: a type for it would be made for one call and taken apart in it.
     pub fn name(&mut self, kind: u8, first: u32, last: u32)
         requires free { Free self.old (named_size self.old.format) }
         requires named { nameable self.old.format first last ≡ true }
