@@ -1,5 +1,5 @@
 -- Laws of the layout checks of one message, test by test as the code has them. Assumes nothing.
-use Prim.Native.Nat.{ℕ, zero, suc, ◌+◌, ◌-◌, ◌*◌, ◌<◌, ◌≤◌}
+use Prim.Native.Nat.{ℕ, zero, suc, ◌+◌, ◌-◌, ◌*◌, ◌≤◌}
 use native.Mathlib.Omega.{arith}
 use native.Mathlib.Numerals.{add-one}
 use mathlib.Core.Path.{◌≡◌, refl, sym, ap, ◌∙◌}
@@ -9,6 +9,9 @@ use lib.ListN.{length, get_or, take, drop, set, length-drop}
 use lib.Seq.{drop-drop, get_or-drop}
 use lib.Dec.{ltb, leb, eqb}
 use borrow.Author.Tests.{le-ltb, lt-leb, le-leb, eq-eqb, ne_eqb, ltb-true, ltb-false, eqb-true}
+use Rattle.std.proofs.Common.{◌/◌, ◌||◌, nat_eq}
+use Rattle.std.specs.List.{list_any}
+use Rattle.std.specs.Simd.{first_chunks}
 use Rattle.base.specs.Pick.{pick}
 use Rattle.wire.specs.Bytes.{be32, placed}
 use Rattle.wire.specs.Limits.{min_size, max_size}
@@ -24,14 +27,14 @@ use Rattle.format.specs.declared.Format.{Format}
 
 module _ (x : ℕ) where
   -- the first entry is the node
-  pub seen_here : (es : List ℕ) → 2 ≤ length es → get_or es 0 0 ≡ x → seen x es ≡ true
+  seen_here : (es : List ℕ) → 2 ≤ length es → get_or es 0 0 ≡ x → seen x es ≡ true
   unfolding seen
   seen_here [] h e = absurd (omega arith)
   seen_here (n ∷ []) h e = absurd (omega arith)
   seen_here (n ∷ p ∷ es) h e = rw (eq-eqb n x e)
 
   -- the first entry is another node
-  pub seen-on : (es : List ℕ) → 2 ≤ length es → (get_or es 0 0 ≡ x → ⊥) → seen x es ≡ seen x (drop 2 es)
+  seen-on : (es : List ℕ) → 2 ≤ length es → (get_or es 0 0 ≡ x → ⊥) → seen x es ≡ seen x (drop 2 es)
   unfolding seen
   seen-on [] h e = absurd (omega arith)
   seen-on (n ∷ []) h e = absurd (omega arith)
@@ -62,12 +65,21 @@ module _ (x : ℕ) where
       ∙ seen-on (drop 6 es) (omega (arith, length-drop 6 es)) (λ e. d (sym (get_or-drop 6 es 0 0) ∙ e))
       ∙ ap (seen x) (drop-drop 2 6 es)
 
-  -- no entry is left
-  pub seen-out : (es : List ℕ) → length es < 2 → seen x es ≡ false
-  unfolding seen
-  seen-out [] h = refl
-  seen-out (n ∷ []) h = refl
-  seen-out (n ∷ p ∷ es) h = absurd (omega arith)
+-- the search by pairs
+abbrev pub names : ℕ → List ℕ → Bool
+names x p = nat_eq (get_or p 0 0) x
+
+pub seen_pairs : (x : ℕ) (es : List ℕ) → seen x es ≡ list_any (names x) (first_chunks 2 (length es / 2) es)
+unfolding seen
+seen_pairs x [] = refl
+seen_pairs x (n ∷ []) = refl
+seen_pairs x (n ∷ p ∷ es) =
+    let e : suc (suc (length es)) / 2 ≡ suc (length es / 2) = omega arith in
+    rw (e, seen_pairs x es) (go (nat_eq n x))
+  where
+    go : (t : Bool) → pick t true (list_any (names x) (first_chunks 2 (length es / 2) es)) ≡ t || list_any (names x) (first_chunks 2 (length es / 2) es)
+    go true = refl
+    go false = refl
 
 -- ---- a HANDSHAKE's channel numbers and options
 

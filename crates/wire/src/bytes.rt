@@ -1,4 +1,5 @@
 // Big-endian numbers in a slice of bytes. Crate hash has a `word` of its own: neither cites the other.
+// One function for each width: one for all would need a trait for `from_be_bytes`.
 ghost use Rattle.std.specs.Prelude.{◌≡◌, ◌+◌, ◌≤◌, length};
 ghost use Rattle.wire.specs.Bytes.{be16, be32, be64};
 

@@ -124,6 +124,7 @@ impl<'a> Chunks<'a> {
     }
 
     // The chunk by which HAVE, REQUEST, CANCEL or ACK is past the pack, if it is; 0 where they are none.
+    // Beside `last`: of a bin each takes another end.
     pub(crate) fn reach(self) -> u32
         ensures { result ≡ reach self.entry.format
             (first_of self.entry.format self.entry.rest.now) (last_of self.entry.format self.entry.rest.now) }

@@ -33,14 +33,8 @@ pub enum Layout {
 fn seen_among(entries: &[u64], node: u64) -> bool
     ensures { result ≡ seen node entries.now }
 {
-    let mut rest = entries;
-    while let [first, _, behind @ ..] = rest {
-        if *first == node {
-            return true;
-        }
-        rest = behind;
-    }
-    false
+    let (pairs, _) = entries.as_chunks::<2>();
+    pairs.iter().any(|pair| pair[0] == node)
 }
 
 // Whether a node is among the entries, a node's number and a place in turn: four at a time, which took half the time.

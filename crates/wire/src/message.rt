@@ -1,6 +1,7 @@
 // The messages of a datagram as values: numbers, and places of bytes in a slice beside them.
 
 // The types of messages (RFC 7574, 8); 5 to 7 are refused here.
+// Bytes, and no enum: 01 names a match on the type byte, with ranges for the refused types.
 pub const HANDSHAKE: u8 = 0;
 
 pub const DATA: u8 = 1;

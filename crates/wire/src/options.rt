@@ -31,6 +31,7 @@ pub fn fixed_tail(format: Format) -> [u8; 12]
 }
 
 // The size of an option up to the variable part of its value, by its code.
+// Codes stay bytes: they are compared, since they rise.
 fn head_size(code: u8) -> usize
     ensures { (result ≡ head_size code) × (result < 6) }
 {

@@ -24,6 +24,7 @@ pub struct Pass {
 }
 
 // Where a pass stands behind the plain messages at the front: the place, and the survey so far.
+// It is handed on once, with the datagram that the caller has: a struct of the three would be made for that call.
 #[derive(Clone, Copy)]
 pub struct Front {
     pub at: usize,
@@ -39,6 +40,7 @@ pub fn plain_front(format: Format, datagram: &[u8]) -> Front
 {
     let mut at = MIN_SIZE;
     let mut survey = Survey::none();
+    // It goes on by the size of what stands there: no index counts.
     while let Some(size) = plain::size(format, datagram, at) {
         survey = survey.acting(format, &datagram[at..], size);
         at += size;

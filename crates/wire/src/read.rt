@@ -1,4 +1,4 @@
-// One message at a cursor. Its bytes, from its type on, are `rest`, which stands at `at` of the datagram. None is refused.
+// One message at a cursor. None is refused.
 ghost use Rattle.std.specs.Prelude.{◌≡◌, ◌+◌, ◌≤◌, ◌<◌, ◌^◌, length};
 ghost use Rattle.wire.specs.Options.{options_size};
 ghost use Rattle.wire.specs.Read.{kind_of, handshake_at, data_at, integrity_at, ack_at, named, ranged_at};
@@ -13,107 +13,13 @@ use crate::message::{
 use crate::{bytes, options, range};
 use format::Format;
 
-// The kind of the options of sound layout that stand at `at` and have `size` bytes.
-fn kind(format: Format, rest: &[u8], size: usize, at: usize) -> Options
-    requires size_value { size ≡ options_size rest.now }
-    requires rest_bound { at + length rest.now < 2 ^ 64 }
-    ensures { result ≡ kind_of format at rest.now }
-{
-    if size == 1 {
-        return Options::EndOnly;
-    }
-    if options::is_fixed(format, rest) {
-        return Options::Fixed {
-            root: at + options::ROOT_PLACE,
-        };
-    }
-    Options::Other
-}
-
-fn handshake(format: Format, rest: &[u8], at: usize) -> Option<(Message, Cursor)>
-    requires { at + length rest.now < 2 ^ 64 }
-    ensures { step_said result ≡ handshake_at format at rest.now }
-{
-    if rest.len() < 5 {
-        return None;
-    }
-    let options = &rest[5..];
-    let size = options::options_size(options)?;
-    let message = Message::Handshake {
-        source: bytes::load32(rest, 1),
-        options: kind(format, options, size, at + 5),
-    };
-    Some((message, Cursor { at: at + 5 + size }))
-}
-
-fn chunk(format: Format, rest: &[u8], at: usize) -> Option<(Message, Cursor)>
-    requires { at + length rest.now < 2 ^ 64 }
-    ensures { step_said result ≡ data_at format at rest.now }
-{
-    let chunks = Chunks::of(format, rest, 8)?;
-    if chunks.is_special() {
-        return None;
-    }
-    let r = chunks.read();
-    if r.first != r.last {
-        return None;
-    }
-    let named = range::named_size(format);
-    let head = named + 8;
-    let message = Message::Data {
-        first: r.first,
-        last: r.last,
-        timestamp: bytes::load64(rest, named),
-        start: at + head,
-        len: rest.len() - head,
-    };
-    let end = at + rest.len();
-    Some((message, Cursor { at: end }))
-}
-
-fn integrity(format: Format, rest: &[u8], at: usize) -> Option<(Message, Cursor)>
-    requires { at + length rest.now < 2 ^ 64 }
-    ensures { step_said result ≡ integrity_at format at rest.now }
-{
-    let chunks = Chunks::of(format, rest, 32)?;
-    if !chunks.names_node() {
-        return None;
-    }
-    let r = chunks.read();
-    let named = range::named_size(format);
-    let message = Message::Integrity {
-        first: r.first,
-        last: r.last,
-        hash: at + named,
-    };
-    let next = Cursor {
-        at: at + (named + 32),
-    };
-    Some((message, next))
-}
-
-fn ack(format: Format, rest: &[u8], at: usize) -> Option<(Message, Cursor)>
-    requires { at + length rest.now < 2 ^ 64 }
-    ensures { step_said result ≡ ack_at format at rest.now }
-{
-    let chunks = Chunks::of(format, rest, 8)?;
-    if chunks.is_special() {
-        return None;
-    }
-    let r = chunks.read();
-    if r.last < r.first {
-        return None;
-    }
-    let named = range::named_size(format);
-    let message = Message::Ack {
-        first: r.first,
-        last: r.last,
-        delay: bytes::load64(rest, named),
-    };
-    let next = Cursor {
-        at: at + (named + 8),
-    };
-    Some((message, next))
+// What is left of a datagram from a message's type on, or from its options on, and where it stands.
+#[derive(Clone, Copy)]
+struct Rest<'a> {
+    format: Format,
+    bytes: &'a [u8],
+    at: usize,
+    ghost ends: { at + length bytes.now < 2 ^ 64 },
 }
 
 // HAVE, REQUEST or CANCEL, by its type.
@@ -127,41 +33,146 @@ fn named(kind: u8, first: u32, last: u32) -> Message
     }
 }
 
-fn ranged(format: Format, rest: &[u8], kind: u8, at: usize) -> Option<(Message, Cursor)>
-    requires { at + length rest.now < 2 ^ 64 }
-    ensures { step_said result ≡ ranged_at format kind at rest.now }
-{
-    let chunks = Chunks::of(format, rest, 0)?;
-    let next = Cursor {
-        at: at + range::named_size(format),
-    };
-    if chunks.is_empty() {
-        return Some((Message::Empty { kind }, next));
+impl Rest<'_> {
+    // The kind of the options of sound layout that begin it and have `size` bytes.
+    fn kind(self, size: usize) -> Options
+        requires { size ≡ options_size self.bytes.now }
+        ensures { result ≡ kind_of self.entry.format self.entry.at self.entry.bytes.now }
+    {
+        if size == 1 {
+            return Options::EndOnly;
+        }
+        if options::is_fixed(self.format, self.bytes) {
+            return Options::Fixed {
+                root: self.at + options::ROOT_PLACE,
+            };
+        }
+        Options::Other
     }
-    let r = chunks.read();
-    if r.last < r.first {
-        return None;
-    }
-    Some((named(kind, r.first, r.last), next))
-}
 
-// The message of a type.
-fn typed(format: Format, rest: &[u8], kind: u8, at: usize) -> Option<(Message, Cursor)>
-    requires in_bounds { 1 ≤ length rest.now }
-    requires rest_bound { at + length rest.now < 2 ^ 64 }
-    ensures { step_said result ≡ typed format kind at rest.now }
-{
-    match kind {
-        HANDSHAKE => handshake(format, rest, at),
-        DATA => chunk(format, rest, at),
-        ACK => ack(format, rest, at),
-        HAVE | REQUEST | CANCEL => ranged(format, rest, kind, at),
-        INTEGRITY => integrity(format, rest, at),
-        5..=7 => None,
-        CHOKE => Some((Message::Choke, Cursor { at: at + 1 })),
-        UNCHOKE => Some((Message::Unchoke, Cursor { at: at + 1 })),
-        12..=254 => None,
-        255 => None,
+    fn handshake(self) -> Option<(Message, Cursor)>
+        ensures { step_said result ≡ handshake_at self.entry.format self.entry.at self.entry.bytes.now }
+    {
+        if self.bytes.len() < 5 {
+            return None;
+        }
+        let options = Rest {
+            format: self.format,
+            bytes: &self.bytes[5..],
+            at: self.at + 5,
+        };
+        let size = options::options_size(options.bytes)?;
+        let message = Message::Handshake {
+            source: bytes::load32(self.bytes, 1),
+            options: options.kind(size),
+        };
+        let next = Cursor {
+            at: self.at + 5 + size,
+        };
+        Some((message, next))
+    }
+
+    fn chunk(self) -> Option<(Message, Cursor)>
+        ensures { step_said result ≡ data_at self.entry.format self.entry.at self.entry.bytes.now }
+    {
+        let chunks = Chunks::of(self.format, self.bytes, 8)?;
+        if chunks.is_special() {
+            return None;
+        }
+        let r = chunks.read();
+        if r.first != r.last {
+            return None;
+        }
+        let named = range::named_size(self.format);
+        let head = named + 8;
+        let message = Message::Data {
+            first: r.first,
+            last: r.last,
+            timestamp: bytes::load64(self.bytes, named),
+            start: self.at + head,
+            len: self.bytes.len() - head,
+        };
+        let end = self.at + self.bytes.len();
+        Some((message, Cursor { at: end }))
+    }
+
+    fn integrity(self) -> Option<(Message, Cursor)>
+        ensures { step_said result ≡ integrity_at self.entry.format self.entry.at self.entry.bytes.now }
+    {
+        let chunks = Chunks::of(self.format, self.bytes, 32)?;
+        if !chunks.names_node() {
+            return None;
+        }
+        let r = chunks.read();
+        let named = range::named_size(self.format);
+        let message = Message::Integrity {
+            first: r.first,
+            last: r.last,
+            hash: self.at + named,
+        };
+        let next = Cursor {
+            at: self.at + (named + 32),
+        };
+        Some((message, next))
+    }
+
+    fn ack(self) -> Option<(Message, Cursor)>
+        ensures { step_said result ≡ ack_at self.entry.format self.entry.at self.entry.bytes.now }
+    {
+        let chunks = Chunks::of(self.format, self.bytes, 8)?;
+        if chunks.is_special() {
+            return None;
+        }
+        let r = chunks.read();
+        if r.last < r.first {
+            return None;
+        }
+        let named = range::named_size(self.format);
+        let message = Message::Ack {
+            first: r.first,
+            last: r.last,
+            delay: bytes::load64(self.bytes, named),
+        };
+        let next = Cursor {
+            at: self.at + (named + 8),
+        };
+        Some((message, next))
+    }
+
+    fn ranged(self, kind: u8) -> Option<(Message, Cursor)>
+        ensures { step_said result ≡ ranged_at self.entry.format kind self.entry.at self.entry.bytes.now }
+    {
+        let chunks = Chunks::of(self.format, self.bytes, 0)?;
+        let next = Cursor {
+            at: self.at + range::named_size(self.format),
+        };
+        if chunks.is_empty() {
+            return Some((Message::Empty { kind }, next));
+        }
+        let r = chunks.read();
+        if r.last < r.first {
+            return None;
+        }
+        Some((named(kind, r.first, r.last), next))
+    }
+
+    // The message of a type.
+    fn typed(self, kind: u8) -> Option<(Message, Cursor)>
+        requires { 1 ≤ length self.bytes.now }
+        ensures { step_said result ≡ typed self.entry.format kind self.entry.at self.entry.bytes.now }
+    {
+        match kind {
+            HANDSHAKE => self.handshake(),
+            DATA => self.chunk(),
+            ACK => self.ack(),
+            HAVE | REQUEST | CANCEL => self.ranged(kind),
+            INTEGRITY => self.integrity(),
+            5..=7 => None,
+            CHOKE => Some((Message::Choke, Cursor { at: self.at + 1 })),
+            UNCHOKE => Some((Message::Unchoke, Cursor { at: self.at + 1 })),
+            12..=254 => None,
+            255 => None,
+        }
     }
 }
 
@@ -173,8 +184,12 @@ pub fn read(format: Format, datagram: &[u8], cursor: Cursor) -> Step
     if datagram.len() <= at {
         return Step::End;
     }
-    let rest = &datagram[at..];
-    match typed(format, rest, rest[0], at) {
+    let rest = Rest {
+        format,
+        bytes: &datagram[at..],
+        at,
+    };
+    match rest.typed(rest.bytes[0]) {
         Some((message, next)) => Step::Read { message, next },
         None => Step::Refused,
     }

@@ -7,6 +7,7 @@ use crate::range;
 use format::Format;
 
 // The highest chunk by which one may be past the pack, 0 where none has one, and whether one of them is plain.
+// 0 needs no case of its own: it is past no pack.
 #[derive(Clone, Copy, Default)]
 pub struct Survey {
     pub highest: u32,

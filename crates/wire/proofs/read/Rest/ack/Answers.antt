@@ -1,7 +1,7 @@
 use mathlib.Core.Path.{refl}
 use native.Mathlib.Omega.{arith}
 use Rattle.wire.proofs.ReadLaws.{ack-cut, ack-special, ack-order, ack-good}
-use Rattle.wire.proofs.read.ack.Goals as goal
+use Rattle.wire.proofs.read.Rest.ack.Goals as goal
 
 pub returns-in_err-chunks : goal.returns-in_err-chunks
 returns-in_err-chunks c = rw c.from_residual.ensures (ack-cut _ _ _ refl (c.in_err-chunks.ensures.cut refl))

@@ -1,8 +1,8 @@
 use native.Mathlib.Omega.{arith}
 use mathlib.Core.Path.{◌∙◌}
 use Rattle.wire.proofs.ReadLaws.{row-handshake, row-data, row-ack, row-integrity, row-choke, row-unchoke, row-ranged, no_row}
-use Rattle.wire.proofs.read.typed.Goals as goal
-use Rattle.wire.proofs.read.typed.Goals.{in-3-1, in_default+else-kind-lt8+then-kind-lt10}
+use Rattle.wire.proofs.read.Rest.typed.Goals as goal
+use Rattle.wire.proofs.read.Rest.typed.Goals.{in-3-1, in_default+else-kind-lt8+then-kind-lt10}
 
 pub returns-in-0 : goal.returns-in-0
 returns-in-0 c = c.handshake.ensures ∙ row-handshake _ _ _ _ c.in-0.is

@@ -1,7 +1,7 @@
 use mathlib.Core.Path.{refl}
 use native.Mathlib.Omega.{arith}
 use Rattle.wire.proofs.ReadLaws.{data-cut, data-special, data-range, data-good}
-use Rattle.wire.proofs.read.chunk.Goals as goal
+use Rattle.wire.proofs.read.Rest.chunk.Goals as goal
 
 pub returns-in_err-chunks : goal.returns-in_err-chunks
 returns-in_err-chunks c = rw c.from_residual.ensures (data-cut _ _ _ refl (c.in_err-chunks.ensures.cut refl))

@@ -1,7 +1,7 @@
 use mathlib.Core.Path.{refl}
 use native.Mathlib.Omega.{arith}
 use Rattle.wire.proofs.ReadLaws.{ranged-cut, ranged-empty, ranged-order, ranged-good}
-use Rattle.wire.proofs.read.ranged.Goals as goal
+use Rattle.wire.proofs.read.Rest.ranged.Goals as goal
 
 pub returns-in_err-chunks : goal.returns-in_err-chunks
 returns-in_err-chunks c = rw c.from_residual.ensures (ranged-cut _ _ _ refl _ (omega (arith, c.in_err-chunks.ensures.cut refl)))
