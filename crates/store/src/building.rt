@@ -1,23 +1,23 @@
 // Starting a store in its rooms, and building a whole one from its content.
 ghost use Rattle.std.specs.Prelude.{◌≡◌, suc, ◌+◌, ◌*◌, ◌/◌, ◌<◌, ◌≤◌, ◌^◌, [], length};
 ghost use Rattle.bits.proofs.Promise.{set_range};
-ghost use Rattle.hash.proofs.Promise.{bytes_of, sha256};
+ghost use Rattle.hash.proofs.Promise.{bytes_of};
 ghost use Rattle.tree.specs.Bin.{bin};
-ghost use Rattle.tree.specs.Pack.{chunk_size, levels, leaf_places};
-ghost use Rattle.verdict.specs.Rooms.{rooms_of, count_of, chunk_in};
+ghost use Rattle.tree.specs.Pack.{levels, leaf_places};
+ghost use Rattle.verdict.specs.Rooms.{rooms_of, count_of};
 ghost use Rattle.store.specs.Nodes.{Kept, Puts};
 ghost use Rattle.store.specs.Steps.{Filled, put_level, put_levels};
 ghost use Rattle.store.specs.Building.{clear_row, start_rooms, tree_of, root_of, build_rooms};
 
+use crate::content::Content;
 use crate::nodes::Nodes;
 use crate::storing;
 use hash::value::HashValue;
-use hash::{message, node};
-use tree::pack::CHUNK_SIZE;
 use tree::peaks::nth;
-use verdict::{peaks, room};
+use verdict::peaks;
 
 // Clears the row of n bits.
+// One call of `clear_words`, over the words of n bits.
 fn clear_row(ws: &mut [u32], n: u64)
     ensures { ws.new ≡ clear_row ws.old n }
 {
@@ -37,79 +37,48 @@ pub fn start(map: &mut [u32], nodes: &mut Nodes<'_>, root: HashValue, n: u32)
     nodes.trust(w - 1, root);
 }
 
-// The hash of chunk i of a content.
-fn leaf_of(content: &[u8], i: usize) -> HashValue
-    requires { chunk_size * i < length content.now }
-    ensures { bytes_of result.words ≡ sha256 (chunk_in (length content.now) content.now i) }
-{
-    let size = CHUNK_SIZE as usize;
-    let at = size * i;
-    let end = content.len().min(at + size);
-    message::sha256(&content[at..end])
-}
-
-// The hash of the k-th node of height h, inside a content of n chunks: of a chunk, or of the two children in the room.
-fn hash_of(hashes: &[u32], content: &[u8], n: u32, h: u32, k: u32) -> HashValue
-    requires h_bound { (h ≤ 32)
-        × (k < n / 2 ^ h)
-        × (n ≡ count_of (length content.now))
-        × (16 * n ≤ length hashes.now + 8) }
-    requires filled { Filled hashes.now (tree_of content.now) n h }
-    ensures { bytes_of result.words ≡ tree_of content.now h (k * 2 ^ h) }
-{
-    if h == 0 {
-        return leaf_of(content, k as usize);
-    }
-    let first = 2 * u64::from(k);
-    let left = room::read(hashes, nth(first, h - 1));
-    let right = room::read(hashes, nth(first + 1, h - 1));
-    node::parent(left, right)
-}
-
 impl Nodes<'_> {
-    // Writes the hash of the k-th node of height h, inside a content of n chunks, and trusts it.
-    fn put_node(&mut self, content: &[u8], n: u32, h: u32, k: u32)
+    // Writes the hash of the content's k-th node of height h, and trusts it.
+    fn put_node(&mut self, content: Content<'_>, h: u32, k: u32)
         requires h_bound { (h ≤ 32)
-            × (k < n / 2 ^ h)
-            × (n ≡ count_of (length content.now))
-            × (16 * n ≤ length self.old.hashes.now + 8) }
-        requires filled { Filled self.old.hashes.now (tree_of content.now) n h }
+            × (k < content.n / 2 ^ h)
+            × (16 * content.n ≤ length self.old.hashes.now + 8) }
+        requires filled { Filled self.old.hashes.now (tree_of content.bytes.now) content.n h }
         ensures kept { Kept self.old self.new }
-        ensures puts { Puts (λ put l. put l (bin h (k * 2 ^ h)) (tree_of content.now h (k * 2 ^ h)))
+        ensures puts { Puts (λ put l. put l (bin h (k * 2 ^ h)) (tree_of content.entry.bytes.now h (k * 2 ^ h)))
             self.old self.new }
     {
         // Only read: after `self.hashes` is passed as `&[u32]` a proof knows the number of words, and none of them.
         let hashes = &mut *self.hashes;
-        let v = hash_of(hashes, content, n, h, k);
+        let v = content.hash_of(hashes, h, k);
         self.trust(nth(u64::from(k), h), v);
     }
 
     // Every node of height h inside the pack.
-    fn put_level(&mut self, content: &[u8], n: u32, h: u32)
+    fn put_level(&mut self, content: Content<'_>, h: u32)
         requires h_bound { (h ≤ 32)
-            × (n ≡ count_of (length content.now))
-            × (16 * n ≤ length self.old.hashes.now + 8) }
-        requires filled { Filled self.old.hashes.now (tree_of content.now) n h }
+            × (16 * content.n ≤ length self.old.hashes.now + 8) }
+        requires filled { Filled self.old.hashes.now (tree_of content.bytes.now) content.n h }
         ensures kept { Kept self.old self.new }
-        ensures puts { Puts (λ put. put_level put (tree_of content.now) h (n / 2 ^ h))
+        ensures puts { Puts (λ put. put_level put (tree_of content.entry.bytes.now) h (content.entry.n / 2 ^ h))
             self.old self.new }
     {
-        let count = (u64::from(n) / tree::bin::pow2(h)) as u32;
+        let count = (u64::from(content.n) / tree::bin::pow2(h)) as u32;
         for k in 0..count {
-            self.put_node(content, n, h, k);
+            self.put_node(content, h, k);
         }
     }
 
     // Every node inside the pack.
-    fn put_levels(&mut self, content: &[u8], n: u32)
-        requires { (n ≡ count_of (length content.now))
-            × (16 * n ≤ length self.old.hashes.now + 8) }
+    // Beside `put_peaks`: a loop over heights each, which calls another method.
+    fn put_levels(&mut self, content: Content<'_>)
+        requires { 16 * content.n ≤ length self.old.hashes.now + 8 }
         ensures kept { Kept self.old self.new }
-        ensures puts { Puts (λ put. put_levels put (tree_of content.now) n (suc (levels n)))
-            self.old self.new }
+        ensures puts { Puts (λ put. put_levels put (tree_of content.entry.bytes.now) content.entry.n
+            (suc (levels content.entry.n))) self.old self.new }
     {
-        for h in 0..=tree::pack::levels(n) {
-            self.put_level(content, n, h);
+        for h in 0..=tree::pack::levels(content.n) {
+            self.put_level(content, h);
         }
     }
 }
@@ -145,7 +114,7 @@ pub fn build(
     let w = tree::pack::leaf_places(n);
     storing::copy_in(chunks, 0, content);
     mark_all(map, nodes.trusted, n, w);
-    nodes.put_levels(content, n);
+    nodes.put_levels(Content { bytes: content, n });
     // Only read, as in `put_node`.
     let hashes = &mut *nodes.hashes;
     let held: &[u32] = hashes;

@@ -4,5 +4,6 @@
 pub mod answers;
 mod building;
 pub mod calls;
+mod content;
 mod nodes;
 mod storing;

@@ -24,6 +24,7 @@ use verdict::room;
 use verdict::verdicts::{Place, SCRATCH};
 
 // The bytes of src into dst from a place on.
+// One call of the library, at the chunk's place.
 pub fn copy_in(dst: &mut [u8], at: usize, src: &[u8])
     requires { at + length src.now ≤ length dst.old }
     ensures { dst.new ≡ copied dst.old at src.now }

@@ -12,7 +12,7 @@ mark_all-requires c = omega (arith, places_small 32 c.args.n c.leaf_places-w.res
 
 pub put_levels-requires : goal.put_levels-requires
 put_levels-requires c = let W = c.requires in
-    (W.0, omega (arith, W.1, levels-holds c.args.n))
+    omega (arith, W.1, levels-holds c.args.n)
 
 pub root_of_peaks-root-requires : goal.root_of_peaks-root-requires
 root_of_peaks-root-requires c = (c.levels.ensures.1, rw c.levels.ensures.0 (levels-holds c.args.n))

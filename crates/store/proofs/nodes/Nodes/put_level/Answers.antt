@@ -17,11 +17,11 @@ loop-k-init c = record {
 
 pub put_node-requires-clause-filled : goal.put_node-requires-clause-filled
 put_node-requires-clause-filled c =
-    rw c.loop-k.invariant.puts.hashes (filled-level c.args.content.now c.args.n c.args.h c.loop-k.k c.args.self.now.hashes.now c.requires.filled)
+    rw c.loop-k.invariant.puts.hashes (filled-level c.args.content.bytes.now c.args.content.n c.args.h c.loop-k.k c.args.self.now.hashes.now c.requires.filled)
 
 pub loop-k-preserved : goal.loop-k-preserved
 loop-k-preserved c = record {
   count = c.loop-k.invariant.count;
   kept = search rules;
-  puts = puts_then _ c.put_node.ensures.puts c.loop-k.invariant.puts (λ put l. level-more (tree_of c.args.content.now) put l c.args.h c.loop-k.k);
+  puts = puts_then _ c.put_node.ensures.puts c.loop-k.invariant.puts (λ put l. level-more (tree_of c.args.content.bytes.now) put l c.args.h c.loop-k.k);
 }

@@ -15,14 +15,14 @@ loop-h-init c = record { kept = search rules; puts = record { hashes = refl; tru
 
 pub put_level-requires-clause-filled : goal.put_level-requires-clause-filled
 put_level-requires-clause-filled c =
-    rw c.loop-h.invariant.puts.hashes (filled-levels c.args.content.now c.args.n c.loop-h.h c.args.self.now.hashes.now c.requires.1)
+    rw c.loop-h.invariant.puts.hashes (filled-levels c.args.content.bytes.now c.args.content.n c.loop-h.h c.args.self.now.hashes.now c.requires)
 
 pub loop-h-preserved : goal.loop-h-preserved
 loop-h-preserved c = record {
   kept = search rules;
-  puts = puts_then _ c.put_level.ensures.puts c.loop-h.invariant.puts (λ put l. levels-more (tree_of c.args.content.now) put l c.args.n c.loop-h.h);
+  puts = puts_then _ c.put_level.ensures.puts c.loop-h.invariant.puts (λ put l. levels-more (tree_of c.args.content.bytes.now) put l c.args.content.n c.loop-h.h);
 }
 
 pub returns-2-clause-puts : goal.returns-2-clause-puts
-returns-2-clause-puts c = let e : c.loop-h.h + 1 ≡ suc (levels c.args.n) = omega (arith, c.levels-h-end.ensures.0) in
-    puts_then _ c.put_level.ensures.puts c.loop-h.invariant.puts (λ put l. rw (← e) (levels-more (tree_of c.args.content.now) put l c.args.n c.loop-h.h))
+returns-2-clause-puts c = let e : c.loop-h.h + 1 ≡ suc (levels c.args.content.n) = omega (arith, c.levels-h-end.ensures.0) in
+    puts_then _ c.put_level.ensures.puts c.loop-h.invariant.puts (λ put l. rw (← e) (levels-more (tree_of c.args.content.bytes.now) put l c.args.content.n c.loop-h.h))
