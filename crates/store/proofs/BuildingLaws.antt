@@ -16,7 +16,7 @@ use Rattle.bits.proofs.Promise.{set_bit, set_range}
 use Rattle.base.specs.Pick.{pick}
 use Rattle.tree.specs.Bin.{bin}
 use Rattle.tree.specs.Node.{above}
-use Rattle.tree.specs.Pack.{chunks, levels, leaf_places}
+use Rattle.tree.specs.Pack.{chunks, levels, leaf_places, root_node}
 use Rattle.tree.specs.Tree.{tree, root, given, combined}
 use Rattle.verdict.specs.Room.{filler, Digest, hash_in, put_hash}
 use Rattle.verdict.specs.Rooms.{rooms_of, count_of, chunk_in}
@@ -211,18 +211,16 @@ root-filled s l N e F =
 rooms_eq : {c c' m m' h h' t t' : List ℕ} → c ≡ c' → m ≡ m' → h ≡ h' → t ≡ t' → rooms_of c m h t ≡ rooms_of c' m' h' t'
 rooms_eq e f g i = cc
 
-pub built_is : (chunks map hashes trusted s : List ℕ) (N top p : ℕ) {c' m' h1 h2 t1 t2 t3 v : List ℕ} → N ≡ count_of (length s) → top ≡ levels N → p ≡ 2 ^ top → 16 * N ≤ length hashes + 8
+pub built_is : (chunks map hashes trusted s : List ℕ) (N top : ℕ) {c' m' h1 h2 t1 t2 t3 v : List ℕ} → N ≡ count_of (length s) → top ≡ levels N → 16 * N ≤ length hashes + 8
     → c' ≡ copied chunks 0 s
-    → (m' ≡ set_range (clear_row map N) 0 N) × (t1 ≡ clear_row trusted (2 * p))
+    → (m' ≡ set_range (clear_row map N) 0 N) × (t1 ≡ clear_row trusted (2 * leaf_places N))
     → (h1 ≡ put_levels put_hash (tree_of s) N (suc (levels N)) hashes) × (t2 ≡ put_levels mark (tree_of s) N (suc (levels N)) t1)
     → v ≡ given sha256 filler N (held_by h1) top 0
-    → (h2 ≡ put_hash h1 (p - 1) v) × (t3 ≡ mark t2 (p - 1) v)
+    → (h2 ≡ put_hash h1 (root_node N) v) × (t3 ≡ mark t2 (root_node N) v)
     → (v ≡ root_of s) × (rooms_of c' m' h2 t3 ≡ build_rooms (rooms_of chunks map hashes trusted) (count_of (length s)) s)
 unfolding build_rooms
-built_is chunks map hashes trusted s N top p {h1 = h1} {v = v} n l q r ce me he ve te =
-    let T : top ≡ levels (count_of (length s)) = l ∙ ap levels n in
-    let P : p ≡ 2 ^ levels (count_of (length s)) = q ∙ ap (λ (x : ℕ). 2 ^ x) T in
-    let b : p - 1 ≡ bin (levels (count_of (length s))) 0 = omega arith in
+built_is chunks map hashes trusted s N top {h1 = h1} {v = v} n l r ce me he ve te =
+    let b : root_node N ≡ root_node (count_of (length s)) = ap root_node n in
     let H : h1 ≡ put_levels put_hash (tree_of s) (count_of (length s)) (suc (levels (count_of (length s)))) hashes = he.0 ∙ ap (λ (x : ℕ). put_levels put_hash (tree_of s) x (suc (levels x)) hashes) n in
     let F : Filled h1 (tree_of s) N (suc (levels N)) = rw he.0 (filled-levels s N (suc (levels N)) hashes r) in
     let R : v ≡ root_of s = ve ∙ ap (λ (x : ℕ). given sha256 filler N (held_by h1) x 0) l ∙ root-filled s h1 N n F in (
@@ -230,7 +228,7 @@ built_is chunks map hashes trusted s N top p {h1 = h1} {v = v} n l q r ce me he 
       rooms_eq ce
           (me.0 ∙ ap (λ (x : ℕ). set_range (clear_row map x) 0 x) n)
           (te.0 ∙ put3 H b R ∙ sym (built-each put_hash s hashes))
-          (te.1 ∙ ap₂ set_bit (he.1 ∙ marks (me.1 ∙ ap (λ (x : ℕ). clear_row trusted (2 * x)) P) n (ap levels n)) b
+          (te.1 ∙ ap₂ set_bit (he.1 ∙ marks (me.1 ∙ ap (λ (x : ℕ). clear_row trusted (2 * leaf_places x)) n) n (ap levels n)) b
           ∙ sym (built-each mark s (clear_row trusted (2 * leaf_places (count_of (length s)))))),
     )
   where

@@ -84,41 +84,38 @@ impl Nodes<'_> {
 }
 
 // Clears the rows, and sets the n map bits.
-fn mark_all(map: &mut [u32], trusted: &mut [u32], n: u32, w: u64)
-    requires { w ≤ 2 ^ 32 }
+fn mark_all(map: &mut [u32], trusted: &mut [u32], n: u32)
     ensures { (map.new ≡ set_range (clear_row map.old n) 0 n)
-        × (trusted.new ≡ clear_row trusted.old (2 * w)) }
+        × (trusted.new ≡ clear_row trusted.old (2 * leaf_places n)) }
 {
     clear_row(map, u64::from(n));
     bits::set_range(map, 0, n as usize);
-    clear_row(trusted, 2 * w);
+    clear_row(trusted, 2 * tree::pack::leaf_places(n));
 }
 
-// Builds a whole store of a content of n chunks; its root.
+// Builds a whole store of a content; its root.
 pub fn build(
     chunks: &mut [u8],
     map: &mut [u32],
     nodes: &mut Nodes<'_>,
-    n: u32,
-    content: &[u8],
+    content: Content<'_>,
 ) -> HashValue
-    requires { (n ≡ count_of (length content.now))
-        × (16 * leaf_places n ≤ length nodes.old.hashes.now)
-        × (length content.now ≤ length chunks.old) }
+    requires { (16 * leaf_places content.n ≤ length nodes.old.hashes.now)
+        × (length content.bytes.now ≤ length chunks.old) }
     ensures kept { Kept nodes.old nodes.new }
-    ensures root { bytes_of result.words ≡ root_of content.now }
+    ensures root { bytes_of result.words ≡ root_of content.entry.bytes.now }
     ensures rooms { rooms_of chunks.new map.new nodes.new.hashes.now nodes.new.trusted.now
         ≡ build_rooms (rooms_of chunks.old map.old nodes.old.hashes.now nodes.old.trusted.now)
-        (count_of (length content.now)) content.now }
+        (count_of (length content.entry.bytes.now)) content.entry.bytes.now }
 {
-    let w = tree::pack::leaf_places(n);
-    storing::copy_in(chunks, 0, content);
-    mark_all(map, nodes.trusted, n, w);
-    nodes.put_levels(Content { bytes: content, n });
+    let n = content.n;
+    storing::copy_in(chunks, 0, content.bytes);
+    mark_all(map, nodes.trusted, n);
+    nodes.put_levels(content);
     // Only read, as in `put_node`.
     let hashes = &mut *nodes.hashes;
     let held: &[u32] = hashes;
     let root = peaks::root_of_peaks(&held, n, tree::pack::levels(n));
-    nodes.trust(w - 1, root);
+    nodes.trust(tree::pack::root_node(n), root);
     root
 }

@@ -12,6 +12,7 @@ ghost use Rattle.store.specs.Steps.{store_if_fits};
 ghost use Rattle.base.specs.Out.{out_by};
 
 use crate::answers::Sizes;
+use crate::content::Content;
 use crate::nodes::Nodes;
 use crate::{building, storing};
 use base::Refusal;
@@ -59,7 +60,7 @@ pub fn build(
     Sizes::of(chunks, map, hashes, trusted).build_answer(length, content.len())?;
     let n = pack::chunk_count(length);
     let nodes = &mut Nodes { hashes, trusted };
-    Ok(building::build(chunks, map, nodes, n, content))
+    Ok(building::build(chunks, map, nodes, Content { bytes: content, n }))
 }
 
 // Stores the chunk where it fits, and otherwise gives what the verdict says.

@@ -8,8 +8,13 @@ pub returns-in_err-build_answer-clause-out : goal.returns-in_err-build_answer-cl
 unfolding build_spec
 returns-in_err-build_answer-clause-out c = search rules
 
+pub invariant_of-build : goal.invariant_of-build
+invariant_of-build c = record { counted = (build-facts (rooms_of c.args.chunks.now c.args.map.now c.args.hashes.now c.args.trusted.now) c.args.length _ c.args.content.now (rw c.of.ensures at c.in_ok-build_answer.ensures).0 c.chunk_count-n.ensures).0 }
+
 pub build-requires : goal.build-requires
-build-requires c = build-facts (rooms_of c.args.chunks.now c.args.map.now c.args.hashes.now c.args.trusted.now) c.args.length _ c.args.content.now (rw c.of.ensures at c.in_ok-build_answer.ensures).0 c.chunk_count-n.ensures
+build-requires c =
+    let f = build-facts (rooms_of c.args.chunks.now c.args.map.now c.args.hashes.now c.args.trusted.now) c.args.length _ c.args.content.now (rw c.of.ensures at c.in_ok-build_answer.ensures).0 c.chunk_count-n.ensures in
+    (f.1, f.2)
 
 pub returns-clause-out : goal.returns-clause-out
 unfolding build_spec
