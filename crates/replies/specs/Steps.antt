@@ -1,10 +1,16 @@
 -- Nothing of the papers: what the code computes on its way. Assumes nothing.
 use Rattle.std.specs.Prelude.{ℕ, ◌+◌, ◌≡◌, List, map, length}
+use Rattle.std.specs.Borrow.{MutBor}
+use Rattle.format.specs.declared.Format.{Format}
 use Rattle.tree.proofs.Promise.{Node, num}
 use Rattle.wire.proofs.Promise.{placed, fixed_size}
 use Rattle.writer.specs.declared.place.Writer.{Writer}
 use Rattle.writer.proofs.Promise.{Wrote, Item, encode}
 use Rattle.replies.specs.Replies.{hash_item}
+
+-- A writer at the front of a room.
+abbrev pub at_front : MutBor (List ℕ) → Format → Writer
+at_front room F = record { room = room; at = 0; format = F }
 
 -- The size of a HANDSHAKE: its type and source, and the fixed options.
 abbrev pub handshake_size : ℕ

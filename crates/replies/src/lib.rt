@@ -9,9 +9,9 @@ ghost use Rattle.hash.proofs.Promise.{bytes_of};
 ghost use Rattle.tree.proofs.Promise.{chunk_size, chunks, max_length, sent};
 ghost use Rattle.store.proofs.Promise.{hash_in};
 ghost use Rattle.wire.proofs.Promise.{min_size, max_size, integrity_size};
-ghost use Rattle.writer.proofs.Promise.{Free, Wrote, nameable};
+ghost use Rattle.writer.proofs.Promise.{Free, Wrote, bytes32, nameable};
 ghost use Rattle.replies.specs.Replies.{handshake_reply, ack_reply, hash_item, chunk_reply};
-ghost use Rattle.replies.specs.Steps.{node_items, Puts, Sends};
+ghost use Rattle.replies.specs.Steps.{at_front, node_items, Puts, Sends};
 
 use format::Format;
 use hash::value;
@@ -20,6 +20,21 @@ use tree::{bin, pack, peaks};
 use verdict::room;
 use wire::message::{INTEGRITY, Options};
 use writer::place::Writer;
+
+// A writer behind the destination, which stands at the front of the reply room.
+fn begin<'a>(reply: &'a mut [u8], format: Format, destination: u32) -> Writer<'a>
+    requires { min_size ≤ length reply.old }
+    ensures same_reference { result.room.ghost_name ≡ reply.entry.ghost_name }
+    ensures begun { Wrote (at_front reply.entry format) result (bytes32 destination) }
+{
+    let mut writer = Writer {
+        room: reply,
+        at: 0,
+        format,
+    };
+    writer.number32(destination);
+    writer
+}
 
 // Our HANDSHAKE from a source channel, with the fixed options around the root; its length.
 pub fn handshake(
@@ -33,12 +48,7 @@ pub fn handshake(
     ensures { Sends reply.old (handshake_reply format destination source (bytes_of root.words))
         reply.new result }
 {
-    let mut writer = Writer {
-        room: reply,
-        at: 0,
-        format,
-    };
-    writer.number32(destination);
+    let mut writer = begin(reply, format, destination);
     writer.put_handshake(source, Options::Fixed { root: 0 }, &value::bytes(root));
     writer.at
 }
@@ -56,12 +66,7 @@ pub fn ack(
     requires last_value { nameable format first last ≡ true }
     ensures { Sends reply.old (ack_reply format destination first last delay) reply.new result }
 {
-    let mut writer = Writer {
-        room: reply,
-        at: 0,
-        format,
-    };
-    writer.number32(destination);
+    let mut writer = begin(reply, format, destination);
     writer.put_ack(first, last, delay);
     writer.at
 }
@@ -116,12 +121,7 @@ pub fn chunk(
     ensures { Sends reply.old
         (chunk_reply format hashes.now destination n c timestamp bytes.now) reply.new result }
 {
-    let mut writer = Writer {
-        room: reply,
-        at: 0,
-        format,
-    };
-    writer.number32(destination);
+    let mut writer = begin(reply, format, destination);
     put_hashes(&mut writer, hashes, n, c);
     writer.put_data(c, c, timestamp, 0, bytes.len(), bytes);
     writer.at

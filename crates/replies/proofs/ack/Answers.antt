@@ -7,7 +7,7 @@ use Rattle.replies.proofs.ReplyLaws.{ack-done}
 use Rattle.replies.proofs.ack.Goals as goal
 
 pub put_ack-requires-clause-free : goal.put_ack-requires-clause-free
-put_ack-requires-clause-free c = omega (arith, c.requires.max_size_in_bounds, size32 c.args.destination, place_most c.number32.new.self.format)
+put_ack-requires-clause-free c = omega (arith, c.requires.max_size_in_bounds, size32 c.args.destination, place_most c.begin-writer.result.format)
 
 pub returns : goal.returns
-returns c = let e = ack-done c.args.destination refl c.number32.ensures _ _ _ c.put_ack.ensures in (e.0, then_same e.1 (search rules))
+returns c = let e = ack-done c.args.destination refl c.begin-writer.ensures.begun _ _ _ c.put_ack.ensures in (e.0, then_same e.1 (search rules))

@@ -12,4 +12,4 @@ pub put_handshake-requires-clause-options_value : goal.put_handshake-requires-cl
 put_handshake-requires-clause-options_value c = (handshake_puts _ _ c.requires (search rules)).1
 
 pub returns : goal.returns
-returns c = let e = handshake-done c.args.destination refl c.number32.ensures _ c.bytes.ensures c.put_handshake.ensures in (e.0, then_same e.1 (search rules))
+returns c = let e = handshake-done c.args.destination refl c.begin-writer.ensures.begun _ c.bytes.ensures c.put_handshake.ensures in (e.0, then_same e.1 (search rules))
