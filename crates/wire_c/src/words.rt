@@ -1,5 +1,5 @@
 // The words of a layout.
-ghost use Rattle.std.specs.Prelude.{◌≡◌, ◌≤◌, length};
+ghost use Rattle.std.specs.Prelude.{◌≡◌, ◌≤◌, ◌∷◌, [], length};
 ghost use Rattle.wire.proofs.Promise.{layout_said};
 ghost use Rattle.std.proofs.lemmas.List.Edits.{sets};
 ghost use Rattle.wire_c.specs.Words.{layout_words};
@@ -8,22 +8,14 @@ ghost use Rattle.wire_c.specs.Steps.{kind_of, root_of};
 use wire::layout::Layout;
 use wire::message::Options;
 
-fn kind(options: Options) -> u64
-    ensures { result ≡ kind_of options }
+// The kind of a HANDSHAKE's options, and the place of their root.
+fn options_words(options: Options) -> [u64; 2]
+    ensures { result ≡ kind_of options ∷ root_of options ∷ [] }
 {
     match options {
-        Options::Fixed { root: _ } => 1,
-        Options::EndOnly => 2,
-        Options::Other => 0,
-    }
-}
-
-fn root(options: Options) -> u64
-    ensures { result ≡ root_of options }
-{
-    match options {
-        Options::Fixed { root } => root as u64,
-        _ => 0,
+        Options::Fixed { root } => [1, root as u64],
+        Options::EndOnly => [2, 0],
+        Options::Other => [0, 0],
     }
 }
 
@@ -40,7 +32,8 @@ pub(crate) fn put_layout(out: &mut [u64], layout: Layout)
 {
     match layout {
         Layout::HandshakeAlone { source, options } => {
-            put(out, [1, source as u64, kind(options), root(options), 0, 0]);
+            let [kind, root] = options_words(options);
+            put(out, [1, u64::from(source), kind, root, 0, 0]);
         }
         Layout::Messages { entries } => {
             put(out, [2, 0, 0, 0, 0, entries as u64]);
@@ -56,7 +49,7 @@ pub(crate) fn put_layout(out: &mut [u64], layout: Layout)
                 out,
                 [
                     3,
-                    chunk as u64,
+                    u64::from(chunk),
                     timestamp,
                     start as u64,
                     len as u64,
