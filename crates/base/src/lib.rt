@@ -2,7 +2,7 @@
 // gives back; why one is refused, and the node that a refusal names.
 #![tactic(auto)]
 
-ghost use Rattle.std.specs.Prelude.{◌≡◌, Option, Some, None};
+ghost use Rattle.std.specs.Prelude.{◌≡◌, Option, Some, None, length};
 ghost use Rattle.base.specs.Out.{node_number};
 ghost use Rattle.base.specs.Refusal.{number, node};
 
@@ -14,6 +14,17 @@ pub fn node_number(named: Option<u64>) -> u64
     ensures { result ≡ node_number named }
 {
     named.unwrap_or(NO_NODE)
+}
+
+// The bytes of a slice into another as long. By a loop: the library's `copy_from_slice` calls the C library's memmove,
+// which include/ppspp.h doesn't name, and this becomes memcpy.
+pub fn copy(to: &mut [u8], from: &[u8])
+    requires { length to.old ≡ length from.now }
+    ensures { to.new ≡ from.now }
+{
+    for (i, byte) in from.iter().enumerate() {
+        to[i] = *byte;
+    }
 }
 
 // Why a call is refused (01, "Numbers given back").

@@ -29,7 +29,7 @@ pub fn copy_in(dst: &mut [u8], at: usize, src: &[u8])
     requires { at + length src.now ≤ length dst.old }
     ensures { dst.new ≡ copied dst.old at src.now }
 {
-    dst[at..at + src.len()].copy_from_slice(src);
+    base::copy(&mut dst[at..at + src.len()], src);
 }
 
 impl Nodes<'_> {

@@ -55,7 +55,7 @@ impl Writer<'_> {
         ensures { Wrote self.old self.new bytes.now }
     {
         let end = self.at + bytes.len();
-        self.room[self.at..end].copy_from_slice(bytes);
+        base::copy(&mut self.room[self.at..end], bytes);
         self.at = end;
     }
 

@@ -6,4 +6,4 @@ use Rattle.store.proofs.storing.copy_in.Goals as goal
 
 pub returns : goal.returns
 unfolding copied
-returns c = put_mid-paste c.args.at _ c.args.dst.now _ c.args.src.now _ c.copy_from_slice.ensures.after (omega arith) refl
+returns c = put_mid-paste c.args.at _ c.args.dst.now _ c.args.src.now _ c.copy.ensures (omega arith) refl
