@@ -99,7 +99,7 @@ fn put_hashes(writer: &mut Writer<'_>, hashes: &[u32], n: u32, c: u32)
 {
     for h in (0..=pack::levels(n)).rev() {
         put_node(writer, hashes, peaks::sent_sibling(n, c, h));
-        put_node(writer, hashes, peaks::peak(n, h));
+        put_node(writer, hashes, peaks::sent_peak(n, h));
     }
 }
 

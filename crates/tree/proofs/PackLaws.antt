@@ -36,7 +36,7 @@ levels_unique N h e l = go (split h (levels N)) (split (levels N) h)
     go (inr p) q = absurd (omega (arith, l (levels N) p, levels-holds N))
 
 -- One leaf, or none, needs no height,
-levels-none : (N : ℕ) → N < 2 → 0 ≡ levels N
+pub levels-none : (N : ℕ) → N < 2 → 0 ≡ levels N
 levels-none N h = levels_unique N 0 (omega arith) (λ k l. absurd (omega arith))
 
 -- and the height for more is the length of N - 1 in binary digits.

@@ -82,6 +82,11 @@ turn-short : (t : Bool) (n : Node) (ns : List Node) → length (pick t (n ∷ []
 turn-short true n ns = omega arith
 turn-short false n ns = omega arith
 
+pub peaks-short : (N h : ℕ) → length (peaks_below N h) ≤ h
+unfolding peaks_below
+peaks-short N zero = omega arith
+peaks-short N (suc h) = omega (arith, turn-short (peak_bit N h) (peak_at N h) (peaks_below N h), peaks-short N h)
+
 pub sent-short : (N c h : ℕ) → length (sent_below N c h) ≤ 2 * h
 unfolding sent_below
 sent-short N c zero = omega arith
@@ -89,6 +94,15 @@ sent-short N c (suc h) =
     omega (arith, turn-short (leb (above (suc h) c + 2 ^ suc h) N) (sibling_at c h) (peak_turn N h ++ sent_below N c h), turn-short (peak_bit N h) (peak_at N h) (sent_below N c h), sent-short N c h)
 
 -- ---- the loops over the heights: the beginning, a turn, the end
+
+pub peaks-none : (N : ℕ) → peaks_below N 0 ≡ []
+unfolding peaks_below
+peaks-none N = refl
+
+peaks-at : (N h : ℕ) → 0 < h → peaks_below N h ≡ peak_turn N (h - 1) ++ peaks_below N (h - 1)
+unfolding peaks_below
+peaks-at N zero l = absurd (omega arith)
+peaks-at N (suc h) l = let e : suc h - 1 ≡ h = omega arith in rw e
 
 pub sent-none : (N c : ℕ) → sent_below N c 0 ≡ []
 unfolding sent_below
@@ -113,6 +127,14 @@ module _ (f : ℕ → List Node) (top : ℕ) (room₀ : List ℕ) where
 
     pub loop-end : (ns : List Node) → f 0 ≡ [] → ns ≡ f (suc top) → h ≡ 0 → LeftBelow room k h → (k ≡ length ns) × (room ≡ listed room₀ 0 ns)
     loop-end ns b e z g = rw e (left_end room₀ (f (suc top)) room k (rw (z, b) at g))
+
+-- the peak of the height below h
+pub peaks-turn : (N top : ℕ) (room₀ room : List ℕ) (k h : ℕ) → 0 < h → LeftBelow (peaks_below N) top room₀ room k h → {o : Option ℕ} {k' : ℕ} {room' : List ℕ}
+    → o ≡ then_some (peak_bit N (h - 1)) (num (peak_at N (h - 1)))
+    → (k' ≡ k + length (option_to_list o)) × (room' ≡ sets room k (option_to_list o))
+    → LeftBelow (peaks_below N) top room₀ room' k' (h - 1)
+peaks-turn N top room₀ room k h l e {o} {k'} {room'} eo p =
+    left-turn room₀ _ room k (peak_turn N (h - 1)) (peaks_below N (h - 1)) k' room' (rw (peaks-at N h l) at e) (one-put _ _ k room eo p)
 
 -- the sibling and then the peak of the height below h
 module _ (N c top : ℕ) (room₀ room : List ℕ) (k h : ℕ) (l : 0 < h) (e : LeftBelow (sent_below N c) top room₀ room k h) where

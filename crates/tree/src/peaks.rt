@@ -72,12 +72,20 @@ pub fn peak_index(n: u32, h: u32) -> u64
     2 * (u64::from(n) / bin::pow2(h) / 2)
 }
 
-// The peak of n of height h, if n has one.
-pub fn peak(n: u32, h: u32) -> Option<u64>
+// The peak of n of height h, where bit h of n is set.
+pub fn peak(n: u32, h: u32) -> u64
+    requires { h < 60 }
+    ensures { result ≡ num (peak_at n h) }
+{
+    nth(peak_index(n, h), h)
+}
+
+// The peak of height h, if n has one: it goes out with each chunk.
+pub fn sent_peak(n: u32, h: u32) -> Option<u64>
     requires { h < 60 }
     ensures { result ≡ then_some (peak_bit n h) (num (peak_at n h)) }
 {
-    bit(n, h).then_some(nth(peak_index(n, h), h))
+    bit(n, h).then_some(peak(n, h))
 }
 
 // Whether the node of height h above chunk c lies within 0..n-1.
@@ -126,14 +134,19 @@ pub fn sent(room: &mut [u64], n: u32, c: u32) -> usize
     let mut k = 0;
     for h in (0..pack::levels(n) + 1).rev() {
         k = put(room, k, sent_sibling(n, c, h));
-        k = put(room, k, peak(n, h));
+        k = put(room, k, sent_peak(n, h));
     }
     k
 }
 
-// Lists the peaks of n, largest first, likewise: chunk n lies past the pack, so none of its siblings goes out.
+// Lists the peaks of n, largest first, likewise. (b) They are what `sent` lists for chunk n, which lies past the pack:
+// to look there for siblings in vain takes half as long again.
 pub fn peaks(room: &mut [u64], n: u32) -> usize
     ensures { (result ≡ length (peaks n)) × (room.new ≡ listed room.old 0 (peaks n)) }
 {
-    sent(room, n, n)
+    let mut k = 0;
+    for h in (0..pack::levels(n) + 1).rev() {
+        k = put(room, k, sent_peak(n, h));
+    }
+    k
 }

@@ -18,7 +18,7 @@ fn peak_untrusted(trusted: &[u32], n: u32, h: u32) -> bool
     requires { h < 59 }
     ensures { result ≡ pick (peak_bit n h) (not (trusted_in trusted.now (peak_at n h))) false }
 {
-    match tree::peaks::peak(n, h) {
+    match tree::peaks::sent_peak(n, h) {
         Some(b) => !bits::test(trusted, b as usize),
         None => false,
     }
@@ -42,7 +42,7 @@ fn fold<S: Source>(source: &S, n: u32, h: u32, acc: HashValue) -> HashValue
     ensures { bytes_of result.words
         ≡ folded sha256 filler n (by_node (S.hash_at source.now)) h (bytes_of acc.words) }
 {
-    if let Some(b) = tree::peaks::peak(n, h) {
+    if let Some(b) = tree::peaks::sent_peak(n, h) {
         return node::parent(source.hash(b), acc);
     }
     if tree::peaks::above(n, h) == u64::from(n) {

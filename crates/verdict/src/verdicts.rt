@@ -52,7 +52,7 @@ fn missing_peak(integrity: Integrity, opened: bool, n: u32, h: u32) -> Option<u6
         (is_missing (came_from (integrity_in integrity.entry)) (peak_at n h)) false))
         (num (peak_at n h)) }
 {
-    let b = tree::peaks::peak(n, h)?;
+    let b = tree::peaks::sent_peak(n, h)?;
     (!opened && !integrity.has(b)).then_some(b)
 }
 

@@ -14,12 +14,12 @@ put_node-requires c = record { free = omega (arith, c.requires, place_most c.loo
 pub put_node-requires-in-loop-h : goal.put_node-requires-in-loop-h
 put_node-requires-in-loop-h c =
     let s = sibling-put _ c.args.n c.args.c c.loop-h.h c.sent_sibling.ensures c.put_node.ensures in
-    record { free = omega (arith, c.requires, place_most c.put_node.new.writer.format, c.loop-h.invariant.puts.size, done-few _ _ _ (c.loop-h.h + 1) c.loop-h.invariant c.requires.n_bound, s.at, s.size, sibling-long c.loop-h.writer.format c.args.hashes.now c.args.n c.args.c c.loop-h.h); node_bound = peak-small _ c.requires.n_bound c.loop-h.h c.peak.ensures }
+    record { free = omega (arith, c.requires, place_most c.put_node.new.writer.format, c.loop-h.invariant.puts.size, done-few _ _ _ (c.loop-h.h + 1) c.loop-h.invariant c.requires.n_bound, s.at, s.size, sibling-long c.loop-h.writer.format c.args.hashes.now c.args.n c.args.c c.loop-h.h); node_bound = peak-small _ c.requires.n_bound c.loop-h.h c.sent_peak.ensures }
 
 pub loop-h-preserved : goal.loop-h-preserved
 loop-h-preserved c =
     let e : c.loop-h.h - 1 + 1 ≡ c.loop-h.h = omega arith in
-    rw e (done_more _ _ _ (c.loop-h.h + 1) c.loop-h.invariant (omega arith) (omega arith) (sibling-put _ c.args.n c.args.c c.loop-h.h c.sent_sibling.ensures c.put_node.ensures) (peak-put _ c.args.n c.loop-h.h c.peak.ensures c.put_node-in-loop-h.ensures))
+    rw e (done_more _ _ _ (c.loop-h.h + 1) c.loop-h.invariant (omega arith) (omega arith) (sibling-put _ c.args.n c.args.c c.loop-h.h c.sent_sibling.ensures c.put_node.ensures) (peak-put _ c.args.n c.loop-h.h c.sent_peak.ensures c.put_node-in-loop-h.ensures))
 
 pub returns-2 : goal.returns-2
-returns-2 c = done_all _ _ _ c.loop-h.h (done_more _ _ _ (c.loop-h.h + 1) c.loop-h.invariant (omega arith) (omega arith) (sibling-put _ c.args.n c.args.c c.loop-h.h c.sent_sibling.ensures c.put_node.ensures) (peak-put _ c.args.n c.loop-h.h c.peak.ensures c.put_node-in-loop-h.ensures)) (omega arith)
+returns-2 c = done_all _ _ _ c.loop-h.h (done_more _ _ _ (c.loop-h.h + 1) c.loop-h.invariant (omega arith) (omega arith) (sibling-put _ c.args.n c.args.c c.loop-h.h c.sent_sibling.ensures c.put_node.ensures) (peak-put _ c.args.n c.loop-h.h c.sent_peak.ensures c.put_node-in-loop-h.ensures)) (omega arith)
