@@ -26,7 +26,7 @@ use Rattle.store.specs.Storing.{store_spec}
 use Rattle.store.specs.Building.{clear_row, start_rooms, build_rooms}
 use Rattle.store.specs.Answers.{earlier, length_answer, content_answer, room_answer, order_answer, chunk_answer}
 use Rattle.store.specs.Calls.{rooms_answer, start_spec, build_answer, build_spec, take_spec}
-use Rattle.store.specs.Steps.{store_if_fits}
+use Rattle.store.specs.Steps.{found_root, given_root, store_if_fits}
 use Rattle.base.proofs.OutLaws.{at-not, at_done, at_zero, at-unaltered, unless-done, unless-zero, done-unaltered, unless-unaltered, refusal_number}
 use Rattle.base.specs.Out.{out_by, Out, out_at, out_of, unless_at, unless}
 use Rattle.base.specs.Out.{Named}
@@ -93,6 +93,14 @@ pub build-nameless : (w : Rooms) (L : ℕ) (s : List ℕ) → (build_spec w L s)
 unfolding build_spec
 build-nameless w L s =
     unless-nameless (build_answer L (length s) (length w.bytes) (length w.map) (length w.hashes) (length w.trusted)) w (build_rooms w (count_of (length s)) s)
+
+-- A refused building gives the filler.
+pub given_filler : {A : Type 0} (root : A → List ℕ) (e : Refusal) (r : List ℕ) → given_root root (Err e) ≡ found_root (refusal.number e) r
+given_filler root e r = go (refusal.number e) (refusal_number e)
+  where
+    go : (n : ℕ) → n ≢ 0 → filler ≡ found_root n r
+    go zero d = absurd (d refl)
+    go (suc n) d = refl
 
 pub content_long : (L n : ℕ) → content_answer L n ≡ 0 → n ≡ L
 content_long L n e = go (eqb n L) refl e

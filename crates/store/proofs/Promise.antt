@@ -34,6 +34,7 @@ pub use Rattle.verdict.specs.Rooms.{Rooms, rooms_of, count_of, chunk_in, state_o
 pub use Rattle.store.specs.Building.{root_of}
 pub use Rattle.store.specs.Answers.{earlier, length_answer, map_words, hash_words, trusted_words, Enough, room_answer, order_answer, chunk_answer, sizes_of}
 pub use Rattle.store.specs.Calls.{rooms_answer, start_spec, build_answer, build_spec, take_spec}
+pub use Rattle.store.specs.Steps.{found_root, given_root}
 pub use Rattle.store.specs.Whole.{HangsIn, Alike}
 pub use Rattle.store.proofs.Running.{SameSizes, SoundRooms, Running}
 unfoldable pub use Rattle.store.specs.Whole.{Whole}

@@ -66,7 +66,7 @@ module _ (w : Rooms) (s : List ℕ) where
 -- ---- a true chunk
 
 -- a chunk of the pack with the length that it has
-chunk-right : (L c n : ℕ) → c < count_of L → n ≡ size chunk_size L c → chunk_answer L c n ≡ 0
+pub chunk-right : (L c n : ℕ) → c < count_of L → n ≡ size chunk_size L c → chunk_answer L c n ≡ 0
 unfolding chunk_answer
 chunk-right L c n l e = rw (lt-leb (count_of L) c l, eq-eqb n (size chunk_size L c) e)
 

@@ -1,6 +1,7 @@
 -- What the code has on its way through a pack, in the rooms' words; no paper has this. Assumes nothing.
-use Rattle.std.specs.Prelude.{ℕ, zero, suc, ◌+◌, ◌*◌, ◌/◌, ◌^◌, ◌<◌, ◌≤◌, ◌≡◌, Bool, List}
+use Rattle.std.specs.Prelude.{ℕ, zero, suc, ◌+◌, ◌*◌, ◌/◌, ◌^◌, ◌<◌, ◌≤◌, ◌≡◌, Bool, List, Result, Ok, Err}
 use Rattle.hash.proofs.Promise.{sha256}
+use Rattle.base.specs.declared.Refusal.{Refusal}
 use Rattle.base.specs.Pick.{pick}
 use Rattle.base.specs.Out.{Out, out_of, unless_at}
 use Rattle.tree.specs.Bin.{bin}
@@ -8,7 +9,7 @@ use Rattle.tree.specs.Node.{above, sibling_from}
 use Rattle.tree.specs.Steps.{peak_bit}
 use Rattle.tree.specs.Tree.{climb}
 use Rattle.tree.specs.Verdicts.{number, named, reached}
-use Rattle.verdict.specs.Room.{hash_in}
+use Rattle.verdict.specs.Room.{filler, hash_in}
 use Rattle.verdict.specs.Integrity.{Integrity}
 use Rattle.verdict.specs.Rooms.{Rooms, state_of}
 use Rattle.verdict.specs.Steps.{room_verdict}
@@ -60,3 +61,13 @@ unfoldable pub store_if_fits : Rooms → List ℕ → ℕ → ℕ → List ℕ �
 store_if_fits w r N c d o =
     let v = room_verdict N r w.hashes w.trusted c d o in
     unless_at (number v) (named v) w (out_of 0 0 (store_spec w N c (reached N (state_of 0 w) c) d o))
+
+-- The root that building gives back: a refused one finds none and gives the filler.
+abbrev pub found_root : ℕ → List ℕ → List ℕ
+found_root zero r = r
+found_root (suc n) r = filler
+
+-- The root of what building gives, read from its result: the one that it found, or the filler.
+abbrev pub given_root : {A : Type 0} → (A → List ℕ) → Result A Refusal → List ℕ
+given_root root (Ok v) = root v
+given_root root (Err e) = filler

@@ -8,8 +8,8 @@ ghost use Rattle.verdict.specs.Integrity.{integrity_in};
 ghost use Rattle.verdict.specs.Rooms.{rooms_of, count_of};
 ghost use Rattle.store.specs.Building.{root_of};
 ghost use Rattle.store.specs.Calls.{start_spec, build_spec, take_spec};
-ghost use Rattle.store.specs.Steps.{store_if_fits};
-ghost use Rattle.base.specs.Out.{out_by};
+ghost use Rattle.store.specs.Steps.{found_root, given_root, store_if_fits};
+ghost use Rattle.base.specs.Out.{answer_of, out_by};
 
 use crate::answers::Sizes;
 use crate::content::Content;
@@ -42,7 +42,7 @@ pub fn start(
     Ok(())
 }
 
-// Builds a whole store of a length from its content, and gives its root.
+// Builds a whole store of a length from its content, and gives its root; a refusal stands for the filler.
 pub fn build(
     length: u32,
     chunks: &mut [u8],
@@ -56,6 +56,8 @@ pub fn build(
         ≡ build_spec (rooms_of chunks.old map.old hashes.old trusted.old)
         length content.now }
     ensures root { IfOk result (λ root. bytes_of root.words ≡ root_of content.now) }
+    ensures given { given_root (λ root. bytes_of root.words) result
+        ≡ found_root (answer_of result) (root_of content.now) }
 {
     Sizes::of(chunks, map, hashes, trusted).build_answer(length, content.len())?;
     let n = pack::chunk_count(length);

@@ -40,7 +40,7 @@ impl Nodes<'_> {
         ensures puts { Puts (λ put l. put_if put (peak_bit n h) l (bin h (above (suc h) n))
             (got_by (integrity_in integrity.entry) h (above (suc h) n))) self.old self.new }
     {
-        if let Some(b) = tree::peaks::peak(n, h) {
+        if let Some(b) = tree::peaks::sent_peak(n, h) {
             self.trust(b, integrity.get(b));
         }
     }
@@ -105,7 +105,8 @@ pub fn store(
         place.c t chunk.now (integrity_in integrity.entry) }
 {
     let i = place.c as usize;
-    if bits::test(map, i) {
+    let held = bits::test(map, i);
+    if held {
         return;
     }
     copy_in(chunks, CHUNK_SIZE as usize * i, chunk);

@@ -27,13 +27,13 @@ pub rooted_by : (f : List ℕ → Out Rooms) (root : List ℕ) (w : Rooms) {v : 
     → length root ≡ 8 → v ≡ hash_in root 0 → got ≡ f v → got ≡ rooted root w (f (hash_in root 0))
 rooted_by f root w e v g = rooted-done root w e (g ∙ ap f v)
 
--- a refusal leaves the root's slice as it was
-pub put_not : (e : Refusal) (root found : List ℕ) → root ≡ root_put (number e) root found
-put_not e root found = go (number e) (refusal_number e)
-  where
-    go : (n : ℕ) → n ≢ 0 → root ≡ root_put n root found
-    go zero d = absurd (d refl)
-    go (suc n) d = refl
+-- a number that refuses leaves the root's slice as it was
+pub put_not : (n : ℕ) (root found : List ℕ) → n ≢ 0 → root ≡ root_put n root found
+put_not zero root found d = absurd (d refl)
+put_not (suc n) root found d = refl
+
+pub put_refused : (e : Refusal) (root found : List ℕ) → root ≡ root_put (number e) root found
+put_refused e root found = put_not (number e) root found (refusal_number e)
 
 -- the node that taking a chunk names, by its number
 pub node_by : (w : Rooms) (r : List ℕ) (L c : ℕ) (d : List ℕ) (o : Integrity) {n b : ℕ} {x : Named} {after : Rooms}

@@ -3,7 +3,7 @@ use native.Mathlib.Omega.{arith}
 use Rattle.verdict.specs.Room.{put_hash}
 use Rattle.store.proofs.Promise.{rooms_of, root_of, build_nameless}
 use Rattle.base.proofs.OutLaws.{nameless}
-use Rattle.store_c.proofs.RootLaws.{rooted_not, rooted-done, put_not}
+use Rattle.store_c.proofs.RootLaws.{rooted_not, rooted-done, put_refused}
 use Rattle.store_c.proofs.store_build.Goals as goal
 
 pub returns-then-root-ne8 : goal.returns-then-root-ne8
@@ -18,5 +18,5 @@ returns-in-Ok c = (
 pub returns-in-Err : goal.returns-in-Err
 returns-in-Err c = let w = (rooms_of c.args.chunks.now c.args.map.now c.args.hashes.now c.args.trusted.now) in (
   rw c.number-in-Err.ensures (rooted-done c.args.root.now w (omega arith) (nameless (build_nameless w c.args.length c.args.content.now) c.in-Err.ensures.out)),
-  rw c.number-in-Err.ensures (put_not c.in-Err.refusal c.args.root.now (root_of c.args.content.now)),
+  rw c.number-in-Err.ensures (put_refused c.in-Err.refusal c.args.root.now (root_of c.args.content.now)),
 )

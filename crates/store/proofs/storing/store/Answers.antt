@@ -13,10 +13,10 @@ use Rattle.store.proofs.StoringLaws.{hung, stored_is, store-new, store-held}
 use Rattle.store.proofs.storing.store.Goals as goal
 use Rattle.store.proofs.storing.store.Goals.{then-not-place, else-not-place}
 
-pub returns-then-test-clause-rooms : goal.returns-then-test-clause-rooms
-returns-then-test-clause-rooms c =
+pub returns-then-held-clause-rooms : goal.returns-then-held-clause-rooms
+returns-then-held-clause-rooms c =
     store-held (rooms_of c.args.chunks.now c.args.map.now c.args.nodes.now.hashes.now c.args.nodes.now.trusted.now) c.args.place.n c.args.place.c c.args.t
-    c.args.chunk.now (integrity_in c.args.integrity) c.test.ensures c.if-test.true
+    c.args.chunk.now (integrity_in c.args.integrity) c.test-held.ensures c.if-held.true
 
 pub returns-clause-rooms : goal.returns-clause-rooms
 returns-clause-rooms c =
@@ -27,7 +27,7 @@ returns-clause-rooms c =
       | else-not-place w ↦ rw (not-false c.args.place.opened w.if-not-place.false, w.nodes-is) (record { hashes = refl; trusted = refl })
     ] in
     store-new (rooms_of c.args.chunks.now c.args.map.now c.args.nodes.now.hashes.now c.args.nodes.now.trusted.now) c.args.place.n c.args.place.c c.args.t
-    c.args.chunk.now o c.test.ensures c.if-test.false
+    c.args.chunk.now o c.test-held.ensures c.if-held.false
     (stored_is c.args.chunks.now c.args.map.now c.args.nodes.now _ c.args.place.n c.args.place.c c.args.t c.args.chunk.now o c.args.scratch.now c.copy_in.ensures c.set.ensures
     c.requires.opened_value c.requires.t_bound.2
     (puts_then (hung c.args.place.opened c.args.place.n c.args.place.c c.args.t c.args.scratch.now o) c.put_path.ensures.puts p (λ put l. refl)))
