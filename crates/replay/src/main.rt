@@ -21,7 +21,9 @@ use wire::limits::MAX_SIZE;
 const BLOCK_ROOM: usize = 65536;
 
 // Writes what is in the output room. What a write that fails comes to is let go.
-fn flush(output: &mut impl Write, out: &Buffer<'_>) {
+fn flush(output: &mut impl Write, out: &Buffer<'_>)
+    requires { out.now.used ≤ length out.now.room.now }
+{
     let _ = output.write_all(out.front());
 }
 

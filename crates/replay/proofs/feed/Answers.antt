@@ -1,9 +1,12 @@
 use Rattle.std.proofs.Common.{◌<◌, length, arith, rules}
-use Rattle.trace.proofs.Promise.{fed_none, fed-turn, read-bound, read_some, rest_shorter}
+use Rattle.trace.proofs.Promise.{fed_none, fed-turn, read-bound, read_some, used-within, rest_shorter}
 use Rattle.replay.proofs.feed.Goals as goal
 
 pub loop-rest-init : goal.loop-rest-init
 loop-rest-init g c = record { rooms = search rules; line = search rules; out = search rules; fed = fed_none _ _ _ }
+
+pub flush-requires : goal.flush-requires
+flush-requires g c = used-within _ _ _ _ c.answer_lines-p.ensures.lines
 
 pub slice_bounds-rest-count : goal.slice_bounds-rest-count
 slice_bounds-rest-count g c = read-bound _ _ _ _ c.answer_lines-p.ensures.lines
