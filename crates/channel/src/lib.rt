@@ -5,6 +5,7 @@
 pub mod asking; // ask: the held count, whole or not
 pub mod datagrams; // begin a datagram, add a message to it
 pub mod opening; // open a channel
+pub mod outcome; // what a call gives back
 pub mod rooms; // the eight lent rooms, and what refuses them: 12 and 11
 pub mod starting; // start a store, build a whole one
 pub mod taking; // take in a datagram

@@ -6,8 +6,8 @@ ghost use Rattle.base.specs.Out.{out_by, len_of};
 ghost use Rattle.channel.specs.World.{channels_of, world_of, out_of, cleared_row, table_rows};
 ghost use Rattle.channel.specs.Opening.{occupied, open_spec};
 
+use crate::outcome::Outcome;
 use crate::rooms::Sizes;
-use base::Refusal;
 use table::rows::{Phase, Row};
 use table::{answers, words};
 use tree::pack;
@@ -45,8 +45,9 @@ pub(crate) fn occupy(
     let format = words::format_in(state);
     clear_row(has, n, i);
     clear_row(wants, n, i);
+    let sent = replies::handshake(reply, format, row.peer, row.id, root);
     words::put_row(state, i, row);
-    replies::handshake(reply, format, row.peer, row.id, root)
+    sent
 }
 
 // Opens a channel under an ID: it calls, and the reply is our HANDSHAKE to channel 0, of this length.
@@ -61,7 +62,7 @@ pub fn open(
     wants: &mut [u32],
     reply: &mut [u8],
     id: u32,
-) -> Result<usize, Refusal>
+) -> Outcome
     ensures { out_by result (len_of result)
         (world_of state.new chunks.now map.now hashes.now
         trusted.now has.new wants.new reply.new)

@@ -7,6 +7,7 @@ ghost use Rattle.channel.specs.Take.{layout_in, take_spec};
 ghost use Rattle.channel.specs.Steps.{ruled_of, ruled_by};
 
 use crate::messages::Data;
+use crate::outcome::Taken;
 use crate::rooms::Rooms;
 use crate::{handshakes, messages};
 use base::Refusal;
@@ -103,7 +104,7 @@ fn rule(
 }
 
 // Takes in a datagram at a clock; `id` is for a channel that it may open. The reply's length.
-pub fn take(rooms: &mut Rooms<'_>, clock: u64, id: u32, datagram: &[u8]) -> Result<usize, Refusal>
+pub fn take(rooms: &mut Rooms<'_>, clock: u64, id: u32, datagram: &[u8]) -> Taken
     ensures kept { Kept rooms.old rooms.new }
     ensures out { out_by result (len_of result) (world_in rooms.new)
         ≡ take_spec (world_in rooms.old) clock id datagram.now }

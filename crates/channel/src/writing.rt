@@ -4,6 +4,7 @@ ghost use Rattle.base.specs.Out.{Answers, out_by, len_of};
 ghost use Rattle.channel.specs.World.{world_of};
 ghost use Rattle.channel.specs.Write.{held_answer, write_spec};
 
+use crate::outcome::Outcome;
 use crate::rooms::Sizes;
 use base::Refusal;
 use table::{answers, words};
@@ -37,7 +38,7 @@ pub fn write(
     id: u32,
     c: u32,
     clock: u64,
-) -> Result<usize, Refusal>
+) -> Outcome
     ensures { out_by result (len_of result)
         (world_of state.now chunks.now map.now hashes.now
         trusted.now has.now wants.now reply.new)
