@@ -23,14 +23,14 @@ pub record Masked (f : List ℕ → ℕ → List ℕ) (g : ℕ → ℕ → ℕ �
   pub one : (ws : List ℕ) (i : ℕ) → f ws i ≡ set ws (i / 32) (g (get_or ws (i / 32) 0) (i % 32) (suc (i % 32)))
   pub more : (x a b : ℕ) → a ≤ b → b < 32 → g (g x a b) b (suc b) ≡ g x a (suc b)
 
-setting_bits : Masked set_bit with_bits
+pub setting_bits : Masked set_bit with_bits
 unfolding set_bit
 setting_bits = record {
   one = λ ws i. rw with_bits-one;
   more = λ x a b h l. with_bits-one _ b ∙ with_bits-more x a b h;
 }
 
-clearing_bits : Masked clear_bit without_bits
+pub clearing_bits : Masked clear_bit without_bits
 unfolding clear_bit
 clearing_bits = record {
   one = λ ws i. rw without_bits-one;

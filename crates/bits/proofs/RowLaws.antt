@@ -20,11 +20,11 @@ pub test_is : (ws : List ℕ) (i : ℕ) → eqb (bit_and (get_or ws (i / 32) 0 /
 unfolding bit_at bit
 test_is ws i = rw (and_mask (get_or ws (i / 32) 0 / 2 ^ (i % 32)) 1)
 
-set_is : (ws : List ℕ) (i : ℕ) → set ws (i / 32) (bit_or (get_or ws (i / 32) 0) (1 * 2 ^ (i % 32) % 2 ^ 32)) ≡ set_bit ws i
+pub set_is : (ws : List ℕ) (i : ℕ) → set ws (i / 32) (bit_or (get_or ws (i / 32) 0) (1 * 2 ^ (i % 32) % 2 ^ 32)) ≡ set_bit ws i
 unfolding set_bit with_bit
 set_is ws i = rw (shl_one 32 (i % 32) (omega arith))
 
-clear_is : (ws : List ℕ) (i : ℕ) → set ws (i / 32) (bit_and (get_or ws (i / 32) 0) (2 ^ 32 - 1 - 1 * 2 ^ (i % 32) % 2 ^ 32)) ≡ clear_bit ws i
+pub clear_is : (ws : List ℕ) (i : ℕ) → set ws (i / 32) (bit_and (get_or ws (i / 32) 0) (2 ^ 32 - 1 - 1 * 2 ^ (i % 32) % 2 ^ 32)) ≡ clear_bit ws i
 unfolding clear_bit without_bit
 clear_is ws i = rw (shl_one 32 (i % 32) (omega arith))
 

@@ -110,7 +110,7 @@ other_does F N b m (Empty k) next h = absurd (omega (arith, h))
 
 module _ (N b : ℕ) (m : Peer) where
   -- A turn at a message has its effect and goes on behind it.
-  turn-read : {st : Step} {i : Message} {next : Cursor} {x : Peer} → st ≡ Read i next → x ≡ effect N b i m → turn_of x (Some next.at) ≡ turned N b m st
+  pub turn-read : {st : Step} {i : Message} {next : Cursor} {x : Peer} → st ≡ Read i next → x ≡ effect N b i m → turn_of x (Some next.at) ≡ turned N b m st
   unfolding turned
   turn-read e d = rw (e, d)
 

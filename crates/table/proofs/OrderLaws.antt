@@ -82,7 +82,7 @@ rows_free (suc k) w at f =
     rw (t, f at (omega arith) (omega arith), f (at + 1) (omega arith) (omega arith), f (at + 2) (omega arith) (omega arith), f (at + 3) (omega arith) (omega arith))
 
 -- a list of eight, written out
-eight_cells : (w : List ℕ) → length w ≡ 8 → map (λ k. get_or w k 0) (range_with_len 0 8) ≡ w
+pub eight_cells : (w : List ℕ) → length w ≡ 8 → map (λ k. get_or w k 0) (range_with_len 0 8) ≡ w
 eight_cells w h = sym (fill_by_all (λ k. get_or w k 0) w 8 0 h (λ k l. refl))
 
 -- a list written over a part of its length, and another behind it

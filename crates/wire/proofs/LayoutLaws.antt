@@ -27,14 +27,14 @@ use Rattle.format.specs.declared.Format.{Format}
 
 module _ (x : ℕ) where
   -- the first entry is the node
-  seen_here : (es : List ℕ) → 2 ≤ length es → get_or es 0 0 ≡ x → seen x es ≡ true
+  pub seen_here : (es : List ℕ) → 2 ≤ length es → get_or es 0 0 ≡ x → seen x es ≡ true
   unfolding seen
   seen_here [] h e = absurd (omega arith)
   seen_here (n ∷ []) h e = absurd (omega arith)
   seen_here (n ∷ p ∷ es) h e = rw (eq-eqb n x e)
 
   -- the first entry is another node
-  seen-on : (es : List ℕ) → 2 ≤ length es → (get_or es 0 0 ≡ x → ⊥) → seen x es ≡ seen x (drop 2 es)
+  pub seen-on : (es : List ℕ) → 2 ≤ length es → (get_or es 0 0 ≡ x → ⊥) → seen x es ≡ seen x (drop 2 es)
   unfolding seen
   seen-on [] h e = absurd (omega arith)
   seen-on (n ∷ []) h e = absurd (omega arith)
